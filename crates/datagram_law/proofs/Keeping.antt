@@ -1,18 +1,19 @@
 -- What befalls a socket leaves it with what was accepted.
-use Rattle.std.proofs.Common.{◌≡◌, ℕ, ◌+◌, ◌*◌, ◌<◌, min, Bool, true, false, not, nat_lt, cond, List, [], ◌∷◌, ◌++◌, length, take, drop, filter, Option, Some, refl, sym, ◌∙◌, ap, subst, arith, All, Contains}
+use Rattle.std.proofs.Common.{◌≡◌, ℕ, zero, suc, ◌+◌, ◌*◌, ◌<◌, min, Bool, true, false, not, nat_lt, cond, List, [], ◌∷◌, ◌++◌, length, take, drop, filter, Option, Some, refl, sym, ◌∙◌, ap, subst, arith, All, Contains}
 use Rattle.std.proofs.lemmas.Bool.Decides.{nat_tests}
 use Rattle.std.proofs.lemmas.List.{length-take, take_at}
-use Rattle.std.proofs.lemmas.List.Elements.{All-nil, All-push, All-tail, All-head, All-weaker, All-drop, All-filter, Contains-append_left, Contains-append_right}
+use Rattle.std.proofs.lemmas.List.Elements.{All-nil, All-push, All-tail, All-head, All-weaker, All-append, All-drop, All-filter, All-take, Contains-append_left, Contains-append_right}
 use Rattle.clock.specs.declared.moment.Moment.{Moment}
 use Rattle.ipv4.specs.declared.addr.Addr.{Addr}
 use Rattle.ipv4.specs.declared.addr.Endpoint.{Endpoint}
 use Rattle.ipv4.specs.Datagram.{Datagram}
 use Rattle.udp.specs.Fragments.{count_of}
 use Rattle.udp.specs.declared.cutting.Part.{Part}
-use Rattle.udp.specs.Waiting.{Waiting}
-use Rattle.udp_socket.specs.Emission.{after_part, due_octets, due_part, due_peer, fragment_of, octets_of}
+use Rattle.udp.specs.Waiting.{Waiting, brought_forward}
+use Rattle.udp_socket.specs.Emission.{after_part, brought, due_octets, due_part, due_peer, fragment_of, octets_of, peer_at}
 use Rattle.udp_socket.specs.SocketView.{Outgoing, SocketView, after_read, new_socket, read_answer, read_buffer, with_received, with_sent}
 use Rattle.udp_socket.specs.Waits.{after_giving_up, is_given_up, parts_left}
+use Rattle.udp_socket.proofs.Places.{due_brought}
 use Rattle.datagram_law.specs.Accepted.{Accepted, CameFrom}
 use Rattle.datagram_law.specs.Carried.{Carries, IsOfOne, accepted_of}
 use Rattle.datagram_law.specs.Sockets.{HasPartsLeft, IsSocketOf}
@@ -88,8 +89,22 @@ first_left (o ∷ outbox) = some_parts (8 + length o.octets)
 further : (len parts : ℕ) → nat_lt (1480 * (parts + 1)) len ≡ true → parts + 1 < count_of len
 further len parts more = let below : 1480 * (parts + 1) < len = grind (arith, nat_tests, more) in omega (arith, below)
 
-pub emits : (own other : List Accepted) (local : Endpoint) (s : SocketView) → IsSocketOf own other local s → IsSocketOf own other local (after_part s)
-emits own other local s h = of_outbox s.outbox refl
+-- whatever place it is of
+pub is_brought : (own other : List Accepted) (local : Endpoint) (s : SocketView) (place : ℕ) → IsSocketOf own other local s → IsSocketOf own other local (brought place s)
+is_brought own other local s zero h = h
+is_brought own other local s (suc place) h =
+    let at : ℕ = suc place in
+    record {
+      outgoing =
+          All-append (WasAccepted own local) (take 1 (drop at s.outbox)) (take at s.outbox ++ drop (suc at) s.outbox)
+          (All-take (WasAccepted own local) 1 (drop at s.outbox) (All-drop (WasAccepted own local) at s.outbox h.outgoing))
+          (All-append (WasAccepted own local) (take at s.outbox) (drop (suc at) s.outbox) (All-take (WasAccepted own local) at s.outbox h.outgoing) (All-drop (WasAccepted own local) (suc at) s.outbox h.outgoing));
+      parts = first_left (brought_forward at s.outbox);
+      incoming = h.incoming;
+    }
+
+first_emits : (own other : List Accepted) (local : Endpoint) (s : SocketView) → IsSocketOf own other local s → IsSocketOf own other local (after_part s)
+first_emits own other local s h = of_outbox s.outbox refl
   where
     shown : (outbox : List Outgoing) → s.outbox ≡ outbox → s ≡ record s { outbox = outbox }
     shown outbox e = ap (λ (os : List Outgoing). record s { outbox = os }) e
@@ -113,6 +128,9 @@ emits own other local s h = of_outbox s.outbox refl
         subst (IsSocketOf own other local) (sym (ap after_part (shown (o ∷ rest) e)))
         (by_more o rest (nat_lt (1480 * (s.parts + 1)) (8 + length o.octets)) e refl)
 
+pub emits : (own other : List Accepted) (local : Endpoint) (s : SocketView) (place : ℕ) → IsSocketOf own other local s → IsSocketOf own other local (after_part (brought place s))
+emits own other local s place h = first_emits own other local (brought place s) (is_brought own other local s place h)
+
 -- some of them gone
 parts_given_up : (lost : Addr → Bool) (now : Moment) (outbox : List Outgoing) (parts : ℕ) → HasPartsLeft outbox parts
     → HasPartsLeft (filter (λ o. not (is_given_up lost now o)) outbox) (parts_left lost now outbox parts)
@@ -135,9 +153,9 @@ gives_up own other local s lost now h = record {
 }
 
 -- what is due
-pub due_is_of_one : (own other : List Accepted) (local peer : Endpoint) (s : SocketView) (part : Part) (d : Datagram) → IsSocketOf own other local s
+first_is_of_one : (own other : List Accepted) (local peer : Endpoint) (s : SocketView) (part : Part) (d : Datagram) → IsSocketOf own other local s
     → due_peer s.outbox ≡ Some peer → due_part s ≡ Some part → Carries local.addr peer.addr part (due_octets local s) d → IsOfOne own d
-due_is_of_one own other local peer s part d h for is carries = of_outbox s.outbox s refl h for is carries
+first_is_of_one own other local peer s part d h for is carries = of_outbox s.outbox s refl h for is carries
   where
     of_outbox : (outbox : List Outgoing) (s : SocketView) → s.outbox ≡ outbox → IsSocketOf own other local s → due_peer s.outbox ≡ Some peer
         → due_part s ≡ Some part → Carries local.addr peer.addr part (due_octets local s) d → IsOfOne own d
@@ -155,6 +173,11 @@ due_is_of_one own other local peer s part d h for is carries = of_outbox s.outbo
         numbered own local o s.parts part d (All-head (WasAccepted own local) o rest here.outgoing) here.parts (cc)
         (subst (λ (x : Endpoint). Carries local.addr x.addr part (octets_of local o s.parts) d) peer_is
         (subst (λ (xs : List ℕ). Carries local.addr peer.addr part xs d) octets carries))
+
+pub due_is_of_one : (own other : List Accepted) (local peer : Endpoint) (s : SocketView) (place : ℕ) (part : Part) (d : Datagram) → IsSocketOf own other local s
+    → peer_at place s.outbox ≡ Some peer → due_part (brought place s) ≡ Some part → Carries local.addr peer.addr part (due_octets local (brought place s)) d → IsOfOne own d
+due_is_of_one own other local peer s place part d h for is carries =
+    first_is_of_one own other local peer (brought place s) part d (is_brought own other local s place h) (due_brought s place peer for) is carries
 
 -- what is read
 front_read : (octets buffer : List ℕ)

@@ -11,7 +11,7 @@ ghost use Rattle.udp.specs.Datagram.{UserDatagram, IsParsed};
 ghost use Rattle.udp.specs.Fragments.{count_of};
 ghost use Rattle.udp.specs.Reading.{datagram_or_fault};
 ghost use Rattle.udp.specs.declared.cutting.Part.{Part};
-ghost use Rattle.udp_socket.specs.Emission.{after_part, due_octets, due_part, due_peer, fragment_of, octets_of};
+ghost use Rattle.udp_socket.specs.Emission.{after_part, brought, due_octets, due_part, fragment_of, octets_of, peer_at};
 ghost use Rattle.udp_socket.specs.SocketView.{Outgoing, SocketView, after_read, new_socket, read_answer, read_buffer, with_received, with_sent};
 ghost use Rattle.udp_socket.specs.Waits.{after_giving_up};
 ghost use Rattle.reassembly.specs.declared.assembled.Assembled.TheVariants.{Whole};
@@ -113,15 +113,18 @@ pub fn wholes_are_read()
         → CameFrom accepted (record { addr = d.source; port = u.source }) (record { addr = d.destination; port = u.destination }) u.payload }
 {}
 
-/// A UDP socket keeps to what was accepted, whatever befalls it: datagrams are accepted behind those that wait, fragments go out, datagrams
-/// are given up, and of the other host's come and are read (RFC 768). What is accepted later, at either host, changes nothing of that.
+/// A UDP socket keeps to what was accepted, whatever befalls it: datagrams are accepted behind those that wait, fragments go out of any of
+/// them, datagrams are given up, and of the other host's come and are read (RFC 768). What is accepted later, at either host, changes nothing of that.
 pub fn sockets_keep_to_what_was_accepted()
     ensures new { (own other : List Accepted) (local : Endpoint) → IsSocketOf own other local new_socket }
     ensures sends { (own other : List Accepted) (local peer : Endpoint) (s : SocketView) (now : Moment) (identification : ℕ) (octets : List ℕ)
         → IsSocketOf own other local s
         → IsSocketOf (own ++ record { source = local; peer = peer; identification = identification; octets = octets } ∷ []) other local
         (with_sent s now peer identification octets) }
-    ensures emits { (own other : List Accepted) (local : Endpoint) (s : SocketView) → IsSocketOf own other local s → IsSocketOf own other local (after_part s) }
+    ensures brought { (own other : List Accepted) (local : Endpoint) (s : SocketView) (place : ℕ)
+        → IsSocketOf own other local s → IsSocketOf own other local (brought place s) }
+    ensures emits { (own other : List Accepted) (local : Endpoint) (s : SocketView) (place : ℕ)
+        → IsSocketOf own other local s → IsSocketOf own other local (after_part (brought place s)) }
     ensures gives_up { (own other : List Accepted) (local : Endpoint) (s : SocketView) (lost : Addr → Bool) (now : Moment)
         → IsSocketOf own other local s → IsSocketOf own other local (after_giving_up s lost now) }
     ensures receives { (own other : List Accepted) (local source : Endpoint) (s : SocketView) (octets : List ℕ)
@@ -131,11 +134,11 @@ pub fn sockets_keep_to_what_was_accepted()
         → IsSocketOf own other local s → IsSocketOf (own ++ more) (other ++ further) local s }
 {}
 
-/// So what is due at such a socket is of one that its host accepted.
+/// So what goes out of such a socket is of one that its host accepted, whatever place it is of.
 pub fn due_is_of_one()
-    ensures { (own other : List Accepted) (local peer : Endpoint) (s : SocketView) (part : Part) (d : Datagram)
-        → IsSocketOf own other local s → due_peer s.outbox ≡ Some peer → due_part s ≡ Some part
-        → Carries local.addr peer.addr part (due_octets local s) d
+    ensures { (own other : List Accepted) (local peer : Endpoint) (s : SocketView) (place : ℕ) (part : Part) (d : Datagram)
+        → IsSocketOf own other local s → peer_at place s.outbox ≡ Some peer → due_part (brought place s) ≡ Some part
+        → Carries local.addr peer.addr part (due_octets local (brought place s)) d
         → IsOfOne own d }
 {}
 

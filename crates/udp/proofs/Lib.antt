@@ -8,3 +8,4 @@ pub mod Storing
 pub mod Plain
 pub mod Turning
 pub mod Requeued
+pub mod Forward

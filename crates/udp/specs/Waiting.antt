@@ -1,5 +1,6 @@
 -- Datagrams that wait: a list, first in first out.
-use Rattle.std.specs.Prelude.{ℕ, ◌+◌, ◌<◌, ◌≤◌, List, [], ◌∷◌, length, sum_by, Option, Some, None}
+use Rattle.std.specs.Prelude.{ℕ, ◌+◌, ◌<◌, ◌≤◌, List, [], ◌∷◌, ◌++◌, length, sum_by, take, drop, Option, Some, None}
+use Rattle.std.specs.List.{remove}
 use Rattle.ipv4.specs.declared.addr.Endpoint.{Endpoint}
 use Rattle.udp.specs.declared.waiting.Entry.{Entry}
 use Rattle.udp.specs.declared.waiting.TheConstants.{COUNTED_BESIDE, MOST_WAITING}
@@ -45,3 +46,7 @@ first_entry (item ∷ items) = Some (entry_of item)
 abbrev pub first_octets : List Waiting → List ℕ
 first_octets [] = []
 first_octets (item ∷ items) = item.octets
+
+-- a list with the item in this place first, the others in order behind it
+abbrev pub brought_forward : {X : Type 0} → ℕ → List X → List X
+brought_forward place xs = take 1 (drop place xs) ++ remove xs place

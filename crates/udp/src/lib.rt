@@ -14,4 +14,7 @@ pub use cutting::{Fragment, FragmentIter, MOST_IN_FRAGMENT, Part, fragments};
 pub use fault::UdpFault;
 pub use head::{HEADER_LEN, Head};
 pub use view::UdpView;
-pub use waiting::{CAPACITY, COUNTED_BESIDE, Entry, MOST_WAITING, MakingFault, Queue, QueueFault};
+pub use waiting::{
+    CAPACITY, COUNTED_BESIDE, Entry, MOST_WAITING, MakingFault, Queue, QueueFault,
+    bring_range_forward,
+};

@@ -1,8 +1,9 @@
 //! Datagrams that wait, for their reader or for their turn to go out.
 
-ghost use Rattle.std.specs.Prelude.{◌≡◌, ℕ, ◌+◌, ◌≤◌, ◌↔◌, [], ◌∷◌, ◌++◌, length, take, drop, IsOk, IfOk, OnOk, OnErr, IfSome, IfNone, slice_range};
+ghost use Rattle.std.specs.Prelude.{◌≡◌, ℕ, ◌+◌, ◌<◌, ◌≤◌, ◌^◌, ◌↔◌, [], ◌∷◌, ◌++◌, length, take, drop, sum_by, IsOk, IfOk, OnOk, OnErr, IfSome, IfNone, slice_range};
+ghost use Rattle.std.specs.List.{remove_range};
 ghost use Rattle.inet_sum.specs.Sum.{sum_of};
-ghost use Rattle.udp.specs.Waiting.{IsWithin, HasRoom, first_entry, first_octets};
+ghost use Rattle.udp.specs.Waiting.{IsWithin, HasRoom, first_entry, first_octets, brought_forward};
 
 use circular_buffer::HeapCircularBuffer;
 use inet_sum::join;
@@ -149,6 +150,24 @@ impl Queue {
         self.entries.push_back(entry);
     }
 
+    /// Puts the datagram in this place, the first in place 0, before the others, which stay in order; nothing is done where it is the first. In
+    /// place: it takes no memory.
+    pub fn bring_forward(&mut self, place: usize)
+        requires { place < length self.old.items }
+        ensures { self.new ≡ record self.old { items = brought_forward place self.old.items } }
+    {
+        if place == 0 {
+            return;
+        }
+        // What all count is known to fit from here.
+        let _held = self.octets.len();
+        let before = octets_before(&self.entries, place);
+        if let Some(entry) = self.entries.get(place).copied() {
+            bring_range_forward(&mut self.octets, before, entry.len);
+            bring_range_forward(&mut self.entries, place, 1);
+        }
+    }
+
     /// How many octets a further datagram may have. None where none has room, not even an empty one.
     pub fn room(&self) -> Option<usize>
         ensures some { IfSome result (λ most. (len : ℕ) → HasRoom self.now len ↔ (len ≤ most)) }
@@ -160,6 +179,38 @@ impl Queue {
         let counted = COUNTED_BESIDE * self.entries.len() + self.octets.len();
         (self.octets.capacity() - counted).checked_sub(COUNTED_BESIDE)
     }
+}
+
+/// How many octets the datagrams of the entries before this place have.
+fn octets_before(entries: &HeapCircularBuffer<Entry>, place: usize) -> usize
+    requires place { place ≤ length entries.now.items }
+    requires fits { sum_by (λ entry. entry.len) entries.now.items < 2 ^ 64 }
+    ensures { result ≡ sum_by (λ entry. entry.len) (take place entries.now.items) }
+{
+    let mut octets = 0;
+    for index in 0..place {
+        if let Some(entry) = entries.get(index) {
+            octets += entry.len;
+        }
+    }
+    octets
+}
+
+/// Moves `count` items of a ring from the place `at` on before the others, which stay in order. In place: it takes no memory.
+pub fn bring_range_forward<T>(ring: &mut HeapCircularBuffer<T>, at: usize, count: usize)
+    requires { at + count ≤ length ring.old.items }
+    ensures { ring.new ≡ record ring.old { items = slice_range ring.old.items at (at + count) ++ remove_range ring.old.items at (at + count) } }
+{
+    turn_forward(ring.make_contiguous(), at, count);
+}
+
+/// Moves `count` items from the place `at` on before the others.
+fn turn_forward<T>(items: &mut [T], at: usize, count: usize)
+    requires { at + count ≤ length items.old }
+    ensures after { items.new ≡ slice_range items.old at (at + count) ++ remove_range items.old at (at + count) }
+    ensures len { length items.new ≡ length items.old }
+{
+    items[..at + count].rotate_right(count);
 }
 
 /// Moves the first `count` octets behind the others, which they have been among.

@@ -1,11 +1,26 @@
--- What was received and is not read waits, in order; what was sent and neither went out whole nor was given up waits, in order.
-use Rattle.std.proofs.Common.{◌≡◌, inl, inr, ◌+◌, Bool, true, false, List, [], ◌∷◌, ◌++◌, length, filter, cond, refl, sym, ◌∙◌, ap, subst}
+-- What was received and is not read waits, in order; and lists of which some are left out, in order.
+use Rattle.std.proofs.Common.{◌≡◌, ℕ, zero, suc, inl, inr, ◌+◌, Bool, true, false, List, [], ◌∷◌, ◌++◌, length, filter, cond, refl, sym, ◌∙◌, ap, subst}
 use Rattle.std.proofs.lemmas.List.{append_assoc, append-nil, take-append-drop}
 use Rattle.udp.specs.Waiting.{Waiting}
 use Rattle.udp_socket.specs.SocketView.{Outgoing, SocketView, has_room_in, has_room_out, with_received, with_sent}
-use Rattle.udp_socket.specs.Emission.{fragment_of}
-use Rattle.udp_socket.specs.Events.{Event, Sends, Receives, Reads, Emits, GivesUp, after_event, after_events, gathered, received, read, sent, finished, IsWithout}
-use Rattle.udp_socket.proofs.GivingUp.{stays}
+use Rattle.udp_socket.specs.Emission.{waits_at, brought, fragment_of, after_part}
+use Rattle.udp_socket.specs.Events.{Event, Sends, Receives, Reads, Emits, GivesUp, after_event, after_events, gathered, received, read, IsWithout}
+
+-- what goes out changes nothing of what came
+part_inbox : (s : SocketView) → (after_part s).inbox ≡ s.inbox
+part_inbox s = of_outbox s.outbox refl
+  where
+    of_outbox : (os : List Outgoing) → s.outbox ≡ os → (after_part s).inbox ≡ s.inbox
+    of_outbox [] is = rw is refl
+    of_outbox (o ∷ rest) is = rw is (by_test (fragment_of o s.parts).more_fragments)
+      where
+        by_test : (b : Bool) → (cond b (record s { outbox = o ∷ rest; parts = s.parts + 1 }) (record s { outbox = rest; parts = 0 })).inbox ≡ s.inbox
+        by_test true = refl
+        by_test false = refl
+
+brought_inbox : (place : ℕ) (s : SocketView) → (brought place s).inbox ≡ s.inbox
+brought_inbox zero s = refl
+brought_inbox (suc place) s = refl
 
 -- what is received stands behind what waits, and what is read stood first
 in_step : (s : SocketView) (e : Event) → read s e ++ (after_event s e).inbox ≡ s.inbox ++ received s e
@@ -20,15 +35,11 @@ in_step s (Receives from octets) = by_test (has_room_in s (length octets))
     by_test true = refl
     by_test false = sym (append-nil s.inbox)
 in_step s (Reads room) = take-append-drop 1 s.inbox ∙ sym (append-nil s.inbox)
-in_step s (Emits source) = of_outbox s.outbox refl
+in_step s (Emits place source) = by_test (waits_at place s)
   where
-    of_outbox : (os : List Outgoing) → s.outbox ≡ os → (after_event s (Emits source)).inbox ≡ s.inbox ++ []
-    of_outbox [] is = rw is (sym (append-nil s.inbox))
-    of_outbox (o ∷ rest) is = rw is (by_test (fragment_of o s.parts).more_fragments)
-      where
-        by_test : (b : Bool) → (cond b (record s { outbox = o ∷ rest; parts = s.parts + 1 }) (record s { outbox = rest; parts = 0 })).inbox ≡ s.inbox ++ []
-        by_test true = sym (append-nil s.inbox)
-        by_test false = sym (append-nil s.inbox)
+    by_test : (b : Bool) → (cond b (after_part (brought place s)) s).inbox ≡ s.inbox ++ []
+    by_test true = part_inbox (brought place s) ∙ brought_inbox place s ∙ sym (append-nil s.inbox)
+    by_test false = sym (append-nil s.inbox)
 in_step s (GivesUp lost now) = sym (append-nil s.inbox)
 
 -- over events
@@ -47,7 +58,7 @@ pub without_none : (xs : List Outgoing) → IsWithout xs xs
 without_none [] = tt
 without_none (x ∷ xs) = inl (refl, without_none xs)
 
-without_both : (xs ys zs : List Outgoing) → IsWithout xs ys → IsWithout ys zs → IsWithout xs zs
+pub without_both : (xs ys zs : List Outgoing) → IsWithout xs ys → IsWithout ys zs → IsWithout xs zs
 without_both [] ys zs p q = tt
 without_both (x ∷ xs) [] zs p q = absurd p
 without_both (x ∷ xs) (y ∷ ys) [] p q = absurd q
@@ -55,7 +66,7 @@ without_both (x ∷ xs) (y ∷ ys) (z ∷ zs) p (inr q) = inr (without_both (x �
 without_both (x ∷ xs) (y ∷ ys) (z ∷ zs) (inl p) (inl q) = inl (p.0 ∙ q.0, without_both xs ys zs p.1 q.1)
 without_both (x ∷ xs) (y ∷ ys) (z ∷ zs) (inr p) (inl q) = inr (without_both (x ∷ xs) ys zs p q.1)
 
-without_behind : (front xs ys : List Outgoing) → IsWithout xs ys → IsWithout (front ++ xs) (front ++ ys)
+pub without_behind : (front xs ys : List Outgoing) → IsWithout xs ys → IsWithout (front ++ xs) (front ++ ys)
 without_behind [] xs ys p = p
 without_behind (f ∷ front) xs ys p = inl (refl, without_behind front xs ys p)
 
@@ -64,13 +75,13 @@ fewer [] more = without_none more
 fewer (y ∷ ys) [] = tt
 fewer (y ∷ ys) (m ∷ more) = inr (fewer ys (m ∷ more))
 
-without_before : (xs ys more : List Outgoing) → IsWithout xs ys → IsWithout (xs ++ more) (ys ++ more)
+pub without_before : (xs ys more : List Outgoing) → IsWithout xs ys → IsWithout (xs ++ more) (ys ++ more)
 without_before [] ys more p = fewer ys more
 without_before (x ∷ xs) [] more p = absurd p
 without_before (x ∷ xs) (y ∷ ys) more (inl p) = inl (p.0, without_before xs ys more p.1)
 without_before (x ∷ xs) (y ∷ ys) more (inr p) = inr (without_before (x ∷ xs) ys more p)
 
-without_filtered : (keep : Outgoing → Bool) (xs : List Outgoing) → IsWithout (filter keep xs) xs
+pub without_filtered : (keep : Outgoing → Bool) (xs : List Outgoing) → IsWithout (filter keep xs) xs
 without_filtered keep [] = tt
 without_filtered keep (x ∷ xs) = by_test (keep x) (without_filtered keep xs) refl
   where
@@ -82,44 +93,5 @@ without_filtered keep (x ∷ xs) = by_test (keep x) (without_filtered keep xs) r
     by_test true p is = rw is (inl (refl, p))
     by_test false p is = rw is (skipped (filter keep xs) p)
 
-same_without : (xs ys : List Outgoing) → xs ≡ ys → IsWithout xs ys
+pub same_without : (xs ys : List Outgoing) → xs ≡ ys → IsWithout xs ys
 same_without xs ys same = subst (IsWithout xs) same (without_none xs)
-
--- what is sent stands behind what waits, what went out whole stood first, and some may be given up
-out_step : (s : SocketView) (e : Event) → IsWithout (finished s e ++ (after_event s e).outbox) (s.outbox ++ sent s e)
-out_step s (Sends now peer identification octets) = by_test (has_room_out s (length octets))
-  where
-    by_test : (b : Bool) → IsWithout (cond b (with_sent s now peer identification octets) s).outbox
-        (s.outbox ++ cond b (record { peer = peer; identification = identification; since = now; octets = octets } ∷ []) [])
-    by_test true = without_none _
-    by_test false = same_without _ _ (sym (append-nil s.outbox))
-out_step s (Receives from octets) = by_test (has_room_in s (length octets))
-  where
-    by_test : (b : Bool) → IsWithout (cond b (with_received s from octets) s).outbox (s.outbox ++ [])
-    by_test true = same_without _ _ (sym (append-nil s.outbox))
-    by_test false = same_without _ _ (sym (append-nil s.outbox))
-out_step s (Reads room) = same_without _ _ (sym (append-nil s.outbox))
-out_step s (Emits source) = of_outbox s.outbox refl
-  where
-    of_outbox : (os : List Outgoing) → s.outbox ≡ os → IsWithout (finished s (Emits source) ++ (after_event s (Emits source)).outbox) (s.outbox ++ [])
-    of_outbox [] is = rw is tt
-    of_outbox (o ∷ rest) is = rw is (by_test (fragment_of o s.parts).more_fragments)
-      where
-        by_test : (b : Bool) → IsWithout (cond b [] (o ∷ []) ++ (cond b (record s { outbox = o ∷ rest; parts = s.parts + 1 }) (record s { outbox = rest; parts = 0 })).outbox) (o ∷ rest ++ [])
-        by_test true = same_without _ _ (sym (append-nil (o ∷ rest)))
-        by_test false = same_without _ _ (sym (append-nil (o ∷ rest)))
-out_step s (GivesUp lost now) = subst (IsWithout (filter (stays lost now) s.outbox)) (sym (append-nil s.outbox)) (without_filtered (stays lost now) s.outbox)
-
--- over events
-pub sent_in_order : (s : SocketView) (events : List Event) → IsWithout (gathered finished s events ++ (after_events s events).outbox) (s.outbox ++ gathered sent s events)
-sent_in_order s [] = same_without _ _ (sym (append-nil s.outbox))
-sent_in_order s (e ∷ events) =
-    let next : SocketView = after_event s e in
-    let more : List Outgoing = gathered sent next events in
-    let done : List Outgoing = gathered finished next events ++ (after_events next events).outbox in
-    subst (λ (os : List Outgoing). IsWithout os (s.outbox ++ (sent s e ++ more))) (sym (append_assoc (finished s e) (gathered finished next events) (after_events next events).outbox))
-    (without_both (finished s e ++ done) (finished s e ++ (next.outbox ++ more)) (s.outbox ++ (sent s e ++ more))
-    (without_behind (finished s e) done (next.outbox ++ more) (sent_in_order next events))
-    (subst (λ (os : List Outgoing). IsWithout os (s.outbox ++ (sent s e ++ more))) (append_assoc (finished s e) next.outbox more)
-    (subst (IsWithout ((finished s e ++ next.outbox) ++ more)) (append_assoc s.outbox (sent s e) more)
-    (without_before (finished s e ++ next.outbox) (s.outbox ++ sent s e) more (out_step s e)))))

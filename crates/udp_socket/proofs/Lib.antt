@@ -6,3 +6,7 @@ pub mod GivingUp
 pub mod Histories
 pub mod Runs
 pub mod ReadOctets
+pub mod Places
+pub mod FirstThat
+pub mod Sending
+pub mod InTime

@@ -12,11 +12,11 @@ use Rattle.udp.specs.Datagram.{UserDatagram, spelling}
 use Rattle.udp.specs.Fragments.{fragment, fragments_of, count_of, part_of}
 use Rattle.udp.proofs.Covering.{count_from, cover}
 use Rattle.udp.proofs.Carrying.{numbered}
-use Rattle.udp.specs.Waiting.{Waiting}
+use Rattle.udp.specs.Waiting.{Waiting, brought_forward}
 use Rattle.udp_socket.specs.SocketView.{Outgoing, SocketView, has_room_in, has_room_out, with_received, with_sent}
-use Rattle.udp_socket.specs.Emission.{datagram_of, fragment_of}
+use Rattle.udp_socket.specs.Emission.{datagram_of, waits_at, brought, fragment_of, after_part}
 use Rattle.udp_socket.specs.Waits.{is_given_up, parts_left}
-use Rattle.udp_socket.specs.Events.{Event, Sends, Receives, Reads, Emits, GivesUp, after_event, after_events, gathered, Piece, piece, pieces, Run, pieces_of, whole, begun, given_up, left, gone_out, IsFrom}
+use Rattle.udp_socket.specs.Events.{Event, Sends, Receives, Reads, Emits, GivesUp, after_event, after_events, gathered, last_due, Piece, piece, piece_due, pieces, Run, pieces_of, whole, begun, given_up, left, gone_out, IsFrom}
 use Rattle.udp_socket.proofs.GivingUp.{stays}
 
 -- fewer fragments of the first have gone out than it has
@@ -32,6 +32,25 @@ one_behind : (os : List Outgoing) (o : Outgoing) (parts : ℕ) → HasPartsLeft 
 one_behind [] o parts are = omega (arith, are)
 one_behind (x ∷ os) o parts are = are
 
+part_left : (inbox : List Waiting) (os : List Outgoing) (parts : ℕ) → HasPartsLeft os parts
+    → let t : SocketView = after_part (record { inbox = inbox; outbox = os; parts = parts }) in HasPartsLeft t.outbox t.parts
+part_left inbox [] parts are = are
+part_left inbox (o ∷ rest) parts are = by_test (fragment_of o parts).more_fragments refl
+  where
+    more : SocketView
+    more = record { inbox = inbox; outbox = o ∷ rest; parts = parts + 1 }
+
+    last : SocketView
+    last = record { inbox = inbox; outbox = rest; parts = 0 }
+
+    by_test : (b : Bool) → (fragment_of o parts).more_fragments ≡ b → HasPartsLeft (cond b more last).outbox (cond b more last).parts
+    by_test true is = let below : 1480 * (parts + 1) < 8 + length o.octets = grind (arith, nat_tests, is) in omega (arith, below)
+    by_test false is = none_out rest
+
+brought_left : (place : ℕ) (s : SocketView) → HasPartsLeft s.outbox s.parts → HasPartsLeft (brought place s).outbox (brought place s).parts
+brought_left zero s are = are
+brought_left (suc place) s are = none_out (brought_forward (suc place) s.outbox)
+
 parts_kept : (s : SocketView) (e : Event) → HasPartsLeft s.outbox s.parts → HasPartsLeft (after_event s e).outbox (after_event s e).parts
 parts_kept s (Sends now peer identification octets) are = by_test (has_room_out s (length octets))
   where
@@ -44,22 +63,14 @@ parts_kept s (Receives from octets) are = by_test (has_room_in s (length octets)
     by_test true = are
     by_test false = are
 parts_kept s (Reads room) are = are
-parts_kept s (Emits source) are = of_outbox s.inbox s.outbox s.parts are
+parts_kept s (Emits place source) are = by_test (waits_at place s)
   where
-    of_outbox : (inbox : List Waiting) (os : List Outgoing) (parts : ℕ) → HasPartsLeft os parts
-        → HasPartsLeft (after_event (record { inbox = inbox; outbox = os; parts = parts }) (Emits source)).outbox (after_event (record { inbox = inbox; outbox = os; parts = parts }) (Emits source)).parts
-    of_outbox inbox [] parts are = are
-    of_outbox inbox (o ∷ rest) parts are = by_test (fragment_of o parts).more_fragments refl
-      where
-        more : SocketView
-        more = record { inbox = inbox; outbox = o ∷ rest; parts = parts + 1 }
+    t : SocketView
+    t = brought place s
 
-        last : SocketView
-        last = record { inbox = inbox; outbox = rest; parts = 0 }
-
-        by_test : (b : Bool) → (fragment_of o parts).more_fragments ≡ b → HasPartsLeft (cond b more last).outbox (cond b more last).parts
-        by_test true is = let below : 1480 * (parts + 1) < 8 + length o.octets = grind (arith, nat_tests, is) in omega (arith, below)
-        by_test false is = none_out rest
+    by_test : (b : Bool) → HasPartsLeft (cond b (after_part t) s).outbox (cond b (after_part t) s).parts
+    by_test true = part_left t.inbox t.outbox t.parts (brought_left place s are)
+    by_test false = are
 parts_kept s (GivesUp lost now) are = of_outbox s.outbox s.parts are
   where
     of_outbox : (os : List Outgoing) (parts : ℕ) → HasPartsLeft os parts → HasPartsLeft (filter (stays lost now) os) (parts_left lost now os parts)
@@ -122,11 +133,11 @@ module _ (source : Endpoint) where
   step_sends [] o parts are = sym (ap (λ (n : ℕ). runs (first_run (o ∷ []) n)) are)
   step_sends (x ∷ os) o parts are = append-nil (runs (first_run (x ∷ os) parts))
 
-  step_emits : (inbox : List Waiting) (os : List Outgoing) (parts : ℕ) → HasPartsLeft os parts
+  step_first : (inbox : List Waiting) (os : List Outgoing) (parts : ℕ) → HasPartsLeft os parts
       → let s : SocketView = record { inbox = inbox; outbox = os; parts = parts } in
-      runs (begun s) ++ gone_out s (Emits source) ≡ runs (left s (Emits source)) ++ runs (begun (after_event s (Emits source)))
-  step_emits inbox [] parts are = refl
-  step_emits inbox (o ∷ rest) parts are = by_test (fragment_of o parts).more_fragments refl
+      runs (begun s) ++ piece_due source s ≡ runs (map whole (last_due s)) ++ runs (begun (after_part s))
+  step_first inbox [] parts are = refl
+  step_first inbox (o ∷ rest) parts are = by_test (fragment_of o parts).more_fragments refl
     where
       more : SocketView
       more = record { inbox = inbox; outbox = o ∷ rest; parts = parts + 1 }
@@ -142,6 +153,28 @@ module _ (source : Endpoint) where
           let all : List Piece = pieces_of source (whole o) in
           ap (λ (ps : List Piece). ps ++ next o parts) (append-nil (gone o parts)) ∙ sym (the_last o parts are is)
           ∙ sym (ap (λ (ps : List Piece). (all ++ []) ++ ps) (none_begun rest) ∙ append-nil (all ++ []) ∙ append-nil all)
+
+  -- what goes out of a place carries on the first, or begins another
+  step_emits : (place : ℕ) (s : SocketView) → HasPartsLeft s.outbox s.parts
+      → runs (begun s) ++ gone_out s (Emits place source) ≡ runs (left s (Emits place source)) ++ runs (begun (after_event s (Emits place source)))
+  step_emits zero s are = by_test (waits_at 0 s)
+    where
+      by_test : (b : Bool) → runs (begun s) ++ cond b (piece_due source s) [] ≡ runs (map whole (cond b (last_due s) [])) ++ runs (begun (cond b (after_part s) s))
+      by_test true = step_first s.inbox s.outbox s.parts are
+      by_test false = append-nil (runs (begun s))
+  step_emits (suc place) s are = by_test (waits_at (suc place) s)
+    where
+      t : SocketView
+      t = brought (suc place) s
+
+      by_test : (b : Bool) → runs (begun s) ++ cond b (piece_due source t) []
+          ≡ runs (cond b (begun s) [] ++ map whole (cond b (last_due t) [])) ++ runs (begun (cond b (after_part t) s))
+      by_test true =
+          ap (λ (ps : List Piece). runs (begun s) ++ ps)
+          (ap (λ (ps : List Piece). ps ++ piece_due source t) (sym (none_begun t.outbox)) ∙ step_first t.inbox t.outbox 0 (none_out t.outbox))
+          ∙ sym (append_assoc (runs (begun s)) (runs (map whole (last_due t))) (runs (begun (after_part t))))
+          ∙ ap (λ (ps : List Piece). ps ++ runs (begun (after_part t))) (sym (flat_map-append (pieces_of source) (begun s) (map whole (last_due t))))
+      by_test false = append-nil (runs (begun s))
 
   step_gives_up : (lost : Addr → Bool) (now : Moment) (os : List Outgoing) (parts : ℕ) → HasPartsLeft os parts
       → runs (first_run os parts) ++ [] ≡ runs (given_up lost now os parts) ++ runs (first_run (filter (stays lost now) os) (parts_left lost now os parts))
@@ -170,9 +203,9 @@ module _ (source : Endpoint) where
       by_test true = append-nil (runs (begun s))
       by_test false = append-nil (runs (begun s))
   step s (Reads room) are from = append-nil (runs (begun s))
-  step s (Emits other) are from =
-      subst (λ (x : Endpoint). runs (begun s) ++ gone_out s (Emits x) ≡ runs (left s (Emits x)) ++ runs (begun (after_event s (Emits x)))) (sym from)
-      (step_emits s.inbox s.outbox s.parts are)
+  step s (Emits place other) are from =
+      subst (λ (x : Endpoint). runs (begun s) ++ gone_out s (Emits place x) ≡ runs (left s (Emits place x)) ++ runs (begun (after_event s (Emits place x)))) (sym from)
+      (step_emits place s are)
   step s (GivesUp lost now) are from = step_gives_up lost now s.outbox s.parts are
 
   -- over events

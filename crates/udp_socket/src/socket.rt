@@ -13,6 +13,7 @@ use std::alloc::{AllocError, Global};
 use std::marker::Model;
 use udp::{
     CAPACITY, Fragment, HEADER_LEN, Head, MOST_IN_FRAGMENT, MOST_WAITING, Part, Queue, QueueFault,
+    bring_range_forward,
 };
 
 /// The octets of data of a datagram at most: the payload of IPv4 has room for no more behind a header of 8 octets, where the header of
@@ -43,7 +44,7 @@ impl Model for UdpSocket {
 impl UdpSocket {
     ghost use Rattle.ipv4.specs.Datagram.{HasPlace};
     ghost use Rattle.udp_socket.specs.SocketView.{has_room_in, has_room_out, new_socket, with_received, with_sent, read_answer, read_buffer, after_read};
-    ghost use Rattle.udp_socket.specs.Emission.{due_peer, due_part, due_octets, has_more, after_part};
+    ghost use Rattle.udp_socket.specs.Emission.{peer_at, due_peer, brought, due_part, due_octets, has_more, after_part};
     ghost use Rattle.udp_socket.specs.Stored.{first_if};
     ghost use Rattle.udp_socket.specs.Waits.{is_given_up, after_giving_up, deadline};
 
@@ -108,6 +109,22 @@ impl UdpSocket {
         Some((len, first.endpoint))
     }
 
+    /// How many datagrams wait to go out.
+    pub fn waiting(&self) -> usize
+        ensures { result ≡ length self.now.outbox }
+    {
+        self.tags.len()
+    }
+
+    /// The endpoint that the outgoing datagram in this place is for: the first has place 0, and the others stand behind it in order. None
+    /// where fewer are to go out.
+    pub fn peer_at(&self, place: usize) -> Option<Endpoint>
+        ensures { result ≡ peer_at place self.now.outbox }
+    {
+        let tag = self.tags.get(place).copied()?;
+        Some(tag.peer)
+    }
+
     /// The endpoint that the first outgoing datagram is for. None where none is to go out.
     pub fn due_peer(&self) -> Option<Endpoint>
         ensures { result ≡ due_peer self.now.outbox }
@@ -116,10 +133,37 @@ impl UdpSocket {
         Some(tag.peer)
     }
 
-    /// Writes the fragment that is due, as a payload of IPv4 from this endpoint, from `out[0]` on, and answers what its header has to
-    /// tell. It is the next one of the first outgoing datagram, which is gone after its last. What stands behind it in `out` stays.
-    /// The checksum is that of the whole datagram (RFC 768, RFC 791 section 3.2).
-    pub fn emit(&mut self, source: Endpoint, out: &mut [u8]) -> Part
+    /// Writes the next fragment of the outgoing datagram in this place, as a payload of IPv4 from this endpoint, from `out[0]` on, and answers
+    /// what its header has to tell. The datagram stands before the others then, which stay in order, and is gone after its last fragment; one
+    /// that it overtakes begins anew. What stands behind the fragment in `out` stays. The checksum is that of the whole datagram (RFC 768,
+    /// RFC 791 section 3.2). It takes no memory.
+    pub fn emit(&mut self, place: usize, source: Endpoint, out: &mut [u8]) -> Part
+        requires due { place < length self.old.outbox }
+        requires room { MOST_IN_FRAGMENT ≤ length out.old }
+        ensures part { Some result ≡ due_part (brought place self.old) }
+        ensures octets { out.new ≡ due_octets source (brought place self.old) ++ drop result.fragment.len out.old }
+        ensures after { self.new ≡ after_part (brought place self.old) }
+        ensures place { HasPlace result.fragment.more_fragments result.fragment.offset result.fragment.len }
+    {
+        self.bring_forward(place);
+        self.emit_first(source, out)
+    }
+
+    /// Puts the outgoing datagram in this place before the others. Of one that it overtakes no fragment counts as gone out any more.
+    fn bring_forward(&mut self, place: usize)
+        requires { place < length self.old.outbox }
+        ensures { self.new ≡ brought place self.old }
+    {
+        if place == 0 {
+            return;
+        }
+        self.datagrams.bring_forward(place);
+        bring_range_forward(&mut self.tags, place, 1);
+        self.parts = 0;
+    }
+
+    /// Writes the next fragment of the first outgoing datagram.
+    fn emit_first(&mut self, source: Endpoint, out: &mut [u8]) -> Part
         requires due { 0 < length self.old.outbox }
         requires room { MOST_IN_FRAGMENT ≤ length out.old }
         ensures part { Some result ≡ due_part self.old }

@@ -1,4 +1,4 @@
-use Rattle.datagram_law.proofs.Keeping.{new, sends, emits, gives_up, receives, reads, more_accepted}
+use Rattle.datagram_law.proofs.Keeping.{new, sends, is_brought, emits, gives_up, receives, reads, more_accepted}
 use Rattle.datagram_law.proofs.laws.sockets_keep_to_what_was_accepted.Goals as goal
 
 pub returns-clause-new : goal.returns-clause-new
@@ -6,6 +6,9 @@ returns-clause-new c = new
 
 pub returns-clause-sends : goal.returns-clause-sends
 returns-clause-sends c = sends
+
+pub returns-clause-brought : goal.returns-clause-brought
+returns-clause-brought c = is_brought
 
 pub returns-clause-emits : goal.returns-clause-emits
 returns-clause-emits c = emits

@@ -2,8 +2,8 @@ use Rattle.std.proofs.Common.{ℕ, List, ◌++◌, drop, sym, ◌∙◌, ap}
 use Rattle.udp_socket.specs.Stored.{outgoing_of}
 use Rattle.udp_socket.proofs.Beside.{no_tag, no_first}
 use Rattle.udp_socket.proofs.Due.{shows, as_fragment, more_told, part_told, octets_told, first_placed, first_of, written_first, written_later}
-use Rattle.udp_socket.proofs.socket.UdpSocket.emit.Goals as goal
-use Rattle.udp_socket.proofs.socket.UdpSocket.emit.Goals.{then-self-eq0, else-self-eq0}
+use Rattle.udp_socket.proofs.socket.UdpSocket.emit_first.Goals as goal
+use Rattle.udp_socket.proofs.socket.UdpSocket.emit_first.Goals.{then-self-eq0, else-self-eq0}
 
 pub unreachable-requires : goal.unreachable-requires
 unreachable-requires c =
