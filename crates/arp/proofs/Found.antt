@@ -1,6 +1,7 @@
 -- What was heard is found, and what was asked for isn't asked for again.
-use Rattle.std.proofs.Common.{◌≡◌, ℕ, zero, suc, Bool, true, false, not, ◌&&◌, ◌||◌, nat_lt, List, [], ◌∷◌, ◌++◌, length, filter, find, cond, Some, None, option_map, refl, ◌∙◌, ap}
+use Rattle.std.proofs.Common.{◌≡◌, ℕ, zero, suc, Bool, true, false, not, ◌&&◌, ◌||◌, nat_lt, nat_le, List, [], ◌∷◌, ◌++◌, length, filter, find, cond, Some, None, option_map, refl, ◌∙◌, ap, arith}
 use Rattle.std.specs.List.{list_any, remove}
+use Rattle.std.proofs.lemmas.Bool.Decides.{nat_tests}
 use Rattle.ipv4.specs.declared.addr.Addr.{Addr}
 use Rattle.arp.specs.declared.entry.Asked.{Asked}
 use Rattle.arp.specs.declared.entry.Neighbour.{Neighbour}
@@ -98,10 +99,28 @@ refused_where_noted addr notes e = ap (λ b. nat_lt (length notes) 64 && not b) 
     never true = refl
     never false = refl
 
-pub asked_once : (now later : Moment) (addr : Addr) (asked : List Asked) → may_ask now addr asked ≡ true → is_live 1000 later now ≡ true
+-- a note is live at its own moment, and for a second
+pub live_at_once : (now : Moment) (addr : Addr) → is_live_note now (record { addr = addr; at = now }) ≡ true
+live_at_once now addr = grind (arith, nat_tests)
+
+pub live_a_second : (now later : Moment) (addr : Addr) → is_live 1000 later now ≡ true → is_live_note later (record { addr = addr; at = now }) ≡ true
+live_a_second now later addr live = either (nat_le later.0 now.0)
+  where
+    either : (b : Bool) → (b || is_live 1000 later now) ≡ true
+    either true = refl
+    either false = live
+
+asked_noted : (now later : Moment) (addr : Addr) (asked : List Asked) → may_ask now addr asked ≡ true → is_live_note later (record { addr = addr; at = now }) ≡ true
     → may_ask later addr (asked_after now addr asked) ≡ false
 unfolding may_ask asked_after
-asked_once now later addr asked may live =
+asked_noted now later addr asked may live =
     let note : Asked = record { addr = addr; at = now } in
     ap (λ b. has_place_for addr (filter (is_live_note later) (cond b (live_notes now asked ++ note ∷ []) (live_notes now asked)))) may
     ∙ refused_where_noted addr (filter (is_live_note later) (live_notes now asked ++ note ∷ [])) (still_noted later note live (live_notes now asked))
+
+pub asked_once : (now later : Moment) (addr : Addr) (asked : List Asked) → may_ask now addr asked ≡ true → is_live 1000 later now ≡ true
+    → may_ask later addr (asked_after now addr asked) ≡ false
+asked_once now later addr asked may live = asked_noted now later addr asked may (live_a_second now later addr live)
+
+pub asked_once_now : (now : Moment) (addr : Addr) (asked : List Asked) → may_ask now addr asked ≡ true → may_ask now addr (asked_after now addr asked) ≡ false
+asked_once_now now addr asked may = asked_noted now now addr asked may (live_at_once now addr)

@@ -1,19 +1,20 @@
 -- What stays as it was: other addresses, what is live, and notes.
-use Rattle.std.proofs.Common.{◌≡◌, ◌≢◌, ℕ, suc, ◌<◌, ◌≤◌, Bool, true, false, not, ◌&&◌, ◌||◌, nat_eq, nat_lt, List, [], ◌∷◌, ◌++◌, length, filter, fold, find, cond, All, Some, None, option_map, refl, sym, ◌∙◌, ap, arith}
+use Rattle.std.proofs.Common.{◌≡◌, ◌≢◌, ℕ, suc, ◌+◌, ◌<◌, ◌≤◌, Bool, true, false, not, ◌&&◌, ◌||◌, nat_eq, nat_lt, List, [], ◌∷◌, ◌++◌, length, filter, fold, find, cond, All, Some, None, option_map, refl, sym, ◌∙◌, ap, arith}
 use Rattle.std.specs.Cmp.Lexicographic.{pointwise}
 use Rattle.std.specs.List.{list_any, remove}
 use Rattle.std.proofs.lemmas.Bool.Decides.{nat_tests}
-use Rattle.std.proofs.lemmas.List.Elements.{filter_passes}
+use Rattle.std.proofs.lemmas.List.{length-append}
+use Rattle.std.proofs.lemmas.List.Elements.{filter_passes, filter-append}
 use Rattle.ipv4.specs.declared.addr.Addr.{Addr}
 use Rattle.arp.specs.declared.entry.Asked.{Asked}
 use Rattle.arp.specs.declared.entry.Neighbour.{Neighbour}
 use Rattle.clock.specs.declared.moment.Moment.{Moment}
 use Rattle.arp.specs.declared.packet.ArpPacket.{ArpPacket}
-use Rattle.arp.specs.Cache.{Cache, is_live, is_pair_of, is_note_of, is_live_pair, is_live_note, updated, longest_unheard, added, pairs_after, sender_of, after_hear, after_age, look, live_notes, has_place_for, may_ask, asked_after, after_ask}
+use Rattle.arp.specs.Cache.{Cache, is_live, is_pair_of, is_note_of, is_live_pair, is_live_note, updated, longest_unheard, added, pairs_after, sender_of, after_hear, after_age, look, live_notes, has_place_for, may_ask, asked_after, after_ask, requests_left}
 use Rattle.ipv4.specs.Addresses.{same_addr}
 use Rattle.arp.specs.Events.{Event, moment_of, after_event}
 use Rattle.arp.specs.Events.Event.{Hear, Ask, Age}
-use Rattle.arp.proofs.Found.{is_found, refused_where_noted}
+use Rattle.arp.proofs.Found.{is_found, refused_where_noted, live_at_once, live_a_second}
 use Rattle.arp.proofs.History.{same_octets, same_addr-refl, length-filter-le}
 
 -- Addresses that are not the same.
@@ -100,6 +101,9 @@ both_right false b e = absurd cc
 pub live_before : (milliseconds : ℕ) (now later t : Moment) → now.0 ≤ later.0 → is_live milliseconds later t ≡ true → is_live milliseconds now t ≡ true
 live_before milliseconds now later t order live = grind (arith, nat_tests, order, live)
 
+note_before : (now later : Moment) (note : Asked) → now.0 ≤ later.0 → is_live_note later note ≡ true → is_live_note now note ≡ true
+note_before now later note order live = grind (arith, nat_tests, order, live)
+
 pub aging_hides_nothing : (cache : Cache) (now later : Moment) (addr : Addr) → now.0 ≤ later.0
     → look later addr (after_age now cache) ≡ look later addr cache
 aging_hides_nothing cache now later addr order =
@@ -160,7 +164,7 @@ unfolding asked_after
 held_asked now later addr asks notes order held = either (has_place_for asks (live_notes now notes))
   where
     live : list_any (is_held later addr) (live_notes now notes) ≡ true
-    live = any_filter (is_held later addr) (is_live_note now) (λ note both. live_before 1000 now later note.at order (both_right (is_note_of addr note) (is_live_note later note) both)) notes held
+    live = any_filter (is_held later addr) (is_live_note now) (λ note both. note_before now later note order (both_right (is_note_of addr note) (is_live_note later note) both)) notes held
 
     either : (b : Bool) → list_any (is_held later addr) (cond b (live_notes now notes ++ record { addr = asks; at = now } ∷ []) (live_notes now notes)) ≡ true
     either true = any_front (is_held later addr) (live_notes now notes) (record { addr = asks; at = now } ∷ []) live
@@ -178,7 +182,7 @@ held_events later addr cache [] order held = held
 held_events later addr cache (event ∷ between) order held =
     held_events later addr (after_event cache event) between (λ i d within. order (suc i) d (omega (arith, within))) (held_event later addr cache event (order 0 event (omega arith)) held)
 
-held_first : (now later : Moment) (addr : Addr) (notes : List Asked) → may_ask now addr notes ≡ true → is_live 1000 later now ≡ true
+held_first : (now later : Moment) (addr : Addr) (notes : List Asked) → may_ask now addr notes ≡ true → is_live_note later (record { addr = addr; at = now }) ≡ true
     → list_any (is_held later addr) (asked_after now addr notes) ≡ true
 unfolding may_ask asked_after
 held_first now later addr notes may live =
@@ -191,13 +195,25 @@ held_refused : (later : Moment) (addr : Addr) (notes : List Asked) → list_any 
 unfolding may_ask
 held_refused later addr notes held = refused_where_noted addr (live_notes later notes) (any_both (is_note_of addr) (is_live_note later) notes held)
 
-pub noted_while_live : (cache : Cache) (now later : Moment) (addr : Addr) (between : List Event) → may_ask now addr cache.asked ≡ true → is_live 1000 later now ≡ true
+noted_till : (cache : Cache) (now later : Moment) (addr : Addr) (between : List Event) → may_ask now addr cache.asked ≡ true → is_live_note later (record { addr = addr; at = now }) ≡ true
     → All (λ event. (moment_of event).0 ≤ later.0) between → may_ask later addr (fold after_event (after_ask now addr cache) between).asked ≡ false
-noted_while_live cache now later addr between may live order =
+noted_till cache now later addr between may live order =
     held_refused later addr (fold after_event (after_ask now addr cache) between).asked
     (held_events later addr (after_ask now addr cache) between order (held_first now later addr cache.asked may live))
 
-none_live : (now : Moment) (addr : Addr) (notes : List Asked) → All (λ note. note.addr ≡ addr → is_live 1000 now note.at ≡ false) notes
+pub noted_while_live : (cache : Cache) (now later : Moment) (addr : Addr) (between : List Event) → may_ask now addr cache.asked ≡ true → is_live 1000 later now ≡ true
+    → All (λ event. (moment_of event).0 ≤ later.0) between → may_ask later addr (fold after_event (after_ask now addr cache) between).asked ≡ false
+noted_while_live cache now later addr between may live = noted_till cache now later addr between may (live_a_second now later addr live)
+
+pub noted_at_once : (cache : Cache) (now : Moment) (addr : Addr) (between : List Event) → may_ask now addr cache.asked ≡ true
+    → All (λ event. (moment_of event).0 ≤ now.0) between → may_ask now addr (fold after_event (after_ask now addr cache) between).asked ≡ false
+noted_at_once cache now addr between may = noted_till cache now now addr between may (live_at_once now addr)
+
+-- a note that is past, and whose second is over, is live no longer
+not_live : (now : Moment) (note : Asked) → note.at.0 < now.0 → is_live 1000 now note.at ≡ false → is_live_note now note ≡ false
+not_live now note past over = grind (arith, nat_tests, past, over)
+
+none_live : (now : Moment) (addr : Addr) (notes : List Asked) → All (λ note. note.addr ≡ addr → (note.at.0 < now.0) × (is_live 1000 now note.at ≡ false)) notes
     → list_any (is_note_of addr) (live_notes now notes) ≡ false
 none_live now addr [] old = refl
 none_live now addr (note ∷ notes) old =
@@ -212,13 +228,52 @@ none_live now addr (note ∷ notes) old =
     either rest false true is_b is_c = ap (λ d. d || list_any (is_note_of addr) (live_notes now notes)) is_b ∙ rest
     either rest true true is_b is_c =
         let same : note.addr ≡ addr = ap made (same_octets note.addr addr is_b) in
-        let no : is_live_note now note ≡ false = old 0 note (omega arith) same in
+        let over = old 0 note (omega arith) same in
+        let no : is_live_note now note ≡ false = not_live now note over.0 over.1 in
         absurd cc
 
 pub asked_where_there_is_room : (now : Moment) (addr : Addr) (asked : List Asked) → length asked < 64
-    → All (λ note. note.addr ≡ addr → is_live 1000 now note.at ≡ false) asked → may_ask now addr asked ≡ true
+    → All (λ note. note.addr ≡ addr → (note.at.0 < now.0) × (is_live 1000 now note.at ≡ false)) asked → may_ask now addr asked ≡ true
 unfolding may_ask
 asked_where_there_is_room now addr asked few old =
     let few_live : length (live_notes now asked) < 64 = omega (arith, few, length-filter-le (is_live_note now) asked) in
     let room : nat_lt (length (live_notes now asked)) 64 ≡ true = grind (arith, nat_tests, few_live) in
     ap (λ b. b && not (list_any (is_note_of addr) (live_notes now asked))) room ∙ ap (λ b. not b) (none_live now addr asked old)
+
+-- Each request takes a place.
+
+filtered_twice : (p : Asked → Bool) (notes : List Asked) → filter p (filter p notes) ≡ filter p notes
+filtered_twice p [] = refl
+filtered_twice p (note ∷ notes) = by_test (filtered_twice p notes) (p note) refl
+  where
+    by_test : filter p (filter p notes) ≡ filter p notes → (b : Bool) → p note ≡ b → filter p (cond b (note ∷ filter p notes) (filter p notes)) ≡ cond b (note ∷ filter p notes) (filter p notes)
+    by_test same true e = ap (λ b. cond b (note ∷ filter p (filter p notes)) (filter p (filter p notes))) e ∙ ap (λ rest. note ∷ rest) same
+    by_test same false e = same
+
+one_live : (now : Moment) (addr : Addr) → live_notes now (record { addr = addr; at = now } ∷ []) ≡ record { addr = addr; at = now } ∷ []
+one_live now addr = ap (λ b. cond b (record { addr = addr; at = now } ∷ []) []) (live_at_once now addr)
+
+room_for : (addr : Addr) (notes : List Asked) → has_place_for addr notes ≡ true → length notes < 64
+room_for addr notes = by_test (nat_lt (length notes) 64) refl
+  where
+    by_test : (b : Bool) → nat_lt (length notes) 64 ≡ b → (b && not (list_any (is_note_of addr) notes)) ≡ true → length notes < 64
+    by_test true e may = grind (arith, nat_tests, e)
+    by_test false e may = cc
+
+pub one_fewer : (now : Moment) (addr : Addr) (asked : List Asked) → may_ask now addr asked ≡ true
+    → requests_left now (asked_after now addr asked) + 1 ≡ requests_left now asked
+unfolding may_ask asked_after
+one_fewer now addr asked may =
+    let live : List Asked = live_notes now asked in
+    let note : Asked = record { addr = addr; at = now } in
+    let after_is : asked_after now addr asked ≡ live ++ note ∷ [] = ap (λ b. cond b (live ++ note ∷ []) live) may in
+    let all_live : live_notes now (live ++ note ∷ []) ≡ live ++ note ∷ [] =
+    filter-append (is_live_note now) live (note ∷ []) ∙ ap (λ l. l ++ live_notes now (note ∷ [])) (filtered_twice (is_live_note now) asked) ∙ ap (λ l. live ++ l) (one_live now addr) in
+    let counted : length (live_notes now (asked_after now addr asked)) ≡ length live + 1 = ap (λ notes. length (live_notes now notes)) after_is ∙ ap (λ (l : List Asked). length l) all_live ∙ length-append live (note ∷ []) in
+    let few : length live < 64 = room_for addr live may in
+    omega (arith, counted, few)
+
+pub none_left : (now : Moment) (addr : Addr) (asked : List Asked) → requests_left now asked ≡ 0 → may_ask now addr asked ≡ false
+unfolding may_ask
+none_left now addr asked none =
+    let full : nat_lt (length (live_notes now asked)) 64 ≡ false = grind (arith, nat_tests, none) in ap (λ b. b && not (list_any (is_note_of addr) (live_notes now asked))) full

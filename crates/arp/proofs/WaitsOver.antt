@@ -1,5 +1,5 @@
 -- When the waits of the notes are over.
-use Rattle.std.proofs.Common.{◌≡◌, ◌<◌, ◌≤◌, ℕ, suc, Bool, true, false, not, ◌&&◌, ◌||◌, nat_lt, nat_le, List, [], ◌∷◌, length, filter, fold, count_by, cond, Option, Some, None, IfSome, refl, sym, ◌∙◌, ap, subst, arith}
+use Rattle.std.proofs.Common.{◌≡◌, ◌<◌, ◌≤◌, ◌+◌, ◌-◌, ◌^◌, ℕ, suc, min, max, Bool, true, false, not, ◌&&◌, ◌||◌, nat_lt, nat_le, List, [], ◌∷◌, length, filter, fold, count_by, cond, Option, Some, None, refl, sym, ◌∙◌, ap, subst, arith}
 use Rattle.std.specs.List.{list_any}
 use Rattle.std.proofs.lemmas.Bool.Decides.{nat_tests}
 use Rattle.std.proofs.lemmas.List.Sums.{length-filter}
@@ -7,9 +7,9 @@ use Rattle.ipv4.specs.declared.addr.Addr.{Addr}
 use Rattle.clock.specs.declared.moment.Moment.{Moment}
 use Rattle.clock.specs.Moments.{sooner}
 use Rattle.arp.specs.declared.entry.Asked.{Asked}
-use Rattle.arp.specs.Cache.{end_of, is_note_of, is_live_note, live_notes, may_ask, IsNextAsk}
-use Rattle.clock.specs.Moments.{is_over, later}
-use Rattle.arp.specs.Waits.{own_end, first_end, room_end}
+use Rattle.arp.specs.Cache.{is_note_of, is_live_note, live_notes, may_ask, IsNextAsk}
+use Rattle.clock.specs.Moments.{later}
+use Rattle.arp.specs.Waits.{last_of, own_last, first_last, room_last, following}
 use Rattle.arp.proofs.History.{length-filter-le}
 
 -- the live notes, counted
@@ -55,41 +55,46 @@ may_no now addr asked count full counted =
     any : Bool
     any = list_any (λ note. is_note_of addr note && is_live_note now note) asked
 
--- a note is live until its end
-live_until : (now : Moment) (note : Asked) → is_over (Some (end_of note)) now ≡ not (is_live_note now note)
-live_until now note = apart (end_of note).0 now.0
+-- a last moment is past, where there is one
+abbrev pub is_past : Option Moment → Moment → Bool
+is_past None now = true
+is_past (Some last) now = nat_lt last.0 now.0
+
+-- a note is live until its last moment
+live_until : (now : Moment) (note : Asked) → is_past (Some (last_of note)) now ≡ not (is_live_note now note)
+live_until now note = apart note.at.0 now.0
   where
-    apart : (a b : ℕ) → nat_le a b ≡ not (nat_lt b a)
-    apart a b = grind (arith, nat_tests)
+    apart : (at now : ℕ) → nat_lt (max at (min (at + 1000) (2 ^ 64 - 1) - 1)) now ≡ not (nat_le now at || nat_lt now (min (at + 1000) (2 ^ 64 - 1)))
+    apart at now = grind (arith, nat_tests)
 
 -- the later of two waits is over where both are
-both_over : (a b now : Moment) → is_over (later (Some a) (Some b)) now ≡ (is_over (Some a) now && is_over (Some b) now)
+both_over : (a b now : Moment) → is_past (later (Some a) (Some b)) now ≡ (is_past (Some a) now && is_past (Some b) now)
 both_over a b now = grind (arith, nat_tests)
 
-later_over : (a b : Option Moment) (now : Moment) → is_over (later a b) now ≡ (is_over a now && is_over b now)
+later_over : (a b : Option Moment) (now : Moment) → is_past (later a b) now ≡ (is_past a now && is_past b now)
 later_over None b now = refl
-later_over (Some a) None now = and_true (is_over (Some a) now)
+later_over (Some a) None now = and_true (is_past (Some a) now)
 later_over (Some a) (Some b) now = both_over a b now
 
 -- the notes for the address
 
 abbrev last_end : Option Moment → List Asked → Option Moment
-last_end first notes = fold (λ (latest : Option Moment) (note : Asked). later latest (Some (end_of note))) first notes
+last_end first notes = fold (λ (latest : Option Moment) (note : Asked). later latest (Some (last_of note))) first notes
 
 own_over : (addr : Addr) (notes : List Asked) (first : Option Moment) (now : Moment)
-    → is_over (last_end first (filter (is_note_of addr) notes)) now ≡ (is_over first now && not (list_any (is_note_of addr) (filter (is_live_note now) notes)))
-own_over addr [] first now = and_true (is_over first now)
+    → is_past (last_end first (filter (is_note_of addr) notes)) now ≡ (is_past first now && not (list_any (is_note_of addr) (filter (is_live_note now) notes)))
+own_over addr [] first now = and_true (is_past first now)
 own_over addr (note ∷ notes) first now = by_tests (λ f. own_over addr notes f now) (is_note_of addr note) refl (is_live_note now note) refl
   where
     rest : Bool
     rest = list_any (is_note_of addr) (filter (is_live_note now) notes)
 
     -- where it is for the address
-    own : ((f : Option Moment) → is_over (last_end f (filter (is_note_of addr) notes)) now ≡ (is_over f now && not rest)) → (live : Bool) → is_live_note now note ≡ live
-        → is_over (last_end (later first (Some (end_of note))) (filter (is_note_of addr) notes)) now ≡ ((is_over first now && not live) && not rest)
+    own : ((f : Option Moment) → is_past (last_end f (filter (is_note_of addr) notes)) now ≡ (is_past f now && not rest)) → (live : Bool) → is_live_note now note ≡ live
+        → is_past (last_end (later first (Some (last_of note))) (filter (is_note_of addr) notes)) now ≡ ((is_past first now && not live) && not rest)
     own past live test =
-        past (later first (Some (end_of note)))
-        ∙ ap (λ b. b && not rest) (later_over first (Some (end_of note)) now ∙ ap (λ b. is_over first now && b) (live_until now note ∙ ap not test))
+        past (later first (Some (last_of note)))
+        ∙ ap (λ b. b && not rest) (later_over first (Some (last_of note)) now ∙ ap (λ b. is_past first now && b) (live_until now note ∙ ap not test))
 
     shut : (b : Bool) → ((b && false) && not rest) ≡ (b && false)
     shut true = refl
@@ -99,12 +104,12 @@ own_over addr (note ∷ notes) first now = by_tests (λ f. own_over addr notes f
     through true = refl
     through false = refl
 
-    by_tests : ((f : Option Moment) → is_over (last_end f (filter (is_note_of addr) notes)) now ≡ (is_over f now && not rest)) → (mine : Bool) → is_note_of addr note ≡ mine → (live : Bool) → is_live_note now note ≡ live
-        → is_over (last_end first (cond mine (note ∷ filter (is_note_of addr) notes) (filter (is_note_of addr) notes))) now
-        ≡ (is_over first now && not (list_any (is_note_of addr) (cond live (note ∷ filter (is_live_note now) notes) (filter (is_live_note now) notes))))
-    by_tests past true is true test = own past true test ∙ shut (is_over first now) ∙ ap (λ b. is_over first now && not (b || rest)) (sym is)
-    by_tests past true is false test = own past false test ∙ through (is_over first now)
-    by_tests past false is true test = past first ∙ ap (λ b. is_over first now && not (b || rest)) (sym is)
+    by_tests : ((f : Option Moment) → is_past (last_end f (filter (is_note_of addr) notes)) now ≡ (is_past f now && not rest)) → (mine : Bool) → is_note_of addr note ≡ mine → (live : Bool) → is_live_note now note ≡ live
+        → is_past (last_end first (cond mine (note ∷ filter (is_note_of addr) notes) (filter (is_note_of addr) notes))) now
+        ≡ (is_past first now && not (list_any (is_note_of addr) (cond live (note ∷ filter (is_live_note now) notes) (filter (is_live_note now) notes))))
+    by_tests past true is true test = own past true test ∙ shut (is_past first now) ∙ ap (λ b. is_past first now && not (b || rest)) (sym is)
+    by_tests past true is false test = own past false test ∙ through (is_past first now)
+    by_tests past false is true test = past first ∙ ap (λ b. is_past first now && not (b || rest)) (sym is)
     by_tests past false is false test = past first
 
 -- the places
@@ -125,9 +130,9 @@ some_dead p (note ∷ notes) = by_test (p note) (some_dead p notes)
     by_test false rest = less
 
 abbrev soonest_end : Option Moment → List Asked → Option Moment
-soonest_end first notes = fold (λ (soonest : Option Moment) (note : Asked). sooner soonest (Some (end_of note))) first notes
+soonest_end first notes = fold (λ (soonest : Option Moment) (note : Asked). sooner soonest (Some (last_of note))) first notes
 
-either_over : (a b now : Moment) → is_over (sooner (Some a) (Some b)) now ≡ (is_over (Some a) now || is_over (Some b) now)
+either_over : (a b now : Moment) → is_past (sooner (Some a) (Some b)) now ≡ (is_past (Some a) now || is_past (Some b) now)
 either_over a b now = grind (arith, nat_tests)
 
 or_assoc : (a b c : Bool) → ((a || b) || c) ≡ (a || (b || c))
@@ -135,115 +140,91 @@ or_assoc true b c = refl
 or_assoc false b c = refl
 
 first_over : (notes : List Asked) (first now : Moment)
-    → is_over (soonest_end (Some first) notes) now ≡ (is_over (Some first) now || list_any (λ note. not (is_live_note now note)) notes)
-first_over [] first now = or_false (is_over (Some first) now)
+    → is_past (soonest_end (Some first) notes) now ≡ (is_past (Some first) now || list_any (λ note. not (is_live_note now note)) notes)
+first_over [] first now = or_false (is_past (Some first) now)
   where
     or_false : (b : Bool) → b ≡ (b || false)
     or_false true = refl
     or_false false = refl
-first_over (note ∷ notes) first now = by_test (λ f. first_over notes f now) (nat_le first.0 (end_of note).0) refl
+first_over (note ∷ notes) first now = by_test (λ f. first_over notes f now) (nat_le first.0 (last_of note).0) refl
   where
     rest : Bool
     rest = list_any (λ other. not (is_live_note now other)) notes
 
-    joined : (b : Bool) → b ≡ (is_over (Some first) now || is_over (Some (end_of note)) now) → (b || rest) ≡ (is_over (Some first) now || (not (is_live_note now note) || rest))
-    joined b is = ap (λ c. c || rest) (is ∙ ap (λ c. is_over (Some first) now || c) (live_until now note)) ∙ or_assoc (is_over (Some first) now) (not (is_live_note now note)) rest
+    joined : (b : Bool) → b ≡ (is_past (Some first) now || is_past (Some (last_of note)) now) → (b || rest) ≡ (is_past (Some first) now || (not (is_live_note now note) || rest))
+    joined b is = ap (λ c. c || rest) (is ∙ ap (λ c. is_past (Some first) now || c) (live_until now note)) ∙ or_assoc (is_past (Some first) now) (not (is_live_note now note)) rest
 
-    by_test : ((f : Moment) → is_over (soonest_end (Some f) notes) now ≡ (is_over (Some f) now || rest)) → (b : Bool) → nat_le first.0 (end_of note).0 ≡ b
-        → is_over (soonest_end (cond b (Some first) (Some (end_of note))) notes) now ≡ (is_over (Some first) now || (not (is_live_note now note) || rest))
+    by_test : ((f : Moment) → is_past (soonest_end (Some f) notes) now ≡ (is_past (Some f) now || rest)) → (b : Bool) → nat_le first.0 (last_of note).0 ≡ b
+        → is_past (soonest_end (cond b (Some first) (Some (last_of note))) notes) now ≡ (is_past (Some first) now || (not (is_live_note now note) || rest))
     by_test past true test =
-        past first ∙ joined (is_over (Some first) now) (ap (λ c. is_over (cond c (Some first) (Some (end_of note))) now) (sym test) ∙ either_over first (end_of note) now)
+        past first ∙ joined (is_past (Some first) now) (ap (λ c. is_past (cond c (Some first) (Some (last_of note))) now) (sym test) ∙ either_over first (last_of note) now)
     by_test past false test =
-        past (end_of note) ∙ joined (is_over (Some (end_of note)) now) (ap (λ c. is_over (cond c (Some first) (Some (end_of note))) now) (sym test) ∙ either_over first (end_of note) now)
+        past (last_of note) ∙ joined (is_past (Some (last_of note)) now) (ap (λ c. is_past (cond c (Some first) (Some (last_of note))) now) (sym test) ∙ either_over first (last_of note) now)
 
-full_over : (asked : List Asked) (now : Moment) → length asked ≡ 64 → is_over (first_end asked) now ≡ nat_lt (length (live_notes now asked)) 64
+full_over : (asked : List Asked) (now : Moment) → length asked ≡ 64 → is_past (first_last asked) now ≡ nat_lt (length (live_notes now asked)) 64
 full_over [] now full = absurd (omega (arith, full))
 full_over (note ∷ notes) now full =
-    first_over notes (end_of note) now
+    first_over notes (last_of note) now
     ∙ ap (λ b. b || list_any (λ other. not (is_live_note now other)) notes) (live_until now note)
     ∙ sym (some_dead (is_live_note now) (note ∷ notes))
     ∙ ap (λ (n : ℕ). nat_lt (length (live_notes now (note ∷ notes))) n) full
 
-room_over : (asked : List Asked) (now : Moment) → length asked ≤ 64 → is_over (room_end asked) now ≡ nat_lt (length (live_notes now asked)) 64
+room_over : (asked : List Asked) (now : Moment) → length asked ≤ 64 → is_past (room_last asked) now ≡ nat_lt (length (live_notes now asked)) 64
 room_over asked now few = by_test (nat_lt (length asked) 64) refl
   where
-    by_test : (b : Bool) → nat_lt (length asked) 64 ≡ b → is_over (cond b None (first_end asked)) now ≡ nat_lt (length (live_notes now asked)) 64
+    by_test : (b : Bool) → nat_lt (length asked) 64 ≡ b → is_past (cond b None (first_last asked)) now ≡ nat_lt (length (live_notes now asked)) 64
     by_test true test = let most = length-filter-le (is_live_note now) asked in grind (arith, nat_tests, test, most)
     by_test false test = full_over asked now (grind (arith, nat_tests, test, few))
 
 -- both
-over_is : (addr : Addr) (asked : List Asked) (now : Moment) → length asked ≤ 64 → may_ask now addr asked ≡ is_over (later (room_end asked) (own_end addr asked)) now
+over_is : (addr : Addr) (asked : List Asked) (now : Moment) → length asked ≤ 64 → may_ask now addr asked ≡ is_past (later (room_last asked) (own_last addr asked)) now
 unfolding may_ask
 over_is addr asked now few =
-    sym (later_over (room_end asked) (own_end addr asked) now
-    ∙ ap (λ b. b && is_over (own_end addr asked) now) (room_over asked now few)
+    sym (later_over (room_last asked) (own_last addr asked) now
+    ∙ ap (λ b. b && is_past (own_last addr asked) now) (room_over asked now few)
     ∙ ap (λ b. nat_lt (length (live_notes now asked)) 64 && b) (own_over addr asked None now))
 
--- The end of a note lies behind the first moment of the clock.
-
-end_ahead : (note : Asked) → 0 < (end_of note).0
-end_ahead note = grind arith
-
-either_ahead : (t : Bool) (a b : Moment) → 0 < a.0 → 0 < b.0 → IfSome (cond t (Some a) (Some b)) (λ m. 0 < m.0)
-either_ahead true a b p q = p
-either_ahead false a b p q = q
-
-later_ahead : (a : Option Moment) (b : Moment) → IfSome a (λ m. 0 < m.0) → 0 < b.0 → IfSome (later a (Some b)) (λ m. 0 < m.0)
-later_ahead None b p q = q
-later_ahead (Some a) b p q = either_ahead (nat_le a.0 b.0) b a q p
-
-sooner_ahead : (a : Option Moment) (b : Moment) → IfSome a (λ m. 0 < m.0) → 0 < b.0 → IfSome (sooner a (Some b)) (λ m. 0 < m.0)
-sooner_ahead None b p q = q
-sooner_ahead (Some a) b p q = either_ahead (nat_le a.0 b.0) a b p q
-
-last_ahead : (first : Option Moment) (notes : List Asked) → IfSome first (λ m. 0 < m.0) → IfSome (last_end first notes) (λ m. 0 < m.0)
-last_ahead first [] p = p
-last_ahead first (note ∷ notes) p = last_ahead (later first (Some (end_of note))) notes (later_ahead first (end_of note) p (end_ahead note))
-
-soonest_ahead : (first : Option Moment) (notes : List Asked) → IfSome first (λ m. 0 < m.0) → IfSome (soonest_end first notes) (λ m. 0 < m.0)
-soonest_ahead first [] p = p
-soonest_ahead first (note ∷ notes) p = soonest_ahead (sooner first (Some (end_of note))) notes (sooner_ahead first (end_of note) p (end_ahead note))
-
-room_ahead : (asked : List Asked) → IfSome (room_end asked) (λ m. 0 < m.0)
-room_ahead asked = by_test (nat_lt (length asked) 64)
+-- the moment behind the last
+next_by : (addr : Addr) (asked : List Asked) (last : Option Moment) → ((now : Moment) → may_ask now addr asked ≡ is_past last now) → IsNextAsk addr asked (following last)
+next_by addr asked None may = λ now later within within'. may now ∙ sym (may later)
+next_by addr asked (Some last) may = by_test (nat_lt last.0 (2 ^ 64 - 1)) refl
   where
-    by_test : (b : Bool) → IfSome (cond b None (first_end asked)) (λ m. 0 < m.0)
-    by_test true = tt
-    by_test false = soonest_ahead None asked tt
+    less : (now : Moment) → nat_lt last.0 now.0 ≡ nat_le (last.0 + 1) now.0
+    less now = grind (arith, nat_tests)
 
-both_ahead : (a b : Option Moment) → IfSome a (λ m. 0 < m.0) → IfSome b (λ m. 0 < m.0) → IfSome (later a b) (λ m. 0 < m.0)
-both_ahead None b p q = q
-both_ahead (Some a) None p q = p
-both_ahead (Some a) (Some b) p q = later_ahead (Some a) b p q
+    never : (now : Moment) → nat_lt last.0 (2 ^ 64 - 1) ≡ false → now.0 < 2 ^ 64 → nat_lt last.0 now.0 ≡ false
+    never now end within = grind (arith, nat_tests, end, within)
 
-next_ahead : (addr : Addr) (asked : List Asked) (next : Option Moment) → next ≡ later (room_end asked) (own_end addr asked) → IfSome next (λ m. 0 < m.0)
-next_ahead addr asked next is =
-    subst (λ o. IfSome o (λ m. 0 < m.0)) (sym is) (both_ahead (room_end asked) (own_end addr asked) (room_ahead asked) (last_ahead None (filter (is_note_of addr) asked) tt))
+    by_test : (b : Bool) → nat_lt last.0 (2 ^ 64 - 1) ≡ b → IsNextAsk addr asked (cond b (Some (record { 0 = last.0 + 1 })) None)
+    by_test true ahead = (omega arith, grind (arith, nat_tests, ahead), λ now. may now ∙ less now)
+    by_test false end = λ now later within within'. may now ∙ never now end within ∙ sym (may later ∙ never later end within')
 
-pub next_is : (addr : Addr) (asked : List Asked) (next : Option Moment) → length asked ≤ 64 → next ≡ later (room_end asked) (own_end addr asked) → IsNextAsk addr asked next
-next_is addr asked None few is = λ now. over_is addr asked now few ∙ ap (λ o. is_over o now) (sym is)
-next_is addr asked (Some next) few is = (next_ahead addr asked (Some next) is, λ now. over_is addr asked now few ∙ ap (λ o. is_over o now) (sym is))
+pub next_is : (addr : Addr) (asked : List Asked) (next : Option Moment) → length asked ≤ 64 → next ≡ following (later (room_last asked) (own_last addr asked)) → IsNextAsk addr asked next
+next_is addr asked next few is = subst (λ o. IsNextAsk addr asked o) (sym is) (next_by addr asked (later (room_last asked) (own_last addr asked)) (λ now. over_is addr asked now few))
 
 -- There is one such moment at most.
 
 below : (a b : ℕ) → nat_le b a ≡ nat_le a a → b ≤ a
 below a b e = grind (arith, nat_tests, e)
 
+nat_le-refl : (n : ℕ) → nat_le n n ≡ true
+nat_le-refl n = grind (arith, nat_tests)
+
 begins : (n : ℕ) → 0 < n → nat_le n 0 ≡ true → ⊥
 begins n some e = grind (arith, nat_tests, some, e)
 
 pub one_next : (addr : Addr) (asked : List Asked) (first second : Option Moment) → IsNextAsk addr asked first → IsNextAsk addr asked second → first ≡ second
 one_next addr asked None None p q = refl
-one_next addr asked None (Some second) p q = absurd (begins second.0 q.0 (sym (q.1 start) ∙ p start))
+one_next addr asked None (Some second) p q = absurd (begins second.0 q.0 (sym (q.2 start) ∙ p start second (omega arith) q.1 ∙ q.2 second ∙ nat_le-refl second.0))
   where
     start : Moment
     start = record { 0 = 0 }
-one_next addr asked (Some first) None p q = absurd (begins first.0 p.0 (sym (p.1 start) ∙ q start))
+one_next addr asked (Some first) None p q = absurd (begins first.0 p.0 (sym (p.2 start) ∙ q start first (omega arith) p.1 ∙ p.2 first ∙ nat_le-refl first.0))
   where
     start : Moment
     start = record { 0 = 0 }
 one_next addr asked (Some first) (Some second) p q =
-    let same : first.0 ≡ second.0 = omega (arith, below first.0 second.0 (sym (q.1 first) ∙ p.1 first), below second.0 first.0 (sym (p.1 second) ∙ q.1 second)) in
+    let same : first.0 ≡ second.0 = omega (arith, below first.0 second.0 (sym (q.2 first) ∙ p.2 first), below second.0 first.0 (sym (p.2 second) ∙ q.2 second)) in
     ap made same
   where
     made : ℕ → Option Moment

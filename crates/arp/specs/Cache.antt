@@ -1,7 +1,7 @@
 -- What a host keeps of the packets that it heard, and of the requests that it sent. Who is learnt is RFC 826; that old pairs
 -- are flushed, and one request a second for an address, are RFC 1122 section 2.3.2.1. The twenty minutes, the 64 pairs, the 64
 -- notes and which pair gives way are this stack's own.
-use Rattle.std.specs.Prelude.{◌≡◌, ◌<◌, ℕ, Bool, true, false, not, ◌&&◌, nat_lt, nat_le, if◌then◌else◌, List, [], ◌∷◌, ◌++◌, length, map, filter, find, remove, Option, Some, None, option_map}
+use Rattle.std.specs.Prelude.{◌≡◌, ◌<◌, ◌-◌, ◌^◌, ℕ, Bool, true, false, not, ◌&&◌, ◌||◌, nat_lt, nat_le, if◌then◌else◌, List, [], ◌∷◌, ◌++◌, length, map, filter, find, remove, Option, Some, None, option_map}
 use Rattle.std.specs.List.{list_any, list_all, position_or_len, AllByRecursion}
 use Rattle.ether.specs.declared.mac.Mac.{Mac}
 use Rattle.ipv4.specs.declared.addr.Addr.{Addr}
@@ -31,12 +31,14 @@ empty = record { pairs = []; asked = [] }
 abbrev pub is_live : ℕ → Moment → Moment → Bool
 is_live milliseconds now t = let end = after t milliseconds in nat_lt now.0 end.0
 
--- a pair is live for twenty minutes after it was heard, and a note for a second after the request
+-- a pair is live for twenty minutes after it was heard
 abbrev pub is_live_pair : Moment → Neighbour → Bool
 is_live_pair now pair = is_live 1200000 now pair.heard
 
+-- A note is live for a second after the request, and until the very moment of the request is over in any case: at the last moment of the clock
+-- no second is left.
 abbrev pub is_live_note : Moment → Asked → Bool
-is_live_note now note = is_live 1000 now note.at
+is_live_note now note = nat_le now.0 note.at.0 || is_live 1000 now note.at
 
 abbrev pub is_pair_of : Addr → Neighbour → Bool
 is_pair_of addr pair = same_addr pair.addr addr
@@ -114,12 +116,12 @@ asked_after now addr asked =
 abbrev pub after_ask : Moment → Addr → Cache → Cache
 after_ask now addr cache = record cache { asked = asked_after now addr cache.asked }
 
--- when a note is no longer live
-abbrev pub end_of : Asked → Moment
-end_of note = after note.at 1000
+-- how many requests may still go out at a moment
+abbrev pub requests_left : Moment → List Asked → ℕ
+requests_left now asked = 64 - length (live_notes now asked)
 
--- From when on a request for an address may go out, as long as none goes out for any: at no moment before, and at each from then on.
--- None where one may go out at every moment.
+-- From when on a request for an address may go out, as long as none goes out for any: at no moment before, and at each from then on. None where
+-- that is so of no moment of the clock: one may go out at each of them, or at none, since a note of the last one stands in its way.
 abbrev pub IsNextAsk : Addr → List Asked → Option Moment → Type 0
-IsNextAsk addr asked None = (now : Moment) → may_ask now addr asked ≡ true
-IsNextAsk addr asked (Some next) = (0 < next.0) × ((now : Moment) → may_ask now addr asked ≡ nat_le next.0 now.0)
+IsNextAsk addr asked None = (now later : Moment) → now.0 < 2 ^ 64 → later.0 < 2 ^ 64 → may_ask now addr asked ≡ may_ask later addr asked
+IsNextAsk addr asked (Some next) = (0 < next.0) × (next.0 < 2 ^ 64) × ((now : Moment) → may_ask now addr asked ≡ nat_le next.0 now.0)

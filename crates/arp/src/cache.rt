@@ -3,7 +3,7 @@
 ghost use Rattle.std.specs.Prelude.{◌≡◌, ◌<◌, ◌&&◌, length};
 ghost use Rattle.std.specs.List.{list_any, AllByRecursion};
 ghost use Rattle.arp.specs.Cache.{empty, is_pair_of, is_note_of, updated, added, longest_unheard, pairs_after, is_request_for, after_hear, look, after_age, is_live_note, live_notes, after_ask, may_ask, has_place_for, IsNextAsk, HasWholeMacs};
-ghost use Rattle.arp.specs.Waits.{own_end, first_end, room_end, next_ask};
+ghost use Rattle.arp.specs.Waits.{own_last, first_last, room_last, following, next_ask};
 
 use crate::entry::{Asked, Neighbour};
 use crate::packet::{ArpPacket, Operation};
@@ -69,8 +69,8 @@ impl ArpCache {
             .map(|pair| pair.mac)
     }
 
-    /// Whether a request for an address may go out now; one that may is noted. In a second one may for each
-    /// address (RFC 1122 section 2.3.2.1), and 64 in all, which is this stack's own limit.
+    /// Whether a request for an address may go out now; one that may is noted. In a second, and at the last moment of
+    /// the clock, one may for each address (RFC 1122 section 2.3.2.1), and 64 in all, which is this stack's own limit.
     pub fn ask(&mut self, now: Moment, addr: Addr) -> bool
         ensures cache { self.new ≡ after_ask now addr self.old }
         ensures answer { result ≡ may_ask now addr self.old.asked }
@@ -92,12 +92,13 @@ impl ArpCache {
 
     /// From when on `ask` would let a request for an address go out, as long as it lets none out for any: a second after the
     /// last one for this address (RFC 1122 section 2.3.2.1), and where 64 are noted not before the first of them is a second
-    /// old. None where it would let one out at every moment.
+    /// old. None where it would let one out at every moment of the clock, or at none, since one of its last moment stands in
+    /// the way: `may_ask` says which.
     pub fn next_ask(&self, addr: Addr) -> Option<Moment>
         ensures value { result ≡ next_ask addr self.now.asked }
         ensures next { IsNextAsk addr self.now.asked result }
     {
-        later(room_end(&self.asked), own_end(&self.asked, addr))
+        following(later(room_last(&self.asked), own_last(&self.asked, addr)))
     }
 
     /// Forgets the pairs that were not heard in the last 20 minutes. That old pairs are flushed is RFC 1122
@@ -209,32 +210,42 @@ fn was_asked_lately(asked: &[Asked], now: Moment, addr: Addr) -> bool
         .any(|note| note.addr == addr && note.is_live(now))
 }
 
-/// When the last of the notes for an address ends.
-fn own_end(asked: &[Asked], addr: Addr) -> Option<Moment>
-    ensures { result ≡ own_end addr asked.now }
+/// The last moment at which a note for an address is live.
+fn own_last(asked: &[Asked], addr: Addr) -> Option<Moment>
+    ensures { result ≡ own_last addr asked.now }
 {
     asked
         .iter()
         .filter(|note| note.addr == addr)
-        .fold(None, |latest, note| later(latest, Some(note.end())))
+        .fold(None, |latest, note| later(latest, Some(note.last())))
 }
 
-/// When a place is free: where all are taken, once the first note ends.
-fn room_end(asked: &[Asked]) -> Option<Moment>
-    ensures { result ≡ room_end asked.now }
+/// Where all places are taken, the last moment at which no note is over.
+fn room_last(asked: &[Asked]) -> Option<Moment>
+    ensures { result ≡ room_last asked.now }
 {
     if asked.len() < REQUESTS {
         None
     } else {
-        first_end(asked)
+        first_last(asked)
     }
 }
 
-/// When the first of the notes ends.
-fn first_end(asked: &[Asked]) -> Option<Moment>
-    ensures { result ≡ first_end asked.now }
+/// The last moment at which no note is over.
+fn first_last(asked: &[Asked]) -> Option<Moment>
+    ensures { result ≡ first_last asked.now }
 {
     asked
         .iter()
-        .fold(None, |soonest, note| sooner(soonest, Some(note.end())))
+        .fold(None, |soonest, note| sooner(soonest, Some(note.last())))
+}
+
+/// The moment behind this one, which the last moment of the clock has not.
+fn following(last: Option<Moment>) -> Option<Moment>
+    ensures { result ≡ following last }
+{
+    match last {
+        Some(Moment(last)) if last < u64::MAX => Some(Moment(last + 1)),
+        _ => None,
+    }
 }

@@ -1,7 +1,8 @@
 //! What a cache keeps.
 
 ghost use Rattle.std.specs.Prelude.{◌≡◌};
-ghost use Rattle.arp.specs.Cache.{end_of, is_live, is_live_pair, is_live_note, sender_of, after_sender};
+ghost use Rattle.arp.specs.Cache.{is_live, is_live_pair, is_live_note, sender_of, after_sender};
+ghost use Rattle.arp.specs.Waits.{last_of};
 
 use crate::packet::ArpPacket;
 use clock::Moment;
@@ -71,18 +72,18 @@ pub(crate) struct Asked {
 }
 
 impl Asked {
-    /// Whether the request went out in the last second.
+    /// Whether the request went out in the last second, or goes out now.
     pub(crate) fn is_live(&self, now: Moment) -> bool
         ensures { result ≡ is_live_note now self.now }
     {
-        is_live(NOTE_LIFE, now, self.at)
+        now <= self.at || is_live(NOTE_LIFE, now, self.at)
     }
 
-    /// When it is no longer live.
-    pub(crate) fn end(&self) -> Moment
-        ensures { result ≡ end_of self.now }
+    /// The last moment at which it is live.
+    pub(crate) fn last(&self) -> Moment
+        ensures { result ≡ last_of self.now }
     {
-        self.at.after(NOTE_LIFE)
+        Moment(self.at.0.max(self.at.after(NOTE_LIFE).0 - 1))
     }
 }
 
@@ -96,7 +97,7 @@ impl Default for Asked {
     }
 }
 
-/// Whether `now` lies less than so many milliseconds past a moment. At the last moment of the clock nothing is live.
+/// Whether `now` lies less than so many milliseconds past a moment. It never does at the last moment of the clock.
 fn is_live(milliseconds: u64, now: Moment, moment: Moment) -> bool
     ensures { result ≡ is_live milliseconds now moment }
 {

@@ -1,7 +1,7 @@
 //! Laws of the definitions that the contracts of this crate cite: each is the contract of a function
 //! that does nothing.
 
-ghost use Rattle.std.specs.Prelude.{◌≡◌, ◌≢◌, ℕ, List, ◌++◌, ◌<◌, ◌≤◌, length, take, filter, fold, All, false, IsTrue, Option, Some, None, Result, Ok, Err};
+ghost use Rattle.std.specs.Prelude.{◌≡◌, ◌≢◌, ℕ, List, ◌++◌, ◌+◌, ◌<◌, ◌≤◌, length, take, filter, fold, All, false, IsTrue, Option, Some, None, Result, Ok, Err};
 ghost use Rattle.ether.specs.declared.mac.Mac.{Mac};
 ghost use Rattle.ipv4.specs.declared.addr.Addr.{Addr};
 ghost use Rattle.arp.specs.declared.packet.ArpFault.{ArpFault};
@@ -10,7 +10,7 @@ ghost use Rattle.arp.specs.declared.packet.ArpPacket.{ArpPacket};
 ghost use Rattle.arp.specs.declared.packet.TheConstants.{LEN};
 ghost use Rattle.arp.specs.declared.entry.Asked.{Asked};
 ghost use Rattle.clock.specs.declared.moment.Moment.{Moment};
-ghost use Rattle.arp.specs.Cache.{Cache, is_live, is_pair_of, after_hear, look, after_age, may_ask, asked_after, after_ask, IsNextAsk};
+ghost use Rattle.arp.specs.Cache.{Cache, is_live, is_pair_of, after_hear, look, after_age, may_ask, asked_after, after_ask, requests_left, IsNextAsk};
 ghost use Rattle.ipv4.specs.Addresses.{same_addr};
 ghost use Rattle.arp.specs.Events.{Event, moment_of, after_event, cache_after, IsLastFrom};
 ghost use Rattle.arp.specs.Packet.{spelling, HasWidths, Spells, IsParsed};
@@ -65,11 +65,14 @@ pub fn heard_is_found()
         → look later packet.sender_addr (after_hear now packet ours cache) ≡ Some packet.sender_mac }
 {}
 
-/// While the note of a request is live, no other request for its address may go out.
+/// No other request for an address may go out in the second after one did, nor, at any moment of the clock, at the very moment of that one
+/// (RFC 1122 section 2.3.2.1).
 pub fn asked_once_a_second()
-    ensures { (now later : Moment) (addr : Addr) (asked : List Asked)
+    ensures second { (now later : Moment) (addr : Addr) (asked : List Asked)
         → IsTrue (may_ask now addr asked) → IsTrue (is_live 1000 later now)
         → may_ask later addr (asked_after now addr asked) ≡ false }
+    ensures moment { (now : Moment) (addr : Addr) (asked : List Asked)
+        → IsTrue (may_ask now addr asked) → may_ask now addr (asked_after now addr asked) ≡ false }
 {}
 
 /// Whatever happens to a cache, what is looked up of an address is the MAC that the last packet from it told (RFC 826), and
@@ -102,20 +105,31 @@ pub fn aging_forgets()
     ensures { (cache : Cache) (now : Moment) → All (λ pair. IsTrue (is_live 1200000 now pair.heard)) (after_age now cache).pairs }
 {}
 
-/// A request may go out where fewer than 64 are noted, and none of them is live and for its address.
+/// A request may go out where fewer than 64 are noted, and none of them for its address is of this moment or of the second before it.
 pub fn asked_where_there_is_room()
     ensures { (now : Moment) (addr : Addr) (asked : List Asked) → length asked < 64
-        → All (λ note. note.addr ≡ addr → is_live 1000 now note.at ≡ false) asked
+        → All (λ note. note.addr ≡ addr → (note.at.0 < now.0) × (is_live 1000 now note.at ≡ false)) asked
         → IsTrue (may_ask now addr asked) }
 {}
 
-/// Once a request for an address was let out, no other may go out while its note is live, whatever else happens to the
-/// cache until then (RFC 1122 section 2.3.2.1).
+/// Once a request for an address was let out, no other may go out in the second after it, nor at its very moment, whatever else happens to
+/// the cache until then (RFC 1122 section 2.3.2.1).
 pub fn noted_while_live()
-    ensures { (cache : Cache) (now later : Moment) (addr : Addr) (between : List Event)
+    ensures second { (cache : Cache) (now later : Moment) (addr : Addr) (between : List Event)
         → IsTrue (may_ask now addr cache.asked) → IsTrue (is_live 1000 later now)
         → All (λ event. (moment_of event).0 ≤ later.0) between
         → may_ask later addr (fold after_event (after_ask now addr cache) between).asked ≡ false }
+    ensures moment { (cache : Cache) (now : Moment) (addr : Addr) (between : List Event)
+        → IsTrue (may_ask now addr cache.asked) → All (λ event. (moment_of event).0 ≤ now.0) between
+        → may_ask now addr (fold after_event (after_ask now addr cache) between).asked ≡ false }
+{}
+
+/// So many requests may go out at a moment, whatever they are for, as `requests_left` counts: each leaves one fewer, and where none is left,
+/// none may go out.
+pub fn requests_run_out()
+    ensures fewer { (now : Moment) (addr : Addr) (asked : List Asked) → IsTrue (may_ask now addr asked)
+        → requests_left now (asked_after now addr asked) + 1 ≡ requests_left now asked }
+    ensures none { (now : Moment) (addr : Addr) (asked : List Asked) → requests_left now asked ≡ 0 → may_ask now addr asked ≡ false }
 {}
 
 /// There is one moment at most from which a request for an address may go out, so what `ArpCache::next_ask` answers is

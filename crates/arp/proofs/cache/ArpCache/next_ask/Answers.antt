@@ -7,5 +7,5 @@ pub returns : goal.returns
 unfolding next_ask
 returns c = record {
   value = search rules;
-  next = next_is c.args.addr c.args.self.now.asked c.later.result (search rules) (search rules);
+  next = next_is c.args.addr c.args.self.now.asked c.following.result (search rules) (search rules);
 }
