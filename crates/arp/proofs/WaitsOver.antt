@@ -177,7 +177,7 @@ room_over asked now few = by_test (nat_lt (length asked) 64) refl
     by_test false test = full_over asked now (grind (arith, nat_tests, test, few))
 
 -- both
-over_is : (addr : Addr) (asked : List Asked) (now : Moment) → length asked ≤ 64 → may_ask now addr asked ≡ is_past (later (room_last asked) (own_last addr asked)) now
+pub over_is : (addr : Addr) (asked : List Asked) (now : Moment) → length asked ≤ 64 → may_ask now addr asked ≡ is_past (later (room_last asked) (own_last addr asked)) now
 unfolding may_ask
 over_is addr asked now few =
     sym (later_over (room_last asked) (own_last addr asked) now
@@ -201,6 +201,19 @@ next_by addr asked (Some last) may = by_test (nat_lt last.0 (2 ^ 64 - 1)) refl
 
 pub next_is : (addr : Addr) (asked : List Asked) (next : Option Moment) → length asked ≤ 64 → next ≡ following (later (room_last asked) (own_last addr asked)) → IsNextAsk addr asked next
 next_is addr asked next few is = subst (λ o. IsNextAsk addr asked o) (sym is) (next_by addr asked (later (room_last asked) (own_last addr asked)) (λ now. over_is addr asked now few))
+
+-- where there is none, and none may go out at one moment, none may at any of the clock
+pub never_again : (addr : Addr) (asked : List Asked) (now then : Moment) → length asked ≤ 64 → following (later (room_last asked) (own_last addr asked)) ≡ None
+    → may_ask now addr asked ≡ false → then.0 < 2 ^ 64 → may_ask then addr asked ≡ false
+never_again addr asked now then few none not_now within = over_is addr asked then few ∙ by_last (later (room_last asked) (own_last addr asked)) none (sym (over_is addr asked now few) ∙ not_now)
+  where
+    by_test : (last : ℕ) (b : Bool) → nat_lt last (2 ^ 64 - 1) ≡ b → cond b (Some (let m : Moment = record { 0 = last + 1 } in m)) None ≡ None → nat_lt last then.0 ≡ false
+    by_test last true ahead is = absurd cc
+    by_test last false end is = grind (arith, nat_tests, end, within)
+
+    by_last : (last : Option Moment) → following last ≡ None → is_past last now ≡ false → is_past last then ≡ false
+    by_last None is past = absurd cc
+    by_last (Some last) is past = by_test last.0 (nat_lt last.0 (2 ^ 64 - 1)) refl is
 
 -- There is one such moment at most.
 

@@ -5,3 +5,4 @@ pub mod Waits
 pub mod Heard
 pub mod Deadlines
 pub mod KnownMacs
+pub mod RunsOut

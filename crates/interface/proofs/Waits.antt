@@ -13,7 +13,7 @@ use Rattle.arp.specs.declared.entry.Asked.{Asked}
 use Rattle.arp.specs.declared.packet.ArpPacket.{ArpPacket}
 use Rattle.arp.specs.Cache.{Cache, is_live, look, may_ask, after_age, after_ask}
 use Rattle.arp.specs.Events.{Event, moment_of, after_event}
-use Rattle.arp.proofs.Kept.{aging_hides_nothing, noted_while_live}
+use Rattle.arp.proofs.Kept.{aging_hides_nothing, noted_while_live, noted_at_once}
 use Rattle.interface.specs.declared.reply.Reply.{Reply}
 use Rattle.interface.specs.declared.reply.Reply.TheVariants.{Arp, Reset, Echo, Error}
 use Rattle.interface.specs.declared.reply.Waiting.{Waiting}
@@ -223,6 +223,15 @@ asked_once h now later to hop between may live order e =
     let refused : may_ask later hop (fold after_event (after_ask now hop h.cache) between).asked ≡ false = noted_while_live h.cache now later hop between may live order in
     let allowed : may_ask later hop (fold after_event (after_ask now hop h.cache) between).asked ≡ true =
     asks (record h { cache = fold after_event (after_ask now hop h.cache) between }) later to hop e in
+    absurd cc
+
+pub asked_at_once : (h : InterfaceView) (now : Moment) (to hop : Addr) (between : List Event)
+    → may_ask now hop h.cache.asked ≡ true → All (λ event. (moment_of event).0 ≤ now.0) between
+    → way (record h { cache = fold after_event (after_ask now hop h.cache) between }) now to ≢ Ask hop
+asked_at_once h now to hop between may order e =
+    let refused : may_ask now hop (fold after_event (after_ask now hop h.cache) between).asked ≡ false = noted_at_once h.cache now hop between may order in
+    let allowed : may_ask now hop (fold after_event (after_ask now hop h.cache) between).asked ≡ true =
+    asks (record h { cache = fold after_event (after_ask now hop h.cache) between }) now to hop e in
     absurd cc
 
 -- What goes out at a place, by the way of the reply there.

@@ -4,7 +4,7 @@ use Rattle.std.specs.List.{slice_get}
 use Rattle.ether.specs.declared.mac.Mac.{Mac}
 use Rattle.ipv4.specs.declared.addr.Addr.{Addr}
 use Rattle.clock.specs.declared.moment.Moment.{Moment}
-use Rattle.arp.specs.Cache.{after_ask}
+use Rattle.arp.specs.Cache.{after_ask, requests_left}
 use Rattle.arp.specs.Packet.{request_of}
 use Rattle.icmp.specs.Message.{spelling}
 use Rattle.icmp.specs.Sent.{echo_reply, error_for}
@@ -103,3 +103,8 @@ len_at h now place = len_of_one h now (slice_get h.replies place)
 -- what is left where it has gone out
 abbrev pub after_emission : InterfaceView → Moment → ℕ → InterfaceView
 after_emission h now place = left_by h now place (way_at h now place)
+
+-- how many frames may still go out at a moment, where nothing is heard and nothing begins to wait: one for each reply, and each request that may
+-- be sent, whatever it is for
+abbrev pub frames_left : InterfaceView → Moment → ℕ
+frames_left h now = length h.replies + requests_left now h.cache.asked

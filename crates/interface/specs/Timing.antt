@@ -48,7 +48,7 @@ after_tick h now = record h { cache = after_age now h.cache; replies = filter (s
 
 -- From when on something can be done again for what waits.
 
--- the moment from which a request for a neighbour may go out, where none may now and its MAC isn't known
+-- the moment from which a request for a neighbour may go out, where none may now and its MAC isn't known; none where no moment of the clock is left
 abbrev pub asked_until_over : Cache → Moment → Option Addr → Option Moment
 asked_until_over cache now None = None
 asked_until_over cache now (Some hop) = if is_some (look now hop cache) || may_ask now hop cache.asked then None else next_ask hop cache.asked

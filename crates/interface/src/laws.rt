@@ -1,6 +1,6 @@
 //! Laws of the definitions that the contracts of this crate cite: each is the contract of a function that does nothing.
 
-ghost use Rattle.std.specs.Prelude.{◌≡◌, ◌≢◌, ℕ, ◌+◌, ◌*◌, ◌<◌, ◌≤◌, ◌++◌, [], ◌∷◌, List, length, position, fold, All, Contains, IsTrue, IfSome, false, Option, Some, None, Ok};
+ghost use Rattle.std.specs.Prelude.{◌≡◌, ◌≢◌, ℕ, ◌+◌, ◌*◌, ◌^◌, ◌<◌, ◌≤◌, ◌++◌, [], ◌∷◌, List, length, position, fold, All, Contains, IsTrue, IfSome, false, Option, Some, None, Ok};
 ghost use Rattle.ether.specs.declared.mac.Mac.{Mac};
 ghost use Rattle.ipv4.specs.declared.limits.TheConstants.{PAYLOAD_IN_FRAME};
 ghost use Rattle.ipv4.specs.declared.addr.Addr.{Addr};
@@ -14,7 +14,7 @@ ghost use Rattle.clock.specs.declared.moment.Moment.{Moment};
 ghost use Rattle.arp.specs.declared.packet.ArpPacket.{ArpPacket};
 ghost use Rattle.arp.specs.declared.packet.Operation.TheVariants as operation;
 ghost use Rattle.arp.specs.declared.entry.Asked.{Asked};
-ghost use Rattle.arp.specs.Cache.{is_live, may_ask, after_age, after_ask, IsNextAsk};
+ghost use Rattle.arp.specs.Cache.{is_live, may_ask, after_age, after_ask, requests_left, IsNextAsk};
 ghost use Rattle.arp.specs.Waits.{next_ask};
 ghost use Rattle.arp.specs.Events.{Event, moment_of, after_event};
 ghost use Rattle.arp.specs.Packet.{HasWidths, request_of};
@@ -34,8 +34,8 @@ ghost use Rattle.interface.specs.Sound.{IsSound, IsSoundEcho, IsSoundError};
 ghost use Rattle.interface.specs.Routing.{pick, next_hop};
 ghost use Rattle.interface.specs.Ways.{hop_mac, knows_hop, way};
 ghost use Rattle.interface.specs.Replies.{is_due};
-ghost use Rattle.interface.specs.Emission.{asked, head_to, way_at, len_at, frame_at, after_emission, segment_frame_to, part_frame_to, request_frame, reply_frame};
-ghost use Rattle.interface.specs.Timing.{end_of, after_tick, deadline_of, least_deadline};
+ghost use Rattle.interface.specs.Emission.{asked, head_to, way_at, len_at, frame_at, after_emission, segment_frame_to, part_frame_to, request_frame, reply_frame, frames_left};
+ghost use Rattle.interface.specs.Timing.{end_of, after_tick, asked_until, deadline_of, least_deadline};
 
 /// The hop that a table of routes picks for an address is the one that `Routes::pick` answers (RFC 4632 section 5.1).
 pub fn one_route()
@@ -100,13 +100,28 @@ pub fn requests_hold_nothing_back()
         → after_emission h now place ≡ record h { cache = record { pairs = h.cache.pairs; asked = (after_ask now hop h.cache).asked } } }
 {}
 
-/// A neighbour is asked for only where a request for it may go out, and once it was asked for, not again within the second, whatever is
-/// heard, asked for or aged meanwhile (RFC 1122 section 2.3.2.1).
+/// A neighbour is asked for only where a request for it may go out, and once it was asked for, not again within the second, nor, at any moment
+/// of the clock, at the very moment of the request, whatever is heard, asked for or aged meanwhile (RFC 1122 section 2.3.2.1).
 pub fn asked_once_a_second()
     ensures allowed { (h : InterfaceView) (now : Moment) (to hop : Addr) → way h now to ≡ Ask hop → IsTrue (may_ask now hop h.cache.asked) }
     ensures once { (h : InterfaceView) (now later : Moment) (to hop : Addr) (between : List Event)
         → IsTrue (may_ask now hop h.cache.asked) → IsTrue (is_live 1000 later now) → All (λ event. (moment_of event).0 ≤ later.0) between
         → way (record h { cache = fold after_event (after_ask now hop h.cache) between }) later to ≢ Ask hop }
+    ensures moment { (h : InterfaceView) (now : Moment) (to hop : Addr) (between : List Event)
+        → IsTrue (may_ask now hop h.cache.asked) → All (λ event. (moment_of event).0 ≤ now.0) between
+        → way (record h { cache = fold after_event (after_ask now hop h.cache) between }) now to ≢ Ask hop }
+{}
+
+/// At any moment so many frames go out and no more, as `frames_left` counts: a reply that goes out leaves one reply fewer and as many requests, and
+/// a request one request fewer and as many replies, also where it stands in for a segment or a part of a datagram.
+pub fn frames_run_out()
+    ensures reply { (h : InterfaceView) (now : Moment) (place : ℕ) (mac : Mac) → way_at h now place ≡ To mac
+        → let left = after_emission h now place in (length left.replies + 1 ≡ length h.replies) × (requests_left now left.cache.asked ≡ requests_left now h.cache.asked) }
+    ensures request { (h : InterfaceView) (now : Moment) (place : ℕ) (hop : Addr) → way_at h now place ≡ Ask hop
+        → let left = after_emission h now place in (length left.replies ≡ length h.replies) × (requests_left now left.cache.asked + 1 ≡ requests_left now h.cache.asked) }
+    ensures asked { (h : InterfaceView) (now : Moment) (to hop : Addr) → way h now to ≡ Ask hop
+        → let left = asked h now hop in (length left.replies ≡ length h.replies) × (requests_left now left.cache.asked + 1 ≡ requests_left now h.cache.asked) }
+    ensures fewer { (h : InterfaceView) (now : Moment) (place : ℕ) → way_at h now place ≢ Waits → frames_left (after_emission h now place) now + 1 ≡ frames_left h now }
 {}
 
 /// The deadline is one of those of the replies that wait, and none of theirs comes before it; there is none where none of them has one. From
@@ -116,6 +131,14 @@ pub fn deadlines_are_the_least()
         → ((w : Waiting) × Contains h.replies w × (deadline_of h now w ≡ Some m)) × All (λ w. IfSome (deadline_of h now w) (λ other. m.0 ≤ other.0)) h.replies }
     ensures none { (h : InterfaceView) (now : Moment) → least_deadline h now ≡ None → All (λ w. deadline_of h now w ≡ None) h.replies }
     ensures asked { (hop : Addr) (asked : List Asked) → length asked ≤ 64 → IsNextAsk hop asked (next_ask hop asked) }
+{}
+
+/// The moment from which a hop may be asked for again lies ahead, and there is one only for what waits. For what waits there is one, as long as a
+/// route leads on; or else no request may go out at any moment of the clock, since one of its last moment stands in the way.
+pub fn requests_lie_ahead()
+    ensures ahead { (h : InterfaceView) (now m : Moment) (to : Addr) → length h.cache.asked ≤ 64 → asked_until h now to ≡ Some m → (way h now to ≡ Waits) × (now.0 < m.0) }
+    ensures never { (h : InterfaceView) (now later : Moment) (to hop : Addr) → length h.cache.asked ≤ 64 → later.0 < 2 ^ 64
+        → way h now to ≡ Waits → next_hop h.routes to ≡ Some hop → asked_until h now to ≡ None → may_ask later hop h.cache.asked ≡ false }
 {}
 
 /// A frame that goes out is heard, where it is for, as the very packet, segment, message, UDP datagram or fragment of one that is meant (RFC

@@ -26,7 +26,8 @@ impl Interface {
     }
 
     /// The least moment at which a tick may drop a reply, or a request that one waits for may go out. A reply counts while its next hop
-    /// isn't known at `now`: with the end of its 3,000 ms, and, where no request may go out now, with the moment from which one may.
+    /// isn't known at `now`: with the end of its 3,000 ms, and, where no request may go out now, with the moment from which one may,
+    /// where there is one.
     pub fn deadline(&self, now: Moment) -> Option<Moment>
         ensures { result ≡ least_deadline self.now now }
     {
@@ -36,7 +37,7 @@ impl Interface {
     }
 
     /// The moment from which a request for the next hop to an address may go out, where none may now and its MAC isn't known (RFC 1122
-    /// section 2.3.2.1).
+    /// section 2.3.2.1). It lies behind `now`; there is none where a request of the clock's last moment stands in the way.
     pub fn asked_until(&self, now: Moment, to: Addr) -> Option<Moment>
         ensures { result ≡ asked_until self.now now to }
     {
