@@ -90,7 +90,8 @@ pub fn datagrams_are_given_up_in_time()
 
 /// Whatever befalls a socket whose datagrams go out from one endpoint, what goes out is one datagram behind the other, never two mixed:
 /// the fragments of one in order, all of them, before the first of the next, but where it was given up on its way, or overtaken by one to
-/// another hop, and then it begins anew, or where it is the one that goes out now. All the fragments of a datagram carry its spelling (RFC 768, RFC 791 section 3.2).
+/// another hop, and then it begins anew, or where it is the one that goes out now. All the fragments of a datagram carry its spelling
+/// (RFC 768, RFC 791 section 3.2).
 pub fn goes_out_whole()
     ensures runs { (source : Endpoint) (events : List Event) → AllByRecursion (IsFrom source) events
         → gathered gone_out new_socket events ≡ flat_map (pieces_of source) (gathered left new_socket events ++ begun (after_events new_socket events)) }
