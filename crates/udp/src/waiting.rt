@@ -205,6 +205,7 @@ pub fn bring_range_forward<T>(ring: &mut HeapCircularBuffer<T>, at: usize, count
 }
 
 /// Moves `count` items from the place `at` on before the others.
+#[tactic(auto, using(crate::proofs::Forward::turned_below))]
 fn turn_forward<T>(items: &mut [T], at: usize, count: usize)
     requires { at + count ≤ length items.old }
     ensures after { items.new ≡ slice_range items.old at (at + count) ++ remove_range items.old at (at + count) }

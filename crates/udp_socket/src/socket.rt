@@ -118,6 +118,7 @@ impl UdpSocket {
 
     /// The endpoint that the outgoing datagram in this place is for: the first has place 0, and the others stand behind it in order. None
     /// where fewer are to go out.
+    #[tactic(auto, using(crate::proofs::Places::peer_stored))]
     pub fn peer_at(&self, place: usize) -> Option<Endpoint>
         ensures { result ≡ peer_at place self.now.outbox }
     {
