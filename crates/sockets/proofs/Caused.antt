@@ -3,6 +3,7 @@ use Rattle.std.proofs.Common.{◌≡◌, inl, inr, ◌&&◌, ◌||◌, not, Bool
 use Rattle.std.proofs.lemmas.Grind.{common_steps}
 use Rattle.std.specs.List.{find}
 use Rattle.std.proofs.lemmas.Bool.{and_from}
+use Rattle.ipv4.specs.declared.addr.Addr.{Addr}
 use Rattle.ipv4.specs.declared.addr.Endpoint.{Endpoint}
 use Rattle.clock.specs.declared.moment.Moment.{Moment}
 use Rattle.tcp_state.specs.declared.connection.Fate.{Fate}
@@ -30,6 +31,7 @@ use Rattle.sockets.specs.Arrival.{local_end, peer_end}
 use Rattle.sockets.specs.Sound.{IsSoundConnection, IsSoundRole, IsSoundTable}
 use Rattle.sockets.specs.Causes.{Event, after_event, is_close_cause, is_cause_for, is_closed_state, IsEdge, reports_to, is_next_out, IsAdded, IsStep, Follows}
 use Rattle.sockets.proofs.Ends.{eqb-same, same_end-same}
+use Rattle.sockets.proofs.Emitting.{segment_sends}
 use Rattle.sockets.proofs.Opened.{found_passes}
 use Rattle.sockets.proofs.Followed.{IsNothing, by_test, joined_by, follows_map}
 use Rattle.sockets.proofs.Steps.{IsEventOf, closes_it, aborts_it, ticks_it, comes_to_it, goes_out, tells_it, entry, IsStepOf, stays, moves, ends, binds, listens, opens, accepted, requeues, binds_datagrams, closed, given_up, IsJoining, made, made_datagrams, called, IsStepped, followed, joined, stepped}
@@ -86,8 +88,8 @@ tick_caused c now removed =
 -- What causes an end of a connection, or an error, is a cause for its entry.
 
 -- the first that sends is what goes out
-next_out : (h : SocketsView) (goes : Entry → Bool) (x : Entry) → find (sends goes) h.entries ≡ Some x → is_next_out h goes x ≡ true
-next_out h goes x found = rw found (eqb-same x.id.0)
+comes_next : (h : SocketsView) (goes : Addr → Bool) (x : Entry) → find (sends goes) h.entries ≡ Some x → is_next_out h goes x ≡ true
+comes_next h goes x found = rw found (eqb-same x.id.0)
 
 module _ (h : SocketsView) (id : SocketId) (c : View) (l : Option SocketId) where
   cause_for : (e : Event) (ev : edge.Event) → IsEventOf h (entry id (Connected c l)) e ev → edge.is_cause c ev ≡ true → is_cause_for h e (entry id (Connected c l)) ≡ true
@@ -95,7 +97,7 @@ module _ (h : SocketsView) (id : SocketId) (c : View) (l : Option SocketId) wher
   cause_for _ _ (aborts_it named waits) cause = or_right (is_socket named (entry id (Connected c l)) && is_close_cause h.kept (Connected c l)) _ waits
   cause_for _ _ (ticks_it now) cause = cause
   cause_for _ _ (comes_to_it now isn source s between) cause = both _ _ between cause
-  cause_for _ _ (goes_out goes now found) cause = both _ _ (next_out h goes (entry id (Connected c l)) found) cause
+  cause_for _ _ (goes_out goes now found) cause = both _ _ (comes_next h goes (entry id (Connected c l)) found) cause
   cause_for _ _ (tells_it local peer number between) cause = both _ _ between cause
   cause_for _ _ _ cause = cc
 
@@ -110,7 +112,7 @@ module _ (h : SocketsView) (id : SocketId) (c : View) (l : Option SocketId) wher
       caused _ _ (aborts_it named waits) removed = refl
       caused _ _ (ticks_it now) removed = tick_caused c (later_moment h now) removed
       caused _ _ (comes_to_it now isn source s between) removed = removed_caused c (edge.Hears s (later_moment h now)) (live (local_end h s) (peer_end source s) between) removed
-      caused _ _ (goes_out goes now found) removed = removed_caused c (edge.Emits (later_moment h now)) (due_not_over c sound.sound (and_left _ _ (found_passes (sends goes) h.entries (entry id (Connected c l)) found))) removed
+      caused _ _ (goes_out goes now found) removed = removed_caused c (edge.Emits (later_moment h now)) (due_not_over c sound.sound (segment_sends goes c l (found_passes (sends goes) h.entries (entry id (Connected c l)) found))) removed
       caused _ _ (tells_it local peer number between) removed = removed_caused c (edge.Unreachable number) (live local peer between) removed
       caused _ _ _ removed = cc
 

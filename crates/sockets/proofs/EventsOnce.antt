@@ -14,6 +14,7 @@ use Rattle.tcp_state.proofs.Edges.{and_right}
 use Rattle.tcp_state.proofs.Unchanged.{rejected_leaves_at}
 use Rattle.sockets.specs.declared.entry.SocketId.{SocketId}
 use Rattle.sockets.specs.declared.entry.Entry.{Entry}
+use Rattle.sockets.specs.declared.emission.Outgoing.{Outgoing}
 use Rattle.sockets.specs.declared.role.Role.{Role}
 use Rattle.sockets.specs.declared.role.Role.TheVariants.{Idle, Listener, Connected, Datagrams}
 use Rattle.sockets.specs.Lists.{change_first}
@@ -22,7 +23,6 @@ use Rattle.sockets.specs.Entries as role
 use Rattle.sockets.specs.SocketsView.{SocketsView, later_moment}
 use Rattle.sockets.specs.Lost.{is_given_up, give_up_fate_of, role_after_giving_up}
 use Rattle.sockets.specs.Calls.{after_socket_closed, after_close}
-use Rattle.sockets.specs.Emission.{after_segment_sent}
 use Rattle.sockets.specs.Arrival.{local_end, peer_end, arrival_with_reply}
 use Rattle.sockets.specs.Causes.{Event, Makes, MakesDatagrams, Binds, Listens, Accepts, Connects, Sends, Receives, Shuts, Closes, Ticks, Hears, Emits, GivesUp, Unreachable, SendsTo, ReceivesFrom, HearsDatagram, after_arrival, after_event, is_next_out, IsAdded, Follows}
 use Rattle.sockets.specs.Steps.{connected, closes_socket, remains, changes, closes, IsLeft, IsOneEvent}
@@ -30,7 +30,7 @@ use Rattle.sockets.specs.Order.{IsOrdered}
 use Rattle.sockets.proofs.Arrivals.{by_arrival, IsReply, refusing, to_stray, at_listener}
 use Rattle.sockets.proofs.Caused.{joining_added}
 use Rattle.sockets.proofs.Closed.{closed-found}
-use Rattle.sockets.proofs.Emitting.{segment_sent-found}
+use Rattle.sockets.proofs.Emitting.{found_due, segment_sent-found, segment_sent-none}
 use Rattle.sockets.proofs.Ends.{eqb-same}
 use Rattle.sockets.proofs.Opened.{found_passes}
 use Rattle.sockets.proofs.OfferCounts.{by_option}
@@ -213,15 +213,17 @@ told_once h local peer number o =
 
 -- What goes out is one entry's.
 
-emits_once : (h : SocketsView) (goes : Entry → Bool) (now : Moment) → IsOrdered h → Follows (IsOneEvent h (Emits goes now)) IsNothing h.entries (let w = after_event h (Emits goes now) in w.entries)
+emits_once : (h : SocketsView) (goes : Addr → Bool) (now : Moment) → IsOrdered h → Follows (IsOneEvent h (Emits goes now)) IsNothing h.entries (let w = after_event h (Emits goes now) in w.entries)
 emits_once h goes now o =
     by_option (find (sends goes) h.entries)
-    (λ none. let same : after_segment_sent h goes now ≡ h = rw none refl in subst P (sym same) (as_it_was (IsOneEvent h e) IsNothing refl (λ x. passed h e (λ y l. (refl, refl)) x (rw none refl) refl) h.entries))
+    (λ none. subst P (sym (segment_sent-none h goes now none)) (as_it_was (IsOneEvent h e) IsNothing refl (λ x. passed h e (λ y l. (refl, refl)) x (rw none refl) refl) h.entries))
     (λ first found.
     let next : is_next_out h goes first ≡ true = rw found (eqb-same first.id.0) in
-    subst P (sym (segment_sent-found h goes now first found))
+    let due = found_due h goes first found in
+    let what : Outgoing = due.0.1 in
+    subst P (sym (segment_sent-found h goes now first due.0 found due.1))
     (once_settled (IsOneEvent h e) (is_next_out h goes) (passed_over h e (λ x l. (refl, refl)) (λ x. refl) (is_next_out h goes) (λ x other. rw other refl)) (sends goes) first next
-    (role.emission_fate_of (role.role_after_emission later first.role)) (role.role_after_emission later) (going first.id first.role next) (gone first.id first.role next) h.entries found
+    (role.emission_fate_of (role.role_after_emission later what first.role)) (role.role_after_emission later what) (going what first.id first.role next) (gone what first.id first.role next) h.entries found
     (ids_once first.id.0 (is_next_out h goes) (λ x passes. let same : (first.id.0 == x.id.0) ≡ true = rw found at passes in sym (eqb-true first.id.0 x.id.0 same)) 0 h.last_id h.entries o.ids)))
   where
     e : Event
@@ -233,15 +235,15 @@ emits_once h goes now o =
     P : SocketsView → Type 0
     P w = Follows (IsOneEvent h e) IsNothing h.entries w.entries
 
-    going : (id : SocketId) (r : Role) → is_next_out h goes (entry id r) ≡ true → is_kept (role.emission_fate_of (role.role_after_emission later r)) ≡ true → IsLeft h e id r (Some (entry id (role.role_after_emission later r)))
-    going id (Connected c l) next kept = took h e (λ x k. (refl, refl)) (edge.Emits later) (λ (d : View). edge.after_event d (edge.Emits later)) (λ d. refl) (connected id c l) (rw next refl) kept refl
-    going id (Idle buffers bound) next kept = remains refl
-    going id (Listener l b) next kept = remains refl
-    going id (Datagrams bound queues) next kept = changes (entry id (Datagrams bound (after_part queues))) refl refl next
+    going : (what : Outgoing) (id : SocketId) (r : Role) → is_next_out h goes (entry id r) ≡ true → is_kept (role.emission_fate_of (role.role_after_emission later what r)) ≡ true → IsLeft h e id r (Some (entry id (role.role_after_emission later what r)))
+    going what id (Connected c l) next kept = took h e (λ x k. (refl, refl)) (edge.Emits later) (λ (d : View). edge.after_event d (edge.Emits later)) (λ d. refl) (connected id c l) (rw next refl) kept refl
+    going what id (Idle buffers bound) next kept = remains refl
+    going what id (Listener l b) next kept = remains refl
+    going what id (Datagrams bound queues) next kept = changes (entry id (Datagrams bound (after_part (role.with_first what queues)))) refl refl next
 
-    gone : (id : SocketId) (r : Role) → is_next_out h goes (entry id r) ≡ true → is_kept (role.emission_fate_of (role.role_after_emission later r)) ≡ false → IsLeft h e id r None
-    gone id (Connected c l) next removed = taken_out h e (λ x k. (refl, refl)) (edge.Emits later) (connected id c l) (rw next refl) removed
-    gone id _ next removed = cc
+    gone : (what : Outgoing) (id : SocketId) (r : Role) → is_next_out h goes (entry id r) ≡ true → is_kept (role.emission_fate_of (role.role_after_emission later what r)) ≡ false → IsLeft h e id r None
+    gone what id (Connected c l) next removed = taken_out h e (λ x k. (refl, refl)) (edge.Emits later) (connected id c l) (rw next refl) removed
+    gone what id _ next removed = cc
 
 -- Every event.
 

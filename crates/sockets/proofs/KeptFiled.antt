@@ -12,6 +12,7 @@ use Rattle.tcp_state.specs.View.{View}
 use Rattle.udp_socket.specs.SocketView.{SocketView as Queues}
 use Rattle.sockets.specs.declared.entry.SocketId.{SocketId}
 use Rattle.sockets.specs.declared.entry.Entry.{Entry}
+use Rattle.sockets.specs.declared.emission.Outgoing.{Outgoing}
 use Rattle.sockets.specs.declared.index.Filed.{Filed}
 use Rattle.sockets.specs.declared.role.Role.{Role}
 use Rattle.sockets.specs.declared.role.Role.TheVariants.{Idle, Connected, Datagrams}
@@ -64,9 +65,9 @@ filed-close now r = filed-changed _ (edge.Closes now) (λ c. inr refl) r
 pub filed-listener_close : (now : Moment) (listener : SocketId) (r : Role) → IsFiledAs r (role_after_listener_close now listener r)
 filed-listener_close now listener r id = by_test (waits_at listener r) (λ waits. rw waits (filed-changed _ (edge.Aborts now) (λ c. inr refl) r id)) (λ other. rw other refl)
 
-pub filed-emission : (now : Moment) (r : Role) → IsFiledAs r (role_after_emission now r)
-filed-emission now (Connected c l) id = filed-kept c _ l l (keeps-event c (edge.Emits now)) id
-filed-emission now _ id = refl
+pub filed-emission : (now : Moment) (what : Outgoing) (r : Role) → IsFiledAs r (role_after_emission now what r)
+filed-emission now what (Connected c l) id = filed-kept c _ l l (keeps-event c (edge.Emits now)) id
+filed-emission now what _ id = refl
 
 pub filed-bind : (local : Endpoint) (r : Role) → IsFiledAs r (role_after_bind local r)
 filed-bind local (Idle buffers bound) id = refl

@@ -18,6 +18,7 @@ use Rattle.tcp_state.specs.Unreachable.{after_unreachable}
 use Rattle.tcp_halves.proofs.Choices.{either, and_left, and_right}
 use Rattle.tcp_state.proofs.Clocked.{timers_keep, emission}
 use Rattle.sockets.specs.declared.entry.SocketId.{SocketId}
+use Rattle.sockets.specs.declared.emission.Outgoing.{Outgoing}
 use Rattle.sockets.specs.declared.role.Role.{Role}
 use Rattle.sockets.specs.declared.role.Role.TheVariants.{Idle, Listener, Connected, Datagrams}
 use Rattle.sockets.specs.Entries.{on_connection, on_datagrams, is_pending, has_socket, waits_at, is_in_syn_received, backlog_of, is_kept, role_after_bind, role_after_listen, role_after_connect, role_after_accept, role_after_tick, tick_fate_of, role_after_unreachable, unreachable_fate_of, role_after_listener_close, listener_close_fate_of, role_after_emission, emission_fate_of}
@@ -219,13 +220,13 @@ emitted v (Some due) now = elim (emission v due now) [
   | inr kept ↦ subst (IsUnmoved v) (sym kept) (same v, refl)
 ]
 
-pub emission-stays : (now : Moment) (r : Role) → IsPlain r → StaysReady r (role_after_emission now r)
-emission-stays now (Datagrams bound queues) p = quiet (Datagrams bound queues) (role_after_emission now (Datagrams bound queues)) refl refl (omega arith)
-emission-stays now r p = stays-by (λ c. after_first c (first_due c) now) r (λ c l is q. unmoved c _ (emitted c (first_due c) now) q) p
+pub emission-stays : (now : Moment) (what : Outgoing) (r : Role) → IsPlain r → StaysReady r (role_after_emission now what r)
+emission-stays now what (Datagrams bound queues) p = quiet (Datagrams bound queues) (role_after_emission now what (Datagrams bound queues)) refl refl (omega arith)
+emission-stays now what r p = stays-by (λ c. after_first c (first_due c) now) r (λ c l is q. unmoved c _ (emitted c (first_due c) now) q) p
 
 -- taken out is one that is over, and was left
-pub emission-gone : (now : Moment) (r : Role) → is_kept (emission_fate_of (role_after_emission now r)) ≡ false → IsPlain r → is_ready r ≡ false
-emission-gone now r gone p = gone-by r (λ c l is q. over-left c (after_first c (first_due c) now) (emitted c (first_due c) now).0 (rw is at gone)) p
+pub emission-gone : (now : Moment) (what : Outgoing) (r : Role) → is_kept (emission_fate_of (role_after_emission now what r)) ≡ false → IsPlain r → is_ready r ≡ false
+emission-gone now what r gone p = gone-by r (λ c l is q. over-left c (after_first c (first_due c) now) (emitted c (first_due c) now).0 (rw is at gone)) p
 
 -- Resets and datagrams that are given up.
 

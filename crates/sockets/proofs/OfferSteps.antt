@@ -17,6 +17,7 @@ use Rattle.sockets.specs.declared.datagrams.Reception.{Reception}
 use Rattle.sockets.specs.declared.datagrams.Reception.TheVariants.{Queued}
 use Rattle.sockets.specs.declared.entry.SocketId.{SocketId}
 use Rattle.sockets.specs.declared.entry.Entry.{Entry}
+use Rattle.sockets.specs.declared.emission.Outgoing.{Outgoing}
 use Rattle.sockets.specs.declared.role.Role.{Role}
 use Rattle.sockets.specs.Entries.{is_socket, waits_at, is_waiting_at, is_waiting_as, is_waiting_id, backlog_of, is_between, is_listening_at, sends, is_kept, is_offered_by, entries_after_step, entries_after_steps, fate_of, role_after_segment, role_after_unreachable, unreachable_fate_of, role_after_tick, tick_fate_of, role_after_emission, emission_fate_of, role_after_listener_close, listener_close_fate_of, role_after_close, close_fate_of, role_after_bind, role_after_listen, role_after_connect, role_after_accept, new_socket, new_datagram_socket, new_waiting, on_connection, on_datagrams, is_datagrams_at, with_role}
 use Rattle.sockets.specs.SocketsView.{SocketsView, later_moment, with_socket}
@@ -35,6 +36,7 @@ use Rattle.sockets.proofs.Followed.{IsNothing, by_test, some_same, as_it_was, fi
 use Rattle.sockets.proofs.Arrivals.{IsTaker, after_taking, by_arrival}
 use Rattle.sockets.proofs.Opened.{found_passes}
 use Rattle.sockets.proofs.OfferCounts.{by_option, same-id}
+use Rattle.sockets.proofs.Emitting.{found_due, segment_sent-found, segment_sent-none}
 use Rattle.sockets.proofs.OfferRoles.{IsPlain, is_waking, Carries, Turned, StaysReady, as-it-was, socket-stays, socket-unready, bound-stays, listening-stays, connecting-stays, queued-stays, tick-stays, tick-gone, emission-stays, emission-gone, give_up-stays, give_up-gone, told-stays, told-gone, forsaken-withdrawn, forsaken-gone, accepted-carries}
 use Rattle.sockets.proofs.OfferHeard.{heard-stays, heard-carries, heard-gone, offered-waking, offered-kept, offered-ready}
 
@@ -200,13 +202,16 @@ datagram-outcome h source d = by_reception (reception h d) refl
     by_reception Queued given = rw given (still h _ refl refl (changed (is_datagrams_at d.destination) (on_datagrams _ _) h.entries (λ x passes. queued-stays _ _ x.role)))
     by_reception _ given = rw given (nothing-happens h)
 
-emission-outcome : (h : SocketsView) (goes : Entry → Bool) (now : Moment) → Outcome h (after_segment_sent h goes now)
+emission-outcome : (h : SocketsView) (goes : Addr → Bool) (now : Moment) → Outcome h (after_segment_sent h goes now)
 emission-outcome h goes now =
-    by_option (find (sends goes) h.entries) (λ none. rw none (nothing-happens h))
+    by_option (find (sends goes) h.entries) (λ none. subst (Outcome h) (sym (segment_sent-none h goes now none)) (nothing-happens h))
     (λ e found.
     let later = later_moment h now in
-    rw found (still h _ refl refl (settled (sends goes) (λ r. emission_fate_of (role_after_emission later r)) (role_after_emission later) h.entries e found
-    (λ x passes kept same. emission-stays later x.role) (λ x passes gone. emission-gone later x.role gone))))
+    let due = found_due h goes e found in
+    let what : Outgoing = due.0.1 in
+    subst (Outcome h) (sym (segment_sent-found h goes now e due.0 found due.1))
+    (still h _ refl refl (settled (sends goes) (λ r. emission_fate_of (role_after_emission later what r)) (role_after_emission later what) h.entries e found
+    (λ x passes kept same. emission-stays later what x.role) (λ x passes gone. emission-gone later what x.role gone))))
 
 error-outcome : (h : SocketsView) (local peer : Endpoint) (number : ℕ) → Outcome h (after_unreachable h local peer number)
 error-outcome h local peer number =

@@ -24,9 +24,10 @@ use Rattle.sockets.specs.declared.datagrams.Reception.{Reception}
 use Rattle.sockets.specs.declared.datagrams.Reception.TheVariants.{Queued, NoRoom, NoSocket}
 use Rattle.sockets.specs.declared.entry.SocketId.{SocketId}
 use Rattle.sockets.specs.declared.entry.Entry.{Entry}
+use Rattle.sockets.specs.declared.emission.Outgoing.{Outgoing}
 use Rattle.sockets.specs.declared.role.Role.{Role}
 use Rattle.sockets.specs.declared.role.Role.TheVariants.{Idle, Listener, Connected, Datagrams}
-use Rattle.sockets.specs.Entries.{on_connection, in_connection, on_datagrams, is_socket, waits_at, is_waiting_at, is_waiting_id, is_between, sends, new_socket, new_datagram_socket, new_waiting, is_kept, entries_after_step, entries_after_steps, role_after_bind, role_after_listen, role_after_connect, role_after_accept, role_after_close, close_fate_of, role_after_listener_close, listener_close_fate_of, role_after_tick, tick_fate_of, role_after_emission, emission_fate_of, is_datagrams_at, with_role}
+use Rattle.sockets.specs.Entries.{on_connection, in_connection, on_datagrams, is_socket, waits_at, is_waiting_at, is_waiting_id, is_between, sends, new_socket, new_datagram_socket, new_waiting, is_kept, entries_after_step, entries_after_steps, role_after_bind, role_after_listen, role_after_connect, role_after_accept, role_after_close, close_fate_of, role_after_listener_close, listener_close_fate_of, role_after_tick, tick_fate_of, with_first, role_after_emission, emission_fate_of, is_datagrams_at, with_role}
 use Rattle.sockets.specs.SocketsView.{SocketsView, later_moment, role_of, with_socket}
 use Rattle.sockets.specs.Lists.{change_first}
 use Rattle.sockets.specs.Lost.{is_given_up, role_after_giving_up, give_up_fate_of}
@@ -39,7 +40,7 @@ use Rattle.sockets.specs.Causes.{Event, Makes, MakesDatagrams, Binds, Listens, A
 use Rattle.sockets.specs.Timing.{IsUpTo}
 use Rattle.sockets.specs.Traffic.{datagrams_taken}
 use Rattle.sockets.proofs.Arrivals.{IsCalled, by_arrival}
-use Rattle.sockets.proofs.Emitting.{segment_sent-found}
+use Rattle.sockets.proofs.Emitting.{found_due, segment_sent-found, segment_sent-none}
 use Rattle.sockets.proofs.Queues.{sendto-refused, sendto-given, queued-change, no_room-same, no_socket-same}
 use Rattle.sockets.proofs.Told.{told-found, told-none}
 use Rattle.sockets.proofs.Followed.{IsNothing, by_test, some_same, as_it_was, first_changed, each_followed, settled_followed, steps_joined}
@@ -54,7 +55,7 @@ pub data IsEventOf (h : SocketsView) (x : Entry) : Event → edge.Event → Type
   aborts_it : (id : SocketId) → is_waiting_at id x ≡ true → IsEventOf h x (Closes id) (edge.Aborts h.kept)
   ticks_it : (now : Moment) → IsEventOf h x (Ticks now) (edge.Ticks (later_moment h now))
   comes_to_it : (now : Moment) (isn : ℕ) (source : Addr) (s : Segment) → is_between (local_end h s) (peer_end source s) x ≡ true → IsEventOf h x (Hears now isn source s) (edge.Hears s (later_moment h now))
-  goes_out : (goes : Entry → Bool) (now : Moment) → find (sends goes) h.entries ≡ Some x → IsEventOf h x (Emits goes now) (edge.Emits (later_moment h now))
+  goes_out : (goes : Addr → Bool) (now : Moment) → find (sends goes) h.entries ≡ Some x → IsEventOf h x (Emits goes now) (edge.Emits (later_moment h now))
   tells_it : (local peer : Endpoint) (number : ℕ) → is_between local peer x ≡ true → IsEventOf h x (Unreachable local peer number) (edge.Unreachable number)
 
 -- an entry by its two parts
@@ -358,30 +359,32 @@ segment_stepped h now isn source s =
 
 -- Something goes out.
 
-emission_stepped : (h : SocketsView) (goes : Entry → Bool) (now : Moment) → IsStepped h (Emits goes now) (after_segment_sent h goes now)
+emission_stepped : (h : SocketsView) (goes : Addr → Bool) (now : Moment) → IsStepped h (Emits goes now) (after_segment_sent h goes now)
 emission_stepped h goes now = by_entry (find (sends goes) h.entries) refl
   where
     later : Moment
     later = later_moment h now
 
-    going : (id : SocketId) (role : Role) → IsEventOf h (entry id role) (Emits goes now) (edge.Emits later) → is_kept (emission_fate_of (role_after_emission later role)) ≡ true → IsStepOf h (Emits goes now) (entry id role) (Some (entry id (role_after_emission later role)))
-    going id (Connected c l) meets kept = moves (edge.Emits later) id c l meets kept
-    going id (Datagrams before queues) meets kept = requeues id before queues (after_part queues)
-    going id _ meets kept = stays
+    going : (what : Outgoing) (id : SocketId) (role : Role) → IsEventOf h (entry id role) (Emits goes now) (edge.Emits later) → is_kept (emission_fate_of (role_after_emission later what role)) ≡ true → IsStepOf h (Emits goes now) (entry id role) (Some (entry id (role_after_emission later what role)))
+    going what id (Connected c l) meets kept = moves (edge.Emits later) id c l meets kept
+    going what id (Datagrams before queues) meets kept = requeues id before queues (after_part (with_first what queues))
+    going what id _ meets kept = stays
 
-    gone_out : (id : SocketId) (role : Role) → IsEventOf h (entry id role) (Emits goes now) (edge.Emits later) → is_kept (emission_fate_of (role_after_emission later role)) ≡ false → IsStepOf h (Emits goes now) (entry id role) None
-    gone_out id (Connected c l) meets gone = ends (edge.Emits later) id c l meets (gone_removed _ gone)
-    gone_out id _ meets gone = cc
+    gone_out : (what : Outgoing) (id : SocketId) (role : Role) → IsEventOf h (entry id role) (Emits goes now) (edge.Emits later) → is_kept (emission_fate_of (role_after_emission later what role)) ≡ false → IsStepOf h (Emits goes now) (entry id role) None
+    gone_out what id (Connected c l) meets gone = ends (edge.Emits later) id c l meets (gone_removed _ gone)
+    gone_out what id _ meets gone = cc
 
     by_entry : (o : Option Entry) → find (sends goes) h.entries ≡ o → IsStepped h (Emits goes now) (after_segment_sent h goes now)
-    by_entry None found = rw found (unchanged h (Emits goes now) refl)
+    by_entry None found = subst (IsStepped h (Emits goes now)) (sym (segment_sent-none h goes now found)) (unchanged h (Emits goes now) refl)
     by_entry (Some first) found =
-        let fate : Entry → Fate = λ x. emission_fate_of (role_after_emission later x.role) in
-        subst (IsStepped h (Emits goes now)) (sym (segment_sent-found h goes now first found))
+        let due = found_due h goes first found in
+        let what : Outgoing = due.0.1 in
+        let fate : Entry → Fate = λ x. emission_fate_of (role_after_emission later what x.role) in
+        subst (IsStepped h (Emits goes now)) (sym (segment_sent-found h goes now first due.0 found due.1))
         (plain h (Emits goes now) _ _ refl
-        (settled_followed (IsStepOf h (Emits goes now)) IsNothing refl (fate first) (sends goes) (role_after_emission later) h.entries (λ x. stays)
-        (λ kept x passes at. going x.id x.role (goes_out goes now at) (ap (λ y. is_kept (fate y)) (some_same _ x first at found) ∙ kept))
-        (λ gone x passes at. gone_out x.id x.role (goes_out goes now at) (ap (λ y. is_kept (fate y)) (some_same _ x first at found) ∙ gone))))
+        (settled_followed (IsStepOf h (Emits goes now)) IsNothing refl (fate first) (sends goes) (role_after_emission later what) h.entries (λ x. stays)
+        (λ kept x passes at. going what x.id x.role (goes_out goes now at) (ap (λ y. is_kept (fate y)) (some_same _ x first at found) ∙ kept))
+        (λ gone x passes at. gone_out what x.id x.role (goes_out goes now at) (ap (λ y. is_kept (fate y)) (some_same _ x first at found) ∙ gone))))
 
 giving_up : (h : SocketsView) (lost : Addr → Bool) (now later : Moment) (id : SocketId) (role : Role) → IsStepOf h (GivesUp lost now) (entry id role) (Some (entry id (role_after_giving_up lost later role)))
 giving_up h lost now later id (Datagrams before queues) = requeues id before queues _

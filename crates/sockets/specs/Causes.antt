@@ -41,7 +41,7 @@ pub data Event : Type 0 where
   Closes : SocketId → Event
   Ticks : Moment → Event
   Hears : Moment → ℕ → Addr → Segment → Event
-  Emits : (Entry → Bool) → Moment → Event
+  Emits : (Addr → Bool) → Moment → Event
   GivesUp : (Addr → Bool) → Moment → Event
   Unreachable : Endpoint → Endpoint → ℕ → Event
   SendsTo : SocketId → Endpoint → List ℕ → Bool → Event
@@ -79,8 +79,8 @@ after_event h (HearsDatagram source d) = after_reception h source d
 abbrev pub is_connection_cause : edge.Event → Role → Bool
 is_connection_cause e role = in_connection false (λ c. edge.is_cause c e) role
 
--- it is what goes out: of the entries that have a segment due and may send it, it is the first
-abbrev pub is_next_out : SocketsView → (Entry → Bool) → Entry → Bool
+-- it is what goes out: of the entries that have something due to an address that passes, it is the first
+abbrev pub is_next_out : SocketsView → (Addr → Bool) → Entry → Bool
 is_next_out h goes x = of_entry (find (sends goes) h.entries)
   where
     of_entry : Option Entry → Bool

@@ -1,6 +1,6 @@
 -- The entries of the table: sockets, and connections that no socket names, not yet or no longer.
 use Rattle.std.specs.List.{retain_mut, list_any}
-use Rattle.std.specs.Prelude.{◌≡◌, ◌<◌, length, ℕ, Bool, true, false, ◌&&◌, ◌||◌, not, ◌==◌, [], if◌then◌else◌, List, ◌++◌, drop, Option, Some, None, option_map, is_some, slice_get}
+use Rattle.std.specs.Prelude.{◌≡◌, ◌<◌, length, ℕ, Bool, true, false, ◌&&◌, ◌||◌, not, ◌==◌, [], if◌then◌else◌, List, ◌∷◌, ◌++◌, ◌+◌, drop, find, Option, Some, None, option_map, is_some, slice_get}
 use Rattle.ipv4.specs.declared.addr.Addr.{Addr}
 use Rattle.ipv4.specs.declared.addr.Endpoint.{Endpoint}
 use Rattle.ipv4.specs.declared.addr.Pair.{Pair}
@@ -123,33 +123,33 @@ shown_state (Datagrams bound socket) = Datagram
 abbrev pub deadline_of : Role → Option Moment
 deadline_of role = in_connection None deadline role
 
--- a segment is due, or a datagram waits to go out
-abbrev pub has_due : Role → Bool
-has_due (Connected c listener) = is_some (first_due c)
-has_due (Datagrams bound socket) = is_some (datagrams_out.due_peer socket.outbox)
-has_due (Listener local backlog) = false
-has_due (Idle buffers bound) = false
+-- the segment that a connection to this peer has due, where it has one
+abbrev pub segment_due : Endpoint → Option Due → List (Endpoint × Outgoing)
+segment_due peer None = []
+segment_due peer (Some due) = (peer, outgoing.Segment due) ∷ []
 
--- to whom the segment is due, or the first datagram goes
-abbrev pub due_peer : Role → Option Endpoint
-due_peer (Connected c listener) = if is_some (first_due c) then Some c.peer else None
-due_peer (Datagrams bound socket) = datagrams_out.due_peer socket.outbox
-due_peer (Listener local backlog) = None
-due_peer (Idle buffers bound) = None
+-- each datagram of a queue, by its place, of which the first is this one
+abbrev pub datagrams_due : ℕ → List datagrams.Outgoing → List (Endpoint × Outgoing)
+datagrams_due place [] = []
+datagrams_due place (o ∷ rest) = (o.peer, outgoing.Datagram place) ∷ datagrams_due (place + 1) rest
 
--- to whom, and what it is: a segment, or the next part of the first datagram
-abbrev pub due_of : Role → Option (Endpoint × Outgoing)
-due_of (Connected c listener) = option_map (λ due. (c.peer, outgoing.Segment due)) (first_due c)
-due_of (Datagrams bound socket) = option_map (λ peer. (peer, outgoing.Datagram)) (datagrams_out.due_peer socket.outbox)
-due_of (Listener local backlog) = None
-due_of (Idle buffers bound) = None
+-- All that an entry has to send, and to whom, what goes first first: of a connection its segment, of a UDP socket each datagram that waits to go out.
+abbrev pub dues_of : Role → List (Endpoint × Outgoing)
+dues_of (Connected c listener) = segment_due c.peer (first_due c)
+dues_of (Datagrams bound socket) = datagrams_due 0 socket.outbox
+dues_of (Listener local backlog) = []
+dues_of (Idle buffers bound) = []
+
+-- the first of it that may go out, by a test of the addresses that it is for
+abbrev pub due_to : (Addr → Bool) → Role → Option (Endpoint × Outgoing)
+due_to goes role = find (λ due. goes due.0.addr) (dues_of role)
 
 -- it has just this to send
 abbrev pub HasOutgoing : Role → Outgoing → Type 0
 HasOutgoing (Connected c listener) (outgoing.Segment due) = first_due c ≡ Some due
-HasOutgoing (Connected c listener) outgoing.Datagram = ⊥
+HasOutgoing (Connected c listener) (outgoing.Datagram place) = ⊥
 HasOutgoing (Datagrams bound socket) (outgoing.Segment due) = ⊥
-HasOutgoing (Datagrams bound socket) outgoing.Datagram = 0 < length socket.outbox
+HasOutgoing (Datagrams bound socket) (outgoing.Datagram place) = place < length socket.outbox
 HasOutgoing (Listener local backlog) what = ⊥
 HasOutgoing (Idle buffers bound) what = ⊥
 
@@ -206,12 +206,9 @@ is_waiting_as listener id e = (e.id.0 == id.0) && waits_at listener e.role
 abbrev pub is_waiting_id : List Entry → SocketId → SocketId → Bool
 is_waiting_id entries listener id = list_any (is_waiting_as listener id) entries
 
-abbrev pub is_due : Entry → Bool
-is_due e = has_due e.role
-
--- what is due goes out: the layer above says by this test of whom it may
-abbrev pub sends : (Entry → Bool) → Entry → Bool
-sends goes e = is_due e && goes e
+-- something that it has to send may go out, by a test of the addresses that it is for
+abbrev pub sends : (Addr → Bool) → Entry → Bool
+sends goes e = is_some (due_to goes e.role)
 
 -- the entry in this place has just this to send
 abbrev pub IsDueAt : List Entry → ℕ → Outgoing → Type 0
@@ -350,23 +347,32 @@ has_room_to_receive len (Idle buffers bound) = false
 abbrev pub role_after_reception : Endpoint → List ℕ → Role → Role
 role_after_reception from octets role = on_datagrams (λ bound. bound) (λ socket. with_received socket from octets) role
 
--- The segment that is due goes out, and an abort is over once its reset has gone out; or the part of a datagram that is due does (RFC 791
--- section 3.2).
-abbrev pub role_after_emission : Moment → Role → Role
-role_after_emission now (Connected c listener) = Connected (after_first c (first_due c) now) listener
-role_after_emission now (Datagrams bound socket) = Datagrams bound (datagrams_out.after_part socket)
-role_after_emission now (Listener local backlog) = Listener local backlog
-role_after_emission now (Idle buffers bound) = Idle buffers bound
+-- in which place of a socket's queue a datagram stands
+abbrev pub place_of : Outgoing → ℕ
+place_of (outgoing.Datagram place) = place
+place_of (outgoing.Segment due) = 0
+
+-- the datagram in this place goes before the others, which stay in order
+abbrev pub with_first : Outgoing → datagrams.SocketView → datagrams.SocketView
+with_first what socket = datagrams_out.brought (place_of what) socket
+
+-- The segment that is due goes out, and an abort is over once its reset has gone out; or the next part of this datagram does (RFC 791
+-- section 3.2), which goes before the others from then on.
+abbrev pub role_after_emission : Moment → Outgoing → Role → Role
+role_after_emission now what (Connected c listener) = Connected (after_first c (first_due c) now) listener
+role_after_emission now what (Datagrams bound socket) = Datagrams bound (datagrams_out.after_part (with_first what socket))
+role_after_emission now what (Listener local backlog) = Listener local backlog
+role_after_emission now what (Idle buffers bound) = Idle buffers bound
 
 abbrev pub emission_fate_of : Role → Fate
 emission_fate_of role = in_connection Stays (λ c. if is_over c then Removed else Stays) role
 
 -- what is told of it: a segment's length in octets, or what the header of IPv4 says of a part
-abbrev pub due_emitted : Role → Option Emitted
-due_emitted (Connected c listener) = option_map (λ due. emitted.Segment (emitted_len c due)) (first_due c)
-due_emitted (Datagrams bound socket) = option_map (λ part. emitted.Datagram part) (datagrams_out.due_part socket)
-due_emitted (Listener local backlog) = None
-due_emitted (Idle buffers bound) = None
+abbrev pub due_emitted : Outgoing → Role → Option Emitted
+due_emitted what (Connected c listener) = option_map (λ due. emitted.Segment (emitted_len c due)) (first_due c)
+due_emitted what (Datagrams bound socket) = option_map (λ part. emitted.Datagram part) (datagrams_out.due_part (with_first what socket))
+due_emitted what (Listener local backlog) = None
+due_emitted what (Idle buffers bound) = None
 
 -- how many octets it has
 abbrev pub len_of : Emitted → ℕ
@@ -379,23 +385,23 @@ source_of own (Some local) = record { addr = own; port = local.port }
 source_of own None = record { addr = own; port = 0 }
 
 -- the octets that go out, from our address
-abbrev pub due_octets : Addr → Role → List ℕ
-due_octets own (Connected c listener) = of_due (first_due c)
+abbrev pub due_octets : Addr → Outgoing → Role → List ℕ
+due_octets own what (Connected c listener) = of_due (first_due c)
   where
     of_due : Option Due → List ℕ
     of_due None = []
     of_due (Some due) = segment_octets c due
-due_octets own (Datagrams bound socket) = datagrams_out.due_octets (source_of own bound) socket
-due_octets own (Listener local backlog) = []
-due_octets own (Idle buffers bound) = []
+due_octets own what (Datagrams bound socket) = datagrams_out.due_octets (source_of own bound) (with_first what socket)
+due_octets own what (Listener local backlog) = []
+due_octets own what (Idle buffers bound) = []
 
 -- they stand at the front of what was there
-abbrev pub due_front : Addr → Role → List ℕ → List ℕ
-due_front own role out = of_due (due_emitted role)
+abbrev pub due_front : Addr → Outgoing → Role → List ℕ → List ℕ
+due_front own what role out = of_due (due_emitted what role)
   where
     of_due : Option Emitted → List ℕ
     of_due None = out
-    of_due (Some e) = due_octets own role ++ drop (len_of e) out
+    of_due (Some e) = due_octets own what role ++ drop (len_of e) out
 
 -- the entry with its role changed
 abbrev pub with_role : (Role → Role) → Entry → Entry

@@ -1,9 +1,9 @@
 //! What the table sends: segments (RFC 9293 section 3.8), and datagrams in parts (RFC 791 section 3.2).
 
-ghost use Rattle.std.specs.Prelude.{◌≡◌, ◌≤◌, length, Bool, Some, position};
-ghost use Rattle.sockets.specs.Emission.{IsWithin};
-ghost use Rattle.sockets.specs.declared.entry.Entry.{Entry};
-ghost use Rattle.sockets.specs.Entries.{sends, IsDueAt};
+ghost use Rattle.std.specs.Prelude.{◌≡◌, ◌≤◌, length, Bool, Some};
+ghost use Rattle.ipv4.specs.declared.addr.Addr.{Addr};
+ghost use Rattle.sockets.specs.Emission.{IsWithin, IsNextAt};
+ghost use Rattle.sockets.specs.Entries.{IsDueAt};
 
 use crate::sockets::Sockets;
 use crate::table;
@@ -16,8 +16,8 @@ use udp::{MOST_IN_FRAGMENT, Part};
 pub enum Outgoing {
     /// This segment.
     Segment(Due),
-    /// The next part of the first datagram.
-    Datagram,
+    /// The next part of the datagram in this place, from 0 on, of those that wait to go out: it goes before the others from then on.
+    Datagram(usize),
 }
 
 /// What was written of an entry.
@@ -34,7 +34,7 @@ impl Sockets {
     ghost use Rattle.sockets.specs.Emission.{emitted, emitted_front, after_segment_sent};
 
     /// Writes what the entry in this place has to send, a segment or a part of a datagram, from `out[0]` on, and answers what was written. The
-    /// entry is taken out where it is over then. Whatever the test by which it is the first that may send, this is the emission by that test.
+    /// entry is taken out where it is over then. Whatever the test by which it is the first that may go out, this is the emission by that test.
     pub fn emit_at(
         &mut self,
         place: usize,
@@ -45,10 +45,10 @@ impl Sockets {
         requires due { IsDueAt self.old.entries place outgoing }
         requires segment { MOST_SEGMENT ≤ length out.old }
         requires part { MOST_IN_FRAGMENT ≤ length out.old }
-        ensures what { (goes : Entry → Bool) → position (sends goes) self.old.entries ≡ Some place → Some result ≡ emitted self.old goes }
+        ensures what { (goes : Addr → Bool) → IsNextAt self.old goes place outgoing → Some result ≡ emitted self.old goes }
         ensures bound { IsWithin result }
-        ensures after { (goes : Entry → Bool) → position (sends goes) self.old.entries ≡ Some place → self.new ≡ after_segment_sent self.old goes now }
-        ensures frame { (goes : Entry → Bool) → position (sends goes) self.old.entries ≡ Some place → out.new ≡ emitted_front self.old goes out.old }
+        ensures after { (goes : Addr → Bool) → IsNextAt self.old goes place outgoing → self.new ≡ after_segment_sent self.old goes now }
+        ensures frame { (goes : Addr → Bool) → IsNextAt self.old goes place outgoing → out.new ≡ emitted_front self.old goes out.old }
     {
         let now = self.later_moment(now);
         let own = self.addr;

@@ -1,8 +1,8 @@
 //! An entry of the table: a socket, or a connection that no socket names, not yet or no longer.
 
-ghost use Rattle.std.specs.Prelude.{◌≡◌, Bool};
+ghost use Rattle.std.specs.Prelude.{◌≡◌, ◌≤◌, Bool, length, slice_get};
 ghost use Rattle.ipv4.specs.declared.addr.Addr.{Addr};
-ghost use Rattle.sockets.specs.Entries.{is_kept, due_of, due_peer, deadline_of, with_role};
+ghost use Rattle.sockets.specs.Entries.{is_kept, dues_of, deadline_of, with_role};
 ghost use Rattle.sockets.specs.Lost.{give_up_at, give_up_fate_of, role_after_giving_up};
 ghost use Rattle.sockets.specs.Index.{filed};
 
@@ -98,18 +98,19 @@ impl Entry {
         self.id
     }
 
-    /// What it has to send, and to whom; None where nothing is due.
-    pub fn due(&self) -> Option<(Endpoint, Outgoing)>
-        ensures { result ≡ due_of self.now.role }
+    /// The first of what it has to send in place 0, what follows in the places behind it, and to whom each is; None where nothing more is due.
+    pub fn due_at(&self, place: usize) -> Option<(Endpoint, Outgoing)>
+        ensures { result ≡ slice_get (dues_of self.now.role) place }
     {
-        self.role.due()
+        self.role.due_at(place)
     }
 
-    /// To whom a segment is due or the first datagram goes; None where nothing is due.
-    pub fn due_peer(&self) -> Option<Endpoint>
-        ensures { result ≡ due_peer self.now.role }
+    /// A number of places that holds all that it has to send: that of the datagrams of a UDP socket, and 1 of a connection, also where it has
+    /// nothing due.
+    pub fn due_places(&self) -> usize
+        ensures { length (dues_of self.now.role) ≤ result }
     {
-        self.role.due_peer()
+        self.role.due_places()
     }
 
     /// The moment from which something of it is given up, since it is for a lost address, which `lost` says: the reset of an abort, or the

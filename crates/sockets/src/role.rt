@@ -1,11 +1,11 @@
 //! What an entry of the table is: a TCP socket without a connection, a listener, a connection, or a UDP socket.
 
-ghost use Rattle.std.specs.Prelude.{◌≡◌, ◌≤◌, Bool, if◌then◌else◌, length, Some, OnOk, OnErr};
+ghost use Rattle.std.specs.Prelude.{◌≡◌, ◌≤◌, Bool, if◌then◌else◌, length, slice_get, Some, OnOk, OnErr};
 ghost use Rattle.std.specs.Result.{result_err};
 ghost use Rattle.ipv4.specs.declared.addr.Addr.{Addr};
 ghost use Rattle.sockets.specs.Calls.{own_end};
 ghost use Rattle.sockets.specs.Emission.{IsWithin};
-ghost use Rattle.sockets.specs.Entries.{is_pending, is_left, has_socket, is_live_between, joins, uses_port, uses_datagram_port, waits_at, is_in_syn_received, peer_of, shown_state, deadline_of, due_of, due_peer, HasOutgoing, reset_wait, backlog_of, listens_at, is_kept, source_of};
+ghost use Rattle.sockets.specs.Entries.{is_pending, is_left, has_socket, is_live_between, joins, uses_port, uses_datagram_port, waits_at, is_in_syn_received, peer_of, shown_state, deadline_of, dues_of, HasOutgoing, reset_wait, backlog_of, listens_at, is_kept, source_of};
 
 use crate::emission::{Emitted, Outgoing};
 use crate::entry::SocketId;
@@ -262,33 +262,34 @@ impl Role {
         }
     }
 
-    /// What it has to send, and to whom.
-    pub(crate) fn due(&self) -> Option<(Endpoint, Outgoing)>
-        ensures { result ≡ due_of self.now }
+    /// What it has to send in this place, and to whom: the segment of a connection in place 0, a datagram of a UDP socket in its own.
+    pub(crate) fn due_at(&self, place: usize) -> Option<(Endpoint, Outgoing)>
+        ensures { result ≡ slice_get (dues_of self.now) place }
     {
         match self {
             Role::Connected { connection, .. } => {
+                if place > 0 {
+                    return None;
+                }
                 let due = connection.due()?;
                 Some((connection.peer(), Outgoing::Segment(due)))
             }
             Role::Datagrams { socket, .. } => {
-                let peer = socket.due_peer()?;
-                Some((peer, Outgoing::Datagram))
+                let peer = socket.peer_at(place)?;
+                Some((peer, Outgoing::Datagram(place)))
             }
             _ => None,
         }
     }
 
-    /// To whom a segment is due, or the first datagram goes.
-    pub(crate) fn due_peer(&self) -> Option<Endpoint>
-        ensures { result ≡ due_peer self.now }
+    /// A number of places that holds all that it has to send.
+    pub(crate) fn due_places(&self) -> usize
+        ensures { length (dues_of self.now) ≤ result }
     {
         match self {
-            Role::Connected { connection, .. } if connection.due().is_some() => {
-                Some(connection.peer())
-            }
-            Role::Datagrams { socket, .. } => socket.due_peer(),
-            _ => None,
+            Role::Connected { .. } => 1,
+            Role::Datagrams { socket, .. } => socket.waiting(),
+            _ => 0,
         }
     }
 
@@ -590,17 +591,17 @@ impl Role {
         requires due { HasOutgoing self.old outgoing }
         requires segment { MOST_SEGMENT ≤ length out.old }
         requires part { MOST_IN_FRAGMENT ≤ length out.old }
-        ensures what { Some result ≡ due_emitted self.old }
+        ensures what { Some result ≡ due_emitted outgoing self.old }
         ensures bound { IsWithin result }
-        ensures after { self.new ≡ role_after_emission now self.old }
-        ensures frame { out.new ≡ due_front own self.old out.old }
+        ensures after { self.new ≡ role_after_emission now outgoing self.old }
+        ensures frame { out.new ≡ due_front own outgoing self.old out.old }
     {
         match (self, outgoing) {
             (Role::Connected { connection, .. }, Outgoing::Segment(due)) => {
                 Emitted::Segment(connection.emit(due, now, out))
             }
-            (Role::Datagrams { bound, socket }, Outgoing::Datagram) => {
-                Emitted::Datagram(socket.emit(source_of(own, *bound), out))
+            (Role::Datagrams { bound, socket }, Outgoing::Datagram(place)) => {
+                Emitted::Datagram(socket.emit(place, source_of(own, *bound), out))
             }
             _ => unreachable!(),
         }
