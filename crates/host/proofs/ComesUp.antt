@@ -90,7 +90,7 @@ unknown-is h now to hop held = ap (λ (o : Option Addr). is_some (mac_of now h.i
 
 -- The host is woken.
 
-woken : (h : HostView) (m : Moment) → has_come (least_deadline h) m ≡ true → IsWokenBy h m
+pub woken : (h : HostView) (m : Moment) → has_come (least_deadline h) m ≡ true → IsWokenBy h m
 woken h m come = by_deadline (least_deadline h) refl come
   where
     by_deadline : (o : Option Moment) → least_deadline h ≡ o → has_come o m ≡ true → IsWokenBy h m

@@ -19,3 +19,4 @@ pub mod AskedAgain
 pub mod ComesUp
 pub mod Owed
 pub mod Late
+pub mod Hopless

@@ -1,5 +1,15 @@
 -- What a host does with an ARP request for its address, with a UDP datagram for a socket that has room, and with a hard error.
-use Rattle.std.proofs.Common.{◌≡◌, ◌≢◌, ◌⊎◌, inl, inr, ℕ, suc, ◌<◌, ◌==◌, ◌&&◌, ◌||◌, not, Bool, true, false, cond, List, [], ◌∷◌, ◌++◌, Contains, length, take, Option, Some, None, Result, Ok, Err, refl, sym, ◌∙◌, ap, subst, arith}
+use Rattle.std.proofs.lemmas.Bool.Decides.{nat_tests}
+use Rattle.tcp_state.specs.declared.calls.Refusal.{Refusal as Error}
+use Rattle.tcp_state.specs.declared.calls.Refusal.TheVariants.{ECONNREFUSED as refused_so}
+use Rattle.tcp_state.specs.declared.calls.Received.TheVariants.{EndOfStream}
+use Rattle.tcp_state.specs.Calls.{recv_answer as view_recv_answer}
+use Rattle.sockets.specs.declared.refusal.Refusal.TheVariants.{ECONNREFUSED}
+use Rattle.sockets.specs.Order.{IsOrdered}
+use Rattle.sockets.proofs.ByIds.{changed_found}
+use Rattle.sockets.proofs.Ends.{eqb-same}
+use Rattle.sockets.proofs.ErrorsFirst.{connect_told, send_told, recv_told, shutdown_told}
+use Rattle.std.proofs.Common.{◌≡◌, ◌≢◌, ◌⊎◌, inl, inr, ℕ, suc, ◌<◌, ◌==◌, ◌&&◌, ◌||◌, not, Bool, true, false, if◌then◌else◌, cond, List, [], ◌∷◌, ◌++◌, Contains, length, take, Option, Some, None, option_map, Result, Ok, Err, refl, sym, ◌∙◌, ap, subst, arith}
 use Rattle.std.specs.List.{find}
 use Rattle.std.proofs.lemmas.Bool.{eqb-true}
 use Rattle.ipv4.specs.declared.addr.Addr.{Addr}
@@ -40,21 +50,21 @@ use Rattle.sockets.specs.declared.entry.Entry.{Entry}
 use Rattle.sockets.specs.declared.entry.SocketId.{SocketId}
 use Rattle.sockets.specs.declared.role.Role.TheVariants.{Connected, Datagrams}
 use Rattle.sockets.specs.Datagrams.{after_reception, reception}
-use Rattle.sockets.specs.Entries.{entries_after_step, has_room_to_receive, is_between, is_datagrams_at, role_after_reception, role_after_unreachable, unreachable_fate_of, uses_datagram_port, with_role}
+use Rattle.sockets.specs.Entries.{entries_after_step, has_room_to_receive, is_between, is_datagrams_at, is_socket, role_after_reception, role_after_unreachable, unreachable_fate_of, uses_datagram_port, with_role}
 use Rattle.sockets.specs.Lists.{change_first}
 use Rattle.sockets.specs.Sound.{IsSoundConnection, IsSoundRole}
-use Rattle.sockets.specs.SocketsView.{SocketsView, later_moment}
+use Rattle.sockets.specs.SocketsView.{SocketsView, later_moment, role_of}
 use Rattle.sockets.specs.Unreachable.{after_unreachable as table_after_unreachable}
 use Rattle.sockets.proofs.Opened.{found_changed}
 use Rattle.tcp_state.specs.declared.connection.Fate.{Fate}
 use Rattle.tcp_state.specs.declared.connection.Fate.TheVariants.{Stays}
 use Rattle.tcp_state.specs.declared.state.State.TheVariants.{SynSent}
-use Rattle.tcp_state.specs.Unreachable.{IsRefused, after_unreachable}
-use Rattle.tcp_state.specs.View.{View}
+use Rattle.tcp_state.specs.Unreachable.{IsRefused, is_unreachable, after_unreachable}
+use Rattle.tcp_state.specs.View.{View, IsSound, after_reset}
 use Rattle.tcp_state.proofs.Unreachable.{opening_ends}
 use Rattle.udp_socket.specs.SocketView.{SocketView, with_received}
 use Rattle.host.specs.Arrival.{IsDelivered, MeetsFragment, MeetsHeard, MeetsMessage, after_payload, after_user_datagram, fragment_outcome, heard_by, queue_answer, user_datagram_answer}
-use Rattle.host.specs.Duties.{HasBehindOthers, IsHardError}
+use Rattle.host.specs.Duties.{HasBehindOthers, IsHardError, IsToldByEachCall}
 use Rattle.host.specs.HostView.{HostView, with_pool, with_sockets}
 use Rattle.host.specs.Messages.{Told, Asks, Refuses, Nothing, error_of_quote, is_echo_request, is_hard, of_segment, refused_quote, told_by}
 use Rattle.host.specs.Sound.{IsSoundHost}
@@ -230,11 +240,17 @@ in-changed {X} p f (y ∷ ys) x e = by_test (in-changed p f ys x) (p y) e
     by_test further true found = let same : y ≡ x = cc in (0, omega arith, ap f same)
     by_test further false found = let rest = further found in (suc rest.0, omega (arith, rest.1), rest.2)
 
-pub opening-refused : (h : HostView) (now : Moment) (isn : ℕ) (octets : List ℕ) (c : Control) (quote : Quote) (answer : Result (Unit {0}) DropCause) (new : HostView) (id : SocketId) (v : View) (listener : Option SocketId) → IsSoundHost h
+-- what a hard error about its SYN makes of its entry, which is the first of its two ends
+record IsHit (h new : HostView) (id : SocketId) (v : View) (listener : Option SocketId) (local peer : Endpoint) : Type 0 where
+  solid : IsSoundConnection v
+  refused : IsRefused (after_unreachable v v.sending.una)
+  left : new.sockets.entries ≡ change_first (is_between local peer) (with_role (role_after_unreachable v.sending.una)) h.sockets.entries
+
+opening-hit : (h : HostView) (now : Moment) (isn : ℕ) (octets : List ℕ) (c : Control) (quote : Quote) (answer : Result (Unit {0}) DropCause) (new : HostView) (id : SocketId) (v : View) (listener : Option SocketId) → IsSoundHost h
     → heard_by h octets ≡ Ok (Icmp c) → IsHardError c.message → quote_in c.message.payload ≡ Some quote → quote.protocol.0 ≡ 6
     → find (is_between quote.source quote.destination) h.sockets.entries ≡ Some (record { id = id; role = Connected v listener }) → v.state ≡ SynSent → v.sending.nxt ≢ v.sending.una → quote.number ≡ v.sending.una
-    → IsDelivered h now isn octets answer new → (answer ≡ Ok tt) × (w : View) × IsRefused w × Contains new.sockets.entries (record { id = id; role = Connected w listener })
-opening-refused h now isn octets c quote answer new id v listener sound is hard quotes tcp found opens sent numbered delivered =
+    → IsDelivered h now isn octets answer new → (answer ≡ Ok tt) × IsHit h new id v listener quote.source quote.destination
+opening-hit h now isn octets c quote answer new id v listener sound is hard quotes tcp found opens sent numbered delivered =
     let moment : Moment = later_moment h.sockets now in
     let met : MeetsMessage (Refuses quote) h moment c answer new =
     subst (λ (t : Told). MeetsMessage t h moment c answer new) (refuses-so c.message quote hard quotes tcp) (met-by h now isn octets answer new (Icmp c) is delivered) in
@@ -242,12 +258,69 @@ opening-refused h now isn octets c quote answer new id v listener sound is hard 
     let e : Entry = record { id = id; role = Connected v listener } in
     let solid : IsSoundConnection v = found-all (λ (x : Entry). IsSoundRole x.role) test h.sockets.entries e sound.table.entries found in
     let ends = opening_ends v solid.sound opens sent in
-    let w : View = after_unreachable v v.sending.una in
     let stays : unreachable_fate_of quote.number e.role ≡ Stays = ap (λ (n : ℕ). unreachable_fate_of n e.role) numbered ∙ ends.1 in
     let table : (let t = table_after_unreachable h.sockets quote.source quote.destination quote.number in t.entries) ≡ change_first test (with_role (role_after_unreachable quote.number)) h.sockets.entries =
-    rw found (ap (λ (f : Fate). entries_after_step f test (role_after_unreachable quote.number) h.sockets.entries) stays) in
-    let left : new.sockets.entries ≡ change_first test (with_role (role_after_unreachable v.sending.una)) h.sockets.entries =
-    ap (λ (x : HostView). x.sockets.entries) met.1 ∙ table ∙ ap (λ (n : ℕ). change_first test (with_role (role_after_unreachable n)) h.sockets.entries) numbered in
-    let there : Contains (change_first test (with_role (role_after_unreachable v.sending.una)) h.sockets.entries) (record { id = id; role = Connected w listener }) =
-    in-changed test (with_role (role_after_unreachable v.sending.una)) h.sockets.entries e found in
-    (met.0, w, ends.0, subst (λ (xs : List Entry). Contains xs (record { id = id; role = Connected w listener })) (sym left) there)
+    rw found (ap (λ (f : Fate). entries_after_step f test (role_after_unreachable quote.number) h.sockets.entries) stays) in (
+      met.0,
+      record {
+        solid = solid;
+        refused = ends.0;
+        left = ap (λ (x : HostView). x.sockets.entries) met.1 ∙ table ∙ ap (λ (n : ℕ). change_first test (with_role (role_after_unreachable n)) h.sockets.entries) numbered;
+      },
+    )
+
+pub opening-refused : (h : HostView) (now : Moment) (isn : ℕ) (octets : List ℕ) (c : Control) (quote : Quote) (answer : Result (Unit {0}) DropCause) (new : HostView) (id : SocketId) (v : View) (listener : Option SocketId) → IsSoundHost h
+    → heard_by h octets ≡ Ok (Icmp c) → IsHardError c.message → quote_in c.message.payload ≡ Some quote → quote.protocol.0 ≡ 6
+    → find (is_between quote.source quote.destination) h.sockets.entries ≡ Some (record { id = id; role = Connected v listener }) → v.state ≡ SynSent → v.sending.nxt ≢ v.sending.una → quote.number ≡ v.sending.una
+    → IsDelivered h now isn octets answer new → (answer ≡ Ok tt) × (w : View) × IsRefused w × Contains new.sockets.entries (record { id = id; role = Connected w listener })
+opening-refused h now isn octets c quote answer new id v listener sound is hard quotes tcp found opens sent numbered delivered =
+    let hit = opening-hit h now isn octets c quote answer new id v listener sound is hard quotes tcp found opens sent numbered delivered in
+    let w : View = after_unreachable v v.sending.una in
+    let there = in-changed (is_between quote.source quote.destination) (with_role (role_after_unreachable v.sending.una)) h.sockets.entries (record { id = id; role = Connected v listener }) found in
+    (hit.0, w, hit.1.refused, subst (λ (xs : List Entry). Contains xs (record { id = id; role = Connected w listener })) (sym hit.1.left) there)
+
+-- what is refused tells so
+refusal-told : (w : View) → IsRefused w → w.pending_error ≡ Some refused_so
+refusal-told w r = by_error w.pending_error refl (r.recv 1)
+  where
+    by_error : (o : Option Error) → w.pending_error ≡ o → view_recv_answer w 1 ≡ Err refused_so → w.pending_error ≡ Some refused_so
+    by_error None is told = let bad : view_recv_answer w 1 ≡ Ok EndOfStream = rw (is, r.closed, r.readable) refl in cc
+    by_error (Some error) is told = let so : view_recv_answer w 1 ≡ Err error = rw is refl in let same : error ≡ refused_so = (let one = sym so ∙ told in cc) in is ∙ ap (λ (x : Error). Some x) same
+
+-- our own side is not closed by an error
+unreleased : (v : View) → IsSound v → v.state ≡ SynSent → v.released ≡ false
+unreleased v sound opens = by_release v.released refl
+  where
+    by_release : (b : Bool) → v.released ≡ b → v.released ≡ false
+    by_release false is = is
+    by_release true is = let bad : true ≡ false = sym (rw (is, opens) refl) ∙ sound.release in cc
+
+pub opening-told : (h : HostView) (now : Moment) (isn : ℕ) (octets : List ℕ) (c : Control) (quote : Quote) (answer : Result (Unit {0}) DropCause) (new : HostView) (id : SocketId) (v : View) → IsSoundHost h → IsOrdered h.sockets
+    → heard_by h octets ≡ Ok (Icmp c) → IsHardError c.message → quote_in c.message.payload ≡ Some quote → quote.protocol.0 ≡ 6
+    → find (is_between quote.source quote.destination) h.sockets.entries ≡ Some (record { id = id; role = Connected v None }) → v.state ≡ SynSent → v.sending.nxt ≢ v.sending.una → quote.number ≡ v.sending.una
+    → IsDelivered h now isn octets answer new → IsToldByEachCall new.sockets id ECONNREFUSED
+opening-told h now isn octets c quote answer new id v sound ordered is hard quotes tcp found opens sent numbered delivered =
+    let hit = (opening-hit h now isn octets c quote answer new id v None sound is hard quotes tcp found opens sent numbered delivered).1 in
+    let w : View = after_unreachable v v.sending.una in
+    let free : w.released ≡ false = still-free v (unreleased v hit.solid.sound opens) in
+    let named : is_socket id (record { id = id; role = Connected w None }) ≡ true = ap (λ (b : Bool). b && not w.released) (eqb-same id.0) ∙ ap not free in
+    let there : find (is_socket id) new.sockets.entries ≡ Some (record { id = id; role = Connected w None }) =
+    ap (λ (xs : List Entry). find (is_socket id) xs) hit.left
+    ∙ changed_found (is_between quote.source quote.destination) (with_role (role_after_unreachable v.sending.una)) 0 h.sockets.last_id h.sockets.entries (record { id = id; role = Connected v None }) ordered.ids found named in
+    let so : role_of new.sockets id ≡ Some (Connected w None) = ap (λ (o : Option Entry). option_map (λ (e : Entry). e.role) o) there in
+    let told = refusal-told w hit.refused in record {
+      connect = λ peer routed. connect_told new.sockets id w None refused_so peer routed so told;
+      send = λ octets. send_told new.sockets id w None refused_so octets so told;
+      recv = λ len some. recv_told new.sockets id w None refused_so len so told (not-zero len some);
+      shutdown = shutdown_told new.sockets id w None refused_so so told;
+    }
+  where
+    still-free : (v : View) → v.released ≡ false → (let w = after_unreachable v v.sending.una in w.released ≡ false)
+    still-free v free = by_hit (is_unreachable v v.sending.una)
+      where
+        by_hit : (b : Bool) → (let w : View = if b then after_reset v (Some refused_so) else v in w.released ≡ false)
+        by_hit true = free
+        by_hit false = free
+
+    not-zero : (len : ℕ) → 0 < len → (len == 0) ≡ false
+    not-zero len some = grind (arith, nat_tests)

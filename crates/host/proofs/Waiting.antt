@@ -23,7 +23,9 @@ use Rattle.sockets.specs.declared.role.Role.{Role}
 use Rattle.sockets.specs.declared.role.Role.TheVariants.{Idle, Listener, Connected, Datagrams}
 use Rattle.clock.specs.declared.moment.TheConstants.{HOP_WAIT}
 use Rattle.sockets.specs.Entries.{due_peer, entries_after_steps, is_kept, with_role}
-use Rattle.sockets.specs.Lost.{after_giving_up, give_up_at, give_up_fate_of, is_given_up, role_after_giving_up}
+use Rattle.sockets.specs.Lost.{after_giving_up, give_up_at, give_up_fate_of, role_after_giving_up, waits_until}
+use Rattle.sockets.proofs.Followed.{by_test as by_either}
+use Rattle.tcp_state.specs.Hop.{unheard_until}
 use Rattle.sockets.specs.SocketsView.{SocketsView, later_moment}
 use Rattle.sockets.specs.Ticks.{after_tick as sockets_after_tick, least_deadline as timer_deadline}
 use Rattle.sockets.proofs.Deadlines.{tick_waits}
@@ -92,7 +94,7 @@ not-before t now = by_test (nat_lt t.kept.0 now.0) refl
     by_test true is = grind (arith, nat_tests, is)
     by_test false is = omega arith
 
-later-twice : (t : SocketsView) (now : Moment) → later_moment t (later_moment t now) ≡ later_moment t now
+pub later-twice : (t : SocketsView) (now : Moment) → later_moment t (later_moment t now) ≡ later_moment t now
 later-twice t now = by_test (nat_lt t.kept.0 now.0) refl
   where
     kept-stays : (b : Bool) → ◌≡◌ {A = Moment} (cond b t.kept t.kept) t.kept
@@ -168,16 +170,22 @@ goes-on over moment true now same e = and-false (has_come (Some over) moment)
 goes-on over moment false true same e = cc
 goes-on over moment false false same e = ap (λ b. b && true) e
 
--- the reset of an abort
-reset-stays : (h : HostView) (moment : Moment) → h.sockets.kept.0 ≤ moment.0 → after_age moment h.interface.cache ≡ h.interface.cache → (c : View) (l : Option SocketId)
-    → has_come (give_up_at (lacks_hop h h.sockets.kept) (Connected c l)) moment ≡ false → is_given_up (lacks_hop h moment) moment (Connected c l) ≡ false
-reset-stays h moment order aged c l early = by_owed c.owes_reset early
-  where
-    by_owed : (b : Bool) → has_come (give_up_at (lacks_hop h h.sockets.kept) (Connected (record c { owes_reset = b }) l)) moment ≡ false → is_given_up (lacks_hop h moment) moment (Connected (record c { owes_reset = b }) l) ≡ false
-    by_owed false e = refl
-    by_owed true e =
-        goes-on (after c.since HOP_WAIT) moment (knows_hop h.interface moment c.peer.addr) (knows_hop h.interface h.sockets.kept c.peer.addr)
-        (known-alike h.interface h.sockets.kept moment c.peer.addr order aged) e
+-- a connection, with its reset or with what takes numbers
+connected-stays : (h : HostView) (moment : Moment) → h.sockets.kept.0 ≤ moment.0 → after_age moment h.interface.cache ≡ h.interface.cache → (c : View) (l : Option SocketId)
+    → has_come (give_up_at (lacks_hop h h.sockets.kept) (Connected c l)) moment ≡ false
+    → (is_kept (give_up_fate_of (lacks_hop h moment) moment (Connected c l)) ≡ true) × (role_after_giving_up (lacks_hop h moment) moment (Connected c l) ≡ Connected c l)
+connected-stays h moment order aged c l early =
+    let alike = known-alike h.interface h.sockets.kept moment c.peer.addr order aged in
+    by_either (knows_hop h.interface moment c.peer.addr)
+    (λ known. by_either c.owes_reset
+    (λ owes. rw (owes, known, and-false (has_come (Some (after c.since HOP_WAIT)) moment)) (refl, refl))
+    (λ other. rw (other, known) (refl, refl)))
+    (λ unknown.
+    let unknown_then : knows_hop h.interface h.sockets.kept c.peer.addr ≡ false = sym alike ∙ unknown in
+    let waits : has_come (waits_until c) moment ≡ false = rw unknown_then at early in
+    by_either c.owes_reset
+    (λ owes. let reset : has_come (Some (after c.since HOP_WAIT)) moment ≡ false = rw owes at waits in rw (owes, reset) (refl, refl))
+    (λ other. let numbers : has_come (unheard_until c) moment ≡ false = rw other at waits in rw (other, unknown, numbers) (refl, refl)))
 
 -- the datagrams of a UDP socket
 datagrams-stay : (h : HostView) (moment : Moment) → h.sockets.kept.0 ≤ moment.0 → after_age moment h.interface.cache ≡ h.interface.cache → (os : List Outgoing)
@@ -208,15 +216,12 @@ socket-stays h moment order aged s early =
     λ k. record s { outbox = kept k; parts = parts k }
 
 -- an entry
-stays-so : (lost : Addr → Bool) (moment : Moment) (role : Role) → is_given_up lost moment role ≡ false → is_kept (give_up_fate_of lost moment role) ≡ true
-stays-so lost moment role e = rw e refl
-
 role-stays : (h : HostView) (moment : Moment) → h.sockets.kept.0 ≤ moment.0 → after_age moment h.interface.cache ≡ h.interface.cache → (role : Role)
     → has_come (give_up_at (lacks_hop h h.sockets.kept) role) moment ≡ false
     → (is_kept (give_up_fate_of (lacks_hop h moment) moment role) ≡ true) × (role_after_giving_up (lacks_hop h moment) moment role ≡ role)
 role-stays h moment order aged (Idle buffers bound) early = (refl, refl)
 role-stays h moment order aged (Listener local backlog) early = (refl, refl)
-role-stays h moment order aged (Connected c l) early = (stays-so (lacks_hop h moment) moment (Connected c l) (reset-stays h moment order aged c l early), refl)
+role-stays h moment order aged (Connected c l) early = connected-stays h moment order aged c l early
 role-stays h moment order aged (Datagrams bound socket) early = (refl, ap (λ (s : SocketView). Datagrams bound s) (socket-stays h moment order aged socket early))
 
 entries-stay : (h : HostView) (moment : Moment) → h.sockets.kept.0 ≤ moment.0 → after_age moment h.interface.cache ≡ h.interface.cache → (entries : List Entry)

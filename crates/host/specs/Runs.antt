@@ -1,5 +1,5 @@
 -- What may happen to a host, one event after another, and what was delivered to it by then.
-use Rattle.std.specs.Prelude.{◌≡◌, ℕ, ◌<◌, ◌^◌, List, [], ◌∷◌, ◌++◌, Contains, is_some, Result, Ok}
+use Rattle.std.specs.Prelude.{◌≡◌, ℕ, ◌≤◌, ◌<◌, ◌^◌, List, [], ◌∷◌, ◌++◌, Contains, is_some, Result, Ok}
 use Rattle.std.specs.List.{AllByRecursion}
 use Rattle.clock.specs.declared.moment.Moment.{Moment}
 use Rattle.frames.specs.declared.drop.DropCause.{DropCause}
@@ -39,11 +39,23 @@ IsNumbered (Delivers now isn octets) = isn < 2 ^ 32
 IsNumbered (Ticks now) = Unit {0}
 IsNumbered (Emits now) = Unit {0}
 
+-- an event names this moment at the latest, where it names one
+abbrev pub IsUpTo : Moment → Event → Type 0
+IsUpTo latest (Calls call) = timing.IsUpTo latest call
+IsUpTo latest (Delivers now isn octets) = now.0 ≤ latest.0
+IsUpTo latest (Ticks now) = now.0 ≤ latest.0
+IsUpTo latest (Emits now) = now.0 ≤ latest.0
+
 -- These events, the first one first, lead from a host of this set-up on which nothing happened to this host. Each finds the host sound, as every
 -- host is by `Host::sound`.
 pub data Runs (c : ConfigView) : List Event → HostView → Type 0 where
   Begins : Runs c [] (new_host c)
   GoesOn : (before : List Event) (event : Event) (old new : HostView) → Runs c before old → IsSoundHost old → IsNumbered event → Makes event old new → Runs c (before ++ event ∷ []) new
+
+-- These events, the first one first, lead on from a host to another one. Each finds the host that it comes to sound.
+abbrev pub LeadOn : HostView → List Event → HostView → Type 0
+LeadOn h [] last = last ≡ h
+LeadOn h (event ∷ rest) last = IsSoundHost h × IsNumbered event × (next : HostView) × Makes event h next × LeadOn next rest last
 
 -- Of the events of a table these are calls of a socket, and `connect` and `sendto` ask these routes; all others come of the host's own events.
 abbrev pub IsCall : List Route → table.Event → Type 0

@@ -1,9 +1,10 @@
 //! What a host must do: laws of the definitions that the contracts of this crate cite, each the contract of a function that does nothing.
 
-ghost use Rattle.std.specs.Prelude.{◌≡◌, ◌≢◌, ◌<◌, ◌≤◌, ◌+◌, ℕ, List, [], ◌∷◌, ◌++◌, Contains, find, length, take, IsTrue, Option, Some, None, Result, Ok};
+ghost use Rattle.std.specs.Prelude.{◌≡◌, ◌≢◌, ◌<◌, ◌≤◌, ◌+◌, ◌&&◌, ℕ, true, false, List, [], ◌∷◌, ◌++◌, Contains, find, length, take, IsTrue, Option, Some, None, Result, Ok};
 ghost use Rattle.ipv4.specs.declared.addr.Endpoint.{Endpoint};
 ghost use Rattle.ipv4.specs.Datagram.{Datagram};
 ghost use Rattle.clock.specs.declared.moment.Moment.{Moment};
+ghost use Rattle.clock.specs.Moments.{after};
 ghost use Rattle.arp.specs.declared.packet.ArpPacket.{ArpPacket};
 ghost use Rattle.arp.specs.declared.packet.Operation.TheVariants.{Request, Reply};
 ghost use Rattle.icmp.specs.declared.error.Reason.TheVariants.{PortUnreachable, ReassemblyTimeExceeded};
@@ -21,18 +22,30 @@ ghost use Rattle.interface.specs.Ways.{is_routed};
 ghost use Rattle.reassembly.specs.Reassembly.{Reassembly};
 ghost use Rattle.reassembly.specs.Reassembly.Outcome.{Completes};
 ghost use Rattle.tcp_state.specs.declared.state.State.TheVariants.{SynSent};
+ghost use Rattle.tcp_state.specs.declared.calls.Refusal.TheVariants.{ETIMEDOUT};
+ghost use Rattle.tcp_state.specs.Said.{IsClosedBy};
+ghost use Rattle.tcp_state.specs.Timing.{gives_up};
 ghost use Rattle.tcp_state.specs.Unreachable.{IsRefused};
-ghost use Rattle.tcp_state.specs.View.{View};
+ghost use Rattle.tcp_state.specs.View.{View, is_syn_received};
 ghost use Rattle.udp_socket.specs.SocketView.{SocketView};
+ghost use Rattle.sockets.specs.declared.entry.Entry.{Entry};
 ghost use Rattle.sockets.specs.declared.entry.SocketId.{SocketId};
 ghost use Rattle.sockets.specs.declared.role.Role.TheVariants.{Connected, Datagrams};
 ghost use Rattle.sockets.specs.Entries.{is_between, is_datagrams_at, has_room_to_receive};
+ghost use Rattle.sockets.specs.declared.refusal.Refusal.TheVariants.{ECONNREFUSED};
+ghost use Rattle.sockets.specs.Causes as table;
+ghost use Rattle.sockets.specs.Closing.{entry_of};
+ghost use Rattle.sockets.specs.Lost.{waits_until};
+ghost use Rattle.sockets.specs.Order.{IsOrdered};
+ghost use Rattle.sockets.specs.Steps.{connected, connection_left};
 ghost use Rattle.sockets.specs.SocketsView.{later_moment};
 ghost use Rattle.host.specs.Arrival.{IsDelivered, fragment_outcome, heard_by};
-ghost use Rattle.host.specs.Duties.{HasBehindOthers, IsHardError};
+ghost use Rattle.host.specs.ComesUp.{IsWokenBy};
+ghost use Rattle.host.specs.Duties.{HasBehindOthers, IsHardError, IsToldByEachCall};
 ghost use Rattle.host.specs.HostView.{HostView};
+ghost use Rattle.host.specs.Runs.{HasRun};
 ghost use Rattle.host.specs.Sound.{IsSoundHost};
-ghost use Rattle.host.specs.Ticks.{after_tick};
+ghost use Rattle.host.specs.Ticks.{after_tick, lacks_hop};
 
 /// A request for our address is answered (RFC 826): where fewer than 16 control replies wait, it is taken, and the reply with our MAC, to the address
 /// and the MAC that asked, stands behind all that wait.
@@ -74,14 +87,46 @@ pub fn late_datagrams_are_reported()
 {}
 
 /// A hard error about our SYN ends the opening (RFC 1122 section 4.2.3.9): a message of type 3, code 2, 3 or 4, that quotes a segment of TCP with the two ends of a connection in
-/// SYN-SENT and the number of its SYN, which has gone out, leaves its connection refused, as every call is told then. Any other message but an
-/// echo request leaves the host as it was.
+/// SYN-SENT and the number of its SYN, which has gone out, leaves its connection refused. The caller is told so at once: the next call of its socket, whichever it is, is
+/// refused with ECONNREFUSED, and so is each call after it. Any other message but an echo request leaves the host as it was.
 pub fn hard_errors_end_openings()
     ensures refused { (h : HostView) (now : Moment) (isn : ℕ) (octets : List ℕ) (c : Control) (quote : Quote) (answer : Result (Unit {0}) DropCause) (new : HostView) (id : SocketId) (v : View) (listener : Option SocketId) → IsSoundHost h
         → heard_by h octets ≡ Ok (meaning.Icmp c) → IsHardError c.message → quote_in c.message.payload ≡ Some quote → quote.protocol.0 ≡ 6
         → find (is_between quote.source quote.destination) h.sockets.entries ≡ Some (record { id = id; role = Connected v listener }) → v.state ≡ SynSent → v.sending.nxt ≢ v.sending.una → quote.number ≡ v.sending.una
         → IsDelivered h now isn octets answer new
         → (answer ≡ Ok tt) × (w : View) × IsRefused w × Contains new.sockets.entries (record { id = id; role = Connected w listener }) }
+    ensures told { (h : HostView) (now : Moment) (isn : ℕ) (octets : List ℕ) (c : Control) (quote : Quote) (answer : Result (Unit {0}) DropCause) (new : HostView) (id : SocketId) (v : View) → IsSoundHost h → IsOrdered h.sockets
+        → heard_by h octets ≡ Ok (meaning.Icmp c) → IsHardError c.message → quote_in c.message.payload ≡ Some quote → quote.protocol.0 ≡ 6
+        → find (is_between quote.source quote.destination) h.sockets.entries ≡ Some (record { id = id; role = Connected v None }) → v.state ≡ SynSent → v.sending.nxt ≢ v.sending.una → quote.number ≡ v.sending.una
+        → IsDelivered h now isn octets answer new → IsToldByEachCall new.sockets id ECONNREFUSED }
     ensures others { (h : HostView) (now : Moment) (isn : ℕ) (octets : List ℕ) (c : Control) (answer : Result (Unit {0}) DropCause) (new : HostView)
         → heard_by h octets ≡ Ok (meaning.Icmp c) → ¬ IsEchoRequest c.message → ¬ IsHardError c.message → IsDelivered h now isn octets answer new → (answer ≡ Ok tt) × (new ≡ h) }
+{}
+
+/// What a tick makes of a connection that has something with numbers to send and nothing outstanding, since when that was so: the SYN, octets, the FIN or a probe (RFC 1122 section 4.2.3.5, RFC 9293 section
+/// 3.8.3). Where its hop isn't known at a tick from 483,000 ms after that moment on, it is CLOSED, and each call is told ETIMEDOUT, or it is out of the table where its caller closed it. What a listener opened is
+/// out of the table, and so leaves its place at the listener, after 3,000 ms in SYN-RECEIVED. Else, where its hop is known or before that moment, the tick leaves of it what its timers do. While its hop isn't
+/// known, the deadline is not after the end of that wait, nor after that of a reset that it owes: so at a host that ticks at its deadlines none waits longer.
+pub fn waits_for_hops_end()
+    ensures told { (h : HostView) (now : Moment) (id : SocketId) (c : View) (listener : Option SocketId) → IsSoundHost h → HasRun h → entry_of h.sockets id ≡ Some (connected id c listener) → (since : Moment) → c.unheard ≡ Some since
+        → lacks_hop h (later_moment h.sockets now) c.peer.addr ≡ true → (c.passive && is_syn_received c.state) ≡ false → c.released ≡ false
+        → (let end = after since 483000 in end.0) ≤ (let at = later_moment h.sockets now in at.0)
+        → let left = after_tick h now in (d : View) × (entry_of left.sockets id ≡ Some (connected id d listener)) × IsClosedBy ETIMEDOUT d }
+    ensures left { (h : HostView) (now : Moment) (id : SocketId) (c : View) (listener : Option SocketId) → IsSoundHost h → HasRun h → entry_of h.sockets id ≡ Some (connected id c listener) → (since : Moment) → c.unheard ≡ Some since
+        → lacks_hop h (later_moment h.sockets now) c.peer.addr ≡ true → (c.passive && is_syn_received c.state) ≡ false → c.released ≡ true
+        → (let end = after since 483000 in end.0) ≤ (let at = later_moment h.sockets now in at.0) → (let left = after_tick h now in entry_of left.sockets id) ≡ None }
+    ensures half_open { (h : HostView) (now : Moment) (id : SocketId) (c : View) (listener : Option SocketId) → IsSoundHost h → HasRun h → entry_of h.sockets id ≡ Some (connected id c listener) → (since : Moment) → c.unheard ≡ Some since
+        → lacks_hop h (later_moment h.sockets now) c.peer.addr ≡ true → (c.passive && is_syn_received c.state) ≡ true
+        → (let end = after since 3000 in end.0) ≤ (let at = later_moment h.sockets now in at.0) → (let left = after_tick h now in entry_of left.sockets id) ≡ None }
+    ensures early { (h : HostView) (now : Moment) (id : SocketId) (c : View) (listener : Option SocketId) → IsSoundHost h → HasRun h → entry_of h.sockets id ≡ Some (connected id c listener) → (since : Moment) → c.unheard ≡ Some since
+        → (c.passive && is_syn_received c.state) ≡ false → gives_up c (later_moment h.sockets now) ≡ false → (let at = later_moment h.sockets now in at.0) < (let end = after since 483000 in end.0)
+        → (let left = after_tick h now in entry_of left.sockets id) ≡ connection_left h.sockets (table.Ticks (later_moment h.sockets now)) id c listener }
+    ensures half_open_early { (h : HostView) (now : Moment) (id : SocketId) (c : View) (listener : Option SocketId) → IsSoundHost h → HasRun h → entry_of h.sockets id ≡ Some (connected id c listener) → (since : Moment) → c.unheard ≡ Some since
+        → (c.passive && is_syn_received c.state) ≡ true → gives_up c (later_moment h.sockets now) ≡ false → (let at = later_moment h.sockets now in at.0) < (let end = after since 3000 in end.0)
+        → (let left = after_tick h now in entry_of left.sockets id) ≡ connection_left h.sockets (table.Ticks (later_moment h.sockets now)) id c listener }
+    ensures known { (h : HostView) (now : Moment) (id : SocketId) (c : View) (listener : Option SocketId) → IsSoundHost h → HasRun h → entry_of h.sockets id ≡ Some (connected id c listener)
+        → lacks_hop h (later_moment h.sockets now) c.peer.addr ≡ false
+        → (let left = after_tick h now in entry_of left.sockets id) ≡ connection_left h.sockets (table.Ticks (later_moment h.sockets now)) id c listener }
+    ensures wakes { (h : HostView) (e : Entry) (c : View) (listener : Option SocketId) (until : Moment) → Contains h.sockets.entries e → e.role ≡ Connected c listener → lacks_hop h h.sockets.kept c.peer.addr ≡ true
+        → waits_until c ≡ Some until → IsWokenBy h until }
 {}

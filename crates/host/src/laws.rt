@@ -1,7 +1,7 @@
 //! Laws of the definitions that the contracts of this crate cite: each is the contract of a function that does nothing.
 
-ghost use Rattle.std.specs.Prelude.{◌≡◌, ◌≢◌, ℕ, ◌||◌, false, true, IsTrue, List, [], ◌∷◌, ◌++◌, Contains, find, slice_get, take, Option, Some, None, option_map, Result, Ok, Err};
-ghost use Rattle.std.specs.List.{list_any};
+ghost use Rattle.std.specs.Prelude.{◌≡◌, ◌≢◌, ℕ, ◌+◌, ◌≤◌, ◌||◌, false, true, IsTrue, List, [], ◌∷◌, ◌++◌, Contains, find, slice_get, take, Option, Some, None, option_map, Result, Ok, Err};
+ghost use Rattle.std.specs.List.{list_any, AllByRecursion};
 ghost use Rattle.ether.specs.declared.mac.Mac.{Mac};
 ghost use Rattle.ether.specs.Frame.{Frame};
 ghost use Rattle.ether.specs.Reading.{frame_in};
@@ -31,21 +31,24 @@ ghost use Rattle.interface.specs.declared.reply.Waiting.{Waiting};
 ghost use Rattle.interface.specs.Ways.{is_routed};
 ghost use Rattle.interface.specs.Timing.{least_deadline as reply_deadline};
 ghost use Rattle.reassembly.specs.Places.{next_deadline as pool_deadline};
+ghost use Rattle.tcp_state.specs.declared.calls.Refusal.{Refusal as SocketError};
 ghost use Rattle.tcp_state.specs.Positions.{HasToSend};
 ghost use Rattle.tcp_state.specs.View.{View};
 ghost use Rattle.udp_socket.specs.SocketView.{Outgoing, SocketView};
 ghost use Rattle.sockets.specs.declared.entry.Entry.{Entry};
 ghost use Rattle.sockets.specs.declared.entry.SocketId.{SocketId};
+ghost use Rattle.sockets.specs.declared.role.Role.{Role};
 ghost use Rattle.sockets.specs.declared.role.Role.TheVariants.{Connected, Datagrams};
+ghost use Rattle.sockets.specs.Causes.{pending_error_in, TellsStill};
 ghost use Rattle.sockets.specs.Entries.{due_peer, is_datagrams_at, sends};
 ghost use Rattle.sockets.specs.Offered.{IsReached};
 ghost use Rattle.sockets.specs.Order.{IsOrdered};
 ghost use Rattle.sockets.specs.Sound.{NoneIsOver};
-ghost use Rattle.sockets.specs.Timing.{EachKeepsTime};
-ghost use Rattle.sockets.specs.SocketsView.{later_moment};
+ghost use Rattle.sockets.specs.Timing.{EachKeepsTime, AreNear};
+ghost use Rattle.sockets.specs.SocketsView.{later_moment, role_of};
 ghost use Rattle.sockets.specs.Ticks.{least_deadline as timer_deadline};
 ghost use Rattle.host.specs.ConfigView.{ConfigView, IsOfOne};
-ghost use Rattle.host.specs.HostView.{HostView, with_interface, with_sockets};
+ghost use Rattle.host.specs.HostView.{HostView, new_host, with_interface, with_sockets};
 ghost use Rattle.host.specs.Arrival.{IsDelivered, MeetsSegment, heard_by, segment_arrival};
 ghost use Rattle.host.specs.Carried.{Carried, carried};
 ghost use Rattle.host.specs.Causes.{IsAbout};
@@ -53,7 +56,7 @@ ghost use Rattle.host.specs.ComesUp.{IsDueSoon, IsQuiet, ComesUp, ConnectionCome
 ghost use Rattle.host.specs.Emission.{Replies, Sends, Nothing, emission, emission_to, emission_len, after_emission, emission_octets, goes_out_from};
 ghost use Rattle.host.specs.Messages.{errors_of};
 ghost use Rattle.host.specs.Places.{Place, ReplyOf, EntryOf, places, can_go_out};
-ghost use Rattle.host.specs.Runs.{Event, HasRun, IsNumbered, Makes, Runs, WasHeard};
+ghost use Rattle.host.specs.Runs.{Event, HasRun, IsNumbered, IsUpTo, LeadOn, Makes, Runs, WasHeard};
 ghost use Rattle.host.specs.Sound.{IsSoundHost};
 ghost use Rattle.host.specs.Ticks.{after_tick, least_deadline, hop_deadline};
 
@@ -153,6 +156,27 @@ pub fn tables_are_reached()
     ensures ordered { (c : ConfigView) (events : List Event) (h : HostView) → Runs c events h → IsOrdered h.sockets }
     ensures over { (c : ConfigView) (events : List Event) (h : HostView) → Runs c events h → NoneIsOver h.sockets }
     ensures keeps_time { (c : ConfigView) (events : List Event) (h : HostView) → Runs c events h → EachKeepsTime h.sockets }
+{}
+
+/// No timer of a connection of a host runs until later than a minute past the latest moment that the host was told of, and no wait is counted from a later one: nothing happened to a new host, each event
+/// keeps it, and so it is over every list of events. So none of the deadlines that they give lies more than 240,000 ms past it, the time that TIME-WAIT lasts (RFC 9293 section 3.4.2). Where no event names a
+/// moment but one that the host keeps by then, since a tick told it, that latest moment is the one that it keeps.
+pub fn timers_lie_near()
+    ensures fresh { (c : ConfigView) (latest : Moment) → let h = new_host c in AreNear latest h.sockets }
+    ensures event { (event : Event) (old new : HostView) (latest : Moment) → IsSoundHost old → IsNumbered event → IsUpTo latest event → Makes event old new → AreNear latest old.sockets → AreNear latest new.sockets }
+    ensures over { (c : ConfigView) (events : List Event) (h : HostView) (latest : Moment) → Runs c events h → AllByRecursion (IsUpTo latest) events → AreNear latest h.sockets }
+    ensures deadline { (c : ConfigView) (events : List Event) (h : HostView) (latest moment : Moment) → Runs c events h → AllByRecursion (IsUpTo latest) events → timer_deadline h.sockets ≡ Some moment → moment.0 ≤ latest.0 + 240000 }
+{}
+
+/// The error that a connection of a host tells, it tells for good: over each event, and over every list of events that leads on from the host, whatever entry has its id then is one of a connection that tells
+/// it. So whatever socket the id names then tells it, and none but its close or its removal ends that. (`sockets::laws::errors_are_reported_first` has the calls that tell it.)
+pub fn errors_told_stay()
+    ensures event { (event : Event) (old new : HostView) (id : SocketId) (error : SocketError) → IsSoundHost old → IsNumbered event → Makes event old new → EachKeepsTime old.sockets → id.0 ≤ old.sockets.last_id
+        → TellsStill id error old.sockets → TellsStill id error new.sockets }
+    ensures given { (event : Event) (old new : HostView) → IsSoundHost old → IsNumbered event → Makes event old new → old.sockets.last_id ≤ new.sockets.last_id }
+    ensures over { (h last : HostView) (events : List Event) (id : SocketId) (error : SocketError) → HasRun h → LeadOn h events last → id.0 ≤ h.sockets.last_id → TellsStill id error h.sockets → TellsStill id error last.sockets }
+    ensures socket { (h last : HostView) (events : List Event) (id : SocketId) (c : View) (listener : Option SocketId) (error : SocketError) → HasRun h → LeadOn h events last → role_of h.sockets id ≡ Some (Connected c listener)
+        → c.pending_error ≡ Some error → (role : Role) → role_of last.sockets id ≡ Some role → pending_error_in role ≡ Some error }
 {}
 
 /// A host keeps its set-up: over every list of events its MAC, the address on both of its sides and its routes are those that it was made with.

@@ -43,7 +43,7 @@ pub record IsCalled (h : SocketsView) (source : Addr) (s : Segment) (listener : 
 pub by_arrival : (h : SocketsView) (now : Moment) (isn : ℕ) (source : Addr) (s : Segment) (P : Arrival → Type 0) → ((reply : Option Head) → IsReply h source s reply → P (arrival_with_reply h reply))
     → ((e : Entry) → IsTaker h source s e → P (Becomes (after_taking h now source s e)))
     → ((listener : Entry) → IsCalled h source s listener → has_no_room h listener ≡ true → P NoRoom)
-    → ((listener : Entry) → IsCalled h source s listener → has_no_room h listener ≡ false → P (Opens (after_opening h isn listener source s))) → P (arrival h now isn source s)
+    → ((listener : Entry) → IsCalled h source s listener → has_no_room h listener ≡ false → P (Opens (after_opening h (later_moment h now) isn listener source s))) → P (arrival h now isn source s)
 by_arrival h now isn source s P replies takes no_room opens = by_entry (find (is_between (local_end h s) (peer_end source s)) h.entries) refl
   where
     by_place : (listener : Entry) → IsCalled h source s listener → (b : Bool) → has_no_room h listener ≡ b → P (arrival h now isn source s)

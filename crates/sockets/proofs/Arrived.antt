@@ -64,9 +64,9 @@ taken h now isn source s e Removed found is other = at-connection h now isn sour
 taken h now isn source s e Rejected found is other = absurd (other refl)
 
 -- a segment for a listener that opens nothing
-pub listener-answers : (h : SocketsView) (isn : ℕ) (source : Addr) (s : Segment) (listener : Entry) → find (is_listening_at s.destination) h.entries ≡ Some listener → is_opening s.flags ≡ false
-    → arrival_alone h isn source s ≡ arrival_with_reply h (answer_at_listener s)
-listener-answers h isn source s listener found opens = rw (found, opens)
+pub listener-answers : (h : SocketsView) (now : Moment) (isn : ℕ) (source : Addr) (s : Segment) (listener : Entry) → find (is_listening_at s.destination) h.entries ≡ Some listener → is_opening s.flags ≡ false
+    → arrival_alone h now isn source s ≡ arrival_with_reply h (answer_at_listener s)
+listener-answers h now isn source s listener found opens = rw (found, opens)
 
 -- the answer and the table meet what the segment leads to
 pub meets_same : (a b : Arrival) (h new : SocketsView) (answer : Taken) → a ≡ b → Meets b h answer new → Meets a h answer new

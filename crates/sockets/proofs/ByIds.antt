@@ -10,6 +10,7 @@ use Rattle.sockets.specs.declared.role.Role.{Role}
 use Rattle.sockets.specs.declared.role.Role.TheVariants.{Idle, Listener, Connected, Datagrams}
 use Rattle.sockets.specs.Entries.{is_socket}
 use Rattle.sockets.specs.Ids.{has_id, AreAscending}
+use Rattle.sockets.specs.Lists.{change_first}
 use Rattle.sockets.specs.Causes.{Event, Follows}
 use Rattle.sockets.specs.Steps.{event_of, listener_left, is_reset_given_up, connected, view_left, IsSocketLeft, remains, changes, opens, IsLeft, IsOneEvent}
 use Rattle.sockets.specs.SocketsView.{SocketsView}
@@ -78,6 +79,23 @@ socket_found id before last (y ∷ ys) x ids found =
     let at : x.id.0 ≡ id.0 = eqb-true x.id.0 id.0 (and_left _ _ (found_passes (is_socket id) ys x later)) in
     let other : has_id id y ≡ false = by_test (y.id.0 == id.0) (λ yes. absurd (omega (arith, eqb-true y.id.0 id.0 yes, at, found_above (is_socket id) y.id.0 last ys x ids.1 later))) (λ no. no) in
     let behind : find (has_id id) (y ∷ ys) ≡ find (has_id id) ys = rw other refl in behind ∙ socket_found id y.id.0 last ys x ids.1 later)
+
+-- the first that passes a test changes: where it is a socket then, its id names it
+pub changed_found : (test : Entry → Bool) (change : Entry → Entry) (before last : ℕ) (xs : List Entry) (x : Entry) → AreAscending before last xs → find test xs ≡ Some x → is_socket x.id (change x) ≡ true
+    → find (is_socket x.id) (change_first test change xs) ≡ Some (change x)
+changed_found test change before last [] x ids found named = cc
+changed_found test change before last (y ∷ ys) x ids found named =
+    by_test (test y)
+    (λ here.
+    let same : y ≡ x = found_first test y x ys here found in
+    let so : is_socket x.id (change y) ≡ true = ap (λ (e : Entry). is_socket x.id (change e)) same ∙ named in
+    let first : find (is_socket x.id) (change_first test change (y ∷ ys)) ≡ Some (change y) = rw (here, so) refl in first ∙ ap (λ (e : Entry). Some (change e)) same)
+    (λ there.
+    let later : find test ys ≡ Some x = found_behind test y ys (Some x) there found in
+    let above : y.id.0 < x.id.0 = found_above test y.id.0 last ys x ids.1 later in
+    let other : (y.id.0 == x.id.0) ≡ false = by_test (y.id.0 == x.id.0) (λ yes. absurd (omega (arith, eqb-true y.id.0 x.id.0 yes, above))) (λ no. no) in
+    let behind : find (is_socket x.id) (change_first test change (y ∷ ys)) ≡ find (is_socket x.id) (change_first test change ys) = rw (there, other) refl in
+    behind ∙ changed_found test change y.id.0 last ys x ids.1 later named)
 
 -- an entry of an id that is no socket is none by that name
 pub no_socket : (id : SocketId) (before last : ℕ) (xs : List Entry) (left : Option Entry) → AreAscending before last xs → find (has_id id) xs ≡ left → ((x : Entry) → left ≡ Some x → is_socket id x ≡ false) → find (is_socket id) xs ≡ None

@@ -14,6 +14,8 @@ use Rattle.tcp_state.specs.View.{View, IsSound, is_closed, is_over, is_at_end}
 use Rattle.tcp_state.specs.Timing.{gives_up, tick_fate}
 use Rattle.tcp_state.specs.declared.calls.Refusal.{Refusal as Error}
 use Rattle.tcp_state.specs.Due.{first_due}
+use Rattle.clock.specs.Moments.{has_come}
+use Rattle.tcp_state.specs.Hop.{unheard_until, hopless_fate}
 use Rattle.tcp_state.specs.Edges as edge
 use Rattle.tcp_state.proofs.Edges.{and_left, and_right, edges_hold}
 use Rattle.tcp_state.proofs.Causes.{both, or_left, or_right, not_true, ends_caused}
@@ -28,13 +30,14 @@ use Rattle.sockets.specs.declared.role.Role.TheVariants.{Connected}
 use Rattle.sockets.specs.Entries.{in_connection, is_socket, is_between, sends, has_socket, shown_state, is_kept}
 use Rattle.sockets.specs.SocketsView.{SocketsView, later_moment}
 use Rattle.sockets.specs.Arrival.{local_end, peer_end}
+use Rattle.sockets.specs.Lost.{is_given_up}
 use Rattle.sockets.specs.Sound.{IsSoundConnection, IsSoundRole, IsSoundTable}
 use Rattle.sockets.specs.Causes.{Event, after_event, is_close_cause, is_cause_for, is_closed_state, IsEdge, reports_to, is_next_out, IsAdded, IsStep, Follows}
 use Rattle.sockets.proofs.Ends.{eqb-same, same_end-same}
 use Rattle.sockets.proofs.Emitting.{segment_sends}
 use Rattle.sockets.proofs.Opened.{found_passes}
 use Rattle.sockets.proofs.Followed.{IsNothing, by_test, joined_by, follows_map}
-use Rattle.sockets.proofs.Steps.{IsEventOf, closes_it, aborts_it, ticks_it, comes_to_it, goes_out, tells_it, entry, IsStepOf, stays, moves, ends, binds, listens, opens, accepted, requeues, binds_datagrams, closed, given_up, IsJoining, made, made_datagrams, called, IsStepped, followed, joined, stepped}
+use Rattle.sockets.proofs.Steps.{IsEventOf, closes_it, aborts_it, ticks_it, comes_to_it, goes_out, tells_it, loses_it, entry, IsStepOf, stays, moves, ends, binds, listens, opens, accepted, requeues, binds_datagrams, closed, given_up, IsJoining, made, made_datagrams, called, IsStepped, followed, joined, stepped}
 
 -- One connection.
 
@@ -85,6 +88,10 @@ tick_caused c now removed =
     by_test (is_at_end c now) (λ over. or_left _ _ over)
     (λ waits. by_test (gives_up c now) (λ over. or_right _ _ over) (λ lives. let kept : tick_fate c now ≡ Stays = rw (waits, lives) in cc))
 
+-- the loss of its hop takes out only what has waited for it as long as it may
+hop_caused : (c : View) (now : Moment) → hopless_fate c now ≡ Removed → has_come (unheard_until c) now ≡ true
+hop_caused c now removed = by_test (has_come (unheard_until c) now) (λ over. over) (λ waits. let kept : hopless_fate c now ≡ Stays = rw waits in cc)
+
 -- What causes an end of a connection, or an error, is a cause for its entry.
 
 -- the first that sends is what goes out
@@ -99,6 +106,7 @@ module _ (h : SocketsView) (id : SocketId) (c : View) (l : Option SocketId) wher
   cause_for _ _ (comes_to_it now isn source s between) cause = both _ _ between cause
   cause_for _ _ (goes_out goes now found) cause = both _ _ (comes_next h goes (entry id (Connected c l)) found) cause
   cause_for _ _ (tells_it local peer number between) cause = both _ _ between cause
+  cause_for _ _ (loses_it lost now hopless) cause = or_right (is_given_up lost (later_moment h now) (Connected c l)) _ (both _ _ hopless cause)
   cause_for _ _ _ cause = cc
 
   removal_for : (e : Event) (ev : edge.Event) → IsSoundConnection c → IsEventOf h (entry id (Connected c l)) e ev → edge.fate_by c ev ≡ Removed → is_cause_for h e (entry id (Connected c l)) ≡ true
@@ -114,12 +122,14 @@ module _ (h : SocketsView) (id : SocketId) (c : View) (l : Option SocketId) wher
       caused _ _ (comes_to_it now isn source s between) removed = removed_caused c (edge.Hears s (later_moment h now)) (live (local_end h s) (peer_end source s) between) removed
       caused _ _ (goes_out goes now found) removed = removed_caused c (edge.Emits (later_moment h now)) (due_not_over c sound.sound (segment_sends goes c l (found_passes (sends goes) h.entries (entry id (Connected c l)) found))) removed
       caused _ _ (tells_it local peer number between) removed = removed_caused c (edge.Unreachable number) (live local peer between) removed
+      caused _ _ (loses_it lost now hopless) removed = hop_caused c (later_moment h now) removed
       caused _ _ _ removed = cc
 
   report_for : (e : Event) (ev : edge.Event) (error : Error) → IsEventOf h (entry id (Connected c l)) e ev → edge.may_raise c ev error ≡ true → reports_to h e error (entry id (Connected c l)) ≡ true
   report_for _ _ error (ticks_it now) raises = raises
   report_for _ _ error (comes_to_it now isn source s between) raises = both _ _ between raises
   report_for _ _ error (tells_it local peer number between) raises = both _ _ between raises
+  report_for _ _ error (loses_it lost now hopless) raises = both _ _ hopless raises
   report_for _ _ error _ raises = cc
 
 -- a socket without a connection is gone by its close
@@ -152,7 +162,7 @@ step_caused h _ _ _ sound (accepted named id c l next) = (refl, inl refl, λ clo
 step_caused h e _ _ sound (requeues id bound before after) = (refl, tt, λ closes. cc, λ error told. inl told)
 step_caused h e _ _ sound (binds_datagrams id bound local before after takes) = (refl, tt, λ closes. cc, λ error told. inl told)
 step_caused h _ _ _ sound (closed named id role socket alone) = or_left _ _ (both _ _ socket (alone_caused h.kept role alone))
-step_caused h _ _ _ sound (given_up lost now x gone) = gone
+step_caused h _ _ _ sound (given_up lost now x gone) = or_left _ _ gone
 
 -- what is added is what an event may add
 pub joining_added : (h : SocketsView) (e : Event) (x : Entry) → IsJoining h e x → IsAdded h e (x ∷ [])

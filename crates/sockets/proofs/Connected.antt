@@ -25,13 +25,13 @@ bound_same (Connected c l) bound opens = absurd (had_opens_none c.state c.pendin
 bound_same _ bound opens = cc
 
 pub after_connect-given : (h : SocketsView) (isn : ℕ) (id : SocketId) (peer : Endpoint) (routed : Bool) (role : Role) (bound : Option Endpoint) (port : ℕ) → role_of h id ≡ Some role → open_answer role ≡ Ok bound → reach_refusal h peer routed ≡ None → port_for h bound peer ≡ Some port
-    → after_connect h isn id peer routed ≡ with_socket (record h { last_port = last_port_after h bound port }) id (role_after_connect (record { addr = h.addr; port = port }) peer isn)
+    → after_connect h isn id peer routed ≡ with_socket (record h { last_port = last_port_after h bound port }) id (role_after_connect (record { addr = h.addr; port = port }) peer isn h.kept)
 after_connect-given h isn id peer routed role bound port is opens reached given =
     let bound_there : option_and_then bound_of (role_of h id) ≡ bound = ap (λ (o : Option Role). option_and_then bound_of o) is ∙ bound_same role bound opens in
-    rw (is, opens, reached, given) (ap (λ (b : Option Endpoint). with_socket (record h { last_port = last_port_after h b port }) id (role_after_connect (record { addr = h.addr; port = port }) peer isn)) bound_there)
+    rw (is, opens, reached, given) (ap (λ (b : Option Endpoint). with_socket (record h { last_port = last_port_after h b port }) id (role_after_connect (record { addr = h.addr; port = port }) peer isn h.kept)) bound_there)
 
 pub after_connect-accepted : (h : SocketsView) (isn : ℕ) (id : SocketId) (peer : Endpoint) (routed : Bool) (x : Entry) (bound : Option Endpoint) (port : ℕ) → find (is_socket id) h.entries ≡ Some x → open_answer x.role ≡ Ok bound → reach_refusal h peer routed ≡ None → port_for h bound peer ≡ Some port
-    → after_connect h isn id peer routed ≡ with_socket (record h { last_port = last_port_after h bound port }) id (role_after_connect (record { addr = h.addr; port = port }) peer isn)
+    → after_connect h isn id peer routed ≡ with_socket (record h { last_port = last_port_after h bound port }) id (role_after_connect (record { addr = h.addr; port = port }) peer isn h.kept)
 after_connect-accepted h isn id peer routed x bound port found = after_connect-given h isn id peer routed x.role bound port (ap (λ (o : Option Entry). option_map (λ (e : Entry). e.role) o) found)
 
 -- a socket that is given this port by a connect

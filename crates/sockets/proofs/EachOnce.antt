@@ -57,7 +57,7 @@ module _ (h : SocketsView) where
   listens named backlog id (Datagrams bound queues) socket = remains refl
 
   connects : (isn port : ℕ) (named : SocketId) (peer : Endpoint) (routed : Bool) → port_connected h named peer routed ≡ Ok port → (id : SocketId) (r : Role) → is_socket named (entry id r) ≡ true
-      → IsLeft h (Connects isn named peer routed) id r (Some (entry id (role.role_after_connect (record { addr = h.addr; port = port }) peer isn r)))
+      → IsLeft h (Connects isn named peer routed) id r (Some (entry id (role.role_after_connect (record { addr = h.addr; port = port }) peer isn h.kept r)))
   connects isn port named peer routed given id (Connected c l) socket = refl
   connects isn port named peer routed given id (Idle buffers bound) socket = opens isn named peer routed port id buffers bound socket given
   connects isn port named peer routed given id (Listener l b) socket = remains refl
@@ -71,7 +71,7 @@ module _ (h : SocketsView) where
 
       by_port : (r : Result ℕ Refusal) → port_connected h named peer routed ≡ r → Follows (IsOneEvent h e) IsNothing h.entries (let w = after_connect h isn named peer routed in w.entries)
       by_port (Err refusal) given = rw given (unchanged h e (λ x l. (refl, refl)) (λ x. refl) (λ x. refl))
-      by_port (Ok port) given = rw given (sockets_change h e (λ x l. (refl, refl)) (λ x. refl) (λ x. refl) (is_socket named) (role.role_after_connect (record { addr = h.addr; port = port }) peer isn) (λ id r passes. connects isn port named peer routed given id r passes))
+      by_port (Ok port) given = rw given (sockets_change h e (λ x l. (refl, refl)) (λ x. refl) (λ x. refl) (is_socket named) (role.role_after_connect (record { addr = h.addr; port = port }) peer isn h.kept) (λ id r passes. connects isn port named peer routed given id r passes))
 
 -- what a UDP socket makes of itself is no event of a connection
 pub queues_change : (h : SocketsView) (e : Event) → IsPlain h e → ((x : Entry) → closes_socket e x ≡ false) → ((x : Entry) → event_of h e x ≡ None) → (bind : Option Endpoint → Option Endpoint) (change : Queues → Queues) (test : Entry → Bool) → ((x : Entry) → test x ≡ true → may_change h e x ≡ true)

@@ -21,7 +21,8 @@ use Rattle.sockets.specs.Lists.{change_first}
 use Rattle.sockets.specs.Entries.{on_connection, in_connection, on_datagrams, is_socket, is_between, waits_at, is_waiting_id, sends, is_kept, entries_after_step, entries_after_steps, is_datagrams_at, with_role}
 use Rattle.sockets.specs.Entries as role
 use Rattle.sockets.specs.SocketsView.{SocketsView, later_moment}
-use Rattle.sockets.specs.Lost.{is_given_up, give_up_fate_of, role_after_giving_up}
+use Rattle.tcp_state.specs.Hop.{hopless_fate}
+use Rattle.sockets.specs.Lost.{is_given_up, is_hopless, give_up_fate_of, role_after_giving_up}
 use Rattle.sockets.specs.Calls.{after_socket_closed, after_close}
 use Rattle.sockets.specs.Arrival.{local_end, peer_end, arrival_with_reply}
 use Rattle.sockets.specs.Causes.{Event, Makes, MakesDatagrams, Binds, Listens, Accepts, Connects, Sends, Receives, Shuts, Closes, Ticks, Hears, Emits, GivesUp, Unreachable, SendsTo, ReceivesFrom, HearsDatagram, after_arrival, after_event, is_next_out, IsAdded, Follows}
@@ -122,14 +123,14 @@ module _ (h : SocketsView) (id : SocketId) (o : IsOrdered h) where
 
 -- The clock.
 
-ticks_once : (h : SocketsView) (now : Moment) → Follows (IsOneEvent h (Ticks now)) IsNothing h.entries (let w = after_event h (Ticks now) in w.entries)
+pub ticks_once : (h : SocketsView) (now : Moment) → Follows (IsOneEvent h (Ticks now)) IsNothing h.entries (let w = after_event h (Ticks now) in w.entries)
 ticks_once h now =
     let later : Moment = later_moment h now in
     each_followed (IsOneEvent h (Ticks now)) IsNothing refl (λ x. is_kept (role.tick_fate_of later x.role)) (with_role (role.role_after_tick later)) h.entries
     (λ x kept. took h (Ticks now) (λ y l. (refl, refl)) (edge.Ticks later) (λ (c : View). edge.after_event c (edge.Ticks later)) (λ c. refl) x refl kept refl)
     (λ x gone. taken_out h (Ticks now) (λ y l. (refl, refl)) (edge.Ticks later) x refl gone)
 
-given_up_once : (h : SocketsView) (lost : Addr → Bool) (now : Moment) → Follows (IsOneEvent h (GivesUp lost now)) IsNothing h.entries (let w = after_event h (GivesUp lost now) in w.entries)
+pub given_up_once : (h : SocketsView) (lost : Addr → Bool) (now : Moment) → Follows (IsOneEvent h (GivesUp lost now)) IsNothing h.entries (let w = after_event h (GivesUp lost now) in w.entries)
 given_up_once h lost now = each_followed (IsOneEvent h e) IsNothing refl (λ x. is_kept (give_up_fate_of lost later x.role)) (with_role (role_after_giving_up lost later)) h.entries (λ x. stays x.id x.role) (λ x. goes x.id x.role)
   where
     e : Event
@@ -139,13 +140,23 @@ given_up_once h lost now = each_followed (IsOneEvent h e) IsNothing refl (λ x. 
     later = later_moment h now
 
     stays : (id : SocketId) (r : Role) → is_kept (give_up_fate_of lost later r) ≡ true → IsLeft h e id r (Some (entry id (role_after_giving_up lost later r)))
-    stays id (Connected c l) kept = by_test (is_given_up lost later (Connected c l)) (λ yes. let gone : is_kept (give_up_fate_of lost later (Connected c l)) ≡ false = rw yes in cc) (λ no. rw no refl)
+    stays id (Connected c l) kept =
+        by_test (is_given_up lost later (Connected c l))
+        (λ reset. let gone : is_kept (give_up_fate_of lost later (Connected c l)) ≡ false = rw reset in cc)
+        (λ other. by_test (is_hopless lost c)
+        (λ hopless. let so : is_kept (hopless_fate c later) ≡ true = rw (other, hopless) at kept in rw (other, hopless, so) refl)
+        (λ reached. rw (other, reached) refl))
     stays id (Idle buffers bound) kept = remains refl
     stays id (Listener l b) kept = remains refl
     stays id (Datagrams bound queues) kept = changes (entry id (role_after_giving_up lost later (Datagrams bound queues))) refl refl refl
 
     goes : (id : SocketId) (r : Role) → is_kept (give_up_fate_of lost later r) ≡ false → IsLeft h e id r None
-    goes id (Connected c l) gone = by_test (is_given_up lost later (Connected c l)) (λ yes. rw yes refl) (λ no. let kept : is_kept (give_up_fate_of lost later (Connected c l)) ≡ true = rw no in cc)
+    goes id (Connected c l) gone =
+        by_test (is_given_up lost later (Connected c l))
+        (λ reset. rw reset refl)
+        (λ other. by_test (is_hopless lost c)
+        (λ hopless. let so : is_kept (hopless_fate c later) ≡ false = rw (other, hopless) at gone in rw (other, hopless, so) refl)
+        (λ reached. let kept : is_kept (give_up_fate_of lost later (Connected c l)) ≡ true = rw (other, reached) in cc))
     goes id _ gone = cc
 
 -- Segments.

@@ -17,7 +17,7 @@ use Rattle.sockets.specs.declared.entry.Entry.{Entry}
 use Rattle.sockets.specs.declared.role.Role.{Role}
 use Rattle.sockets.specs.declared.role.Role.TheVariants.{Connected}
 use Rattle.sockets.specs.Entries.{is_between, is_of_pair, is_live_between, joins, new_waiting}
-use Rattle.sockets.specs.SocketsView.{SocketsView, holder_id}
+use Rattle.sockets.specs.SocketsView.{SocketsView, holder_id, later_moment}
 use Rattle.sockets.specs.Arrival.{Opens, local_end, peer_end, arrival_with_reply, after_opening, arrival}
 use Rattle.sockets.specs.Order.{LiesAt, IsOrdered}
 use Rattle.sockets.proofs.Arrivals.{by_arrival}
@@ -74,18 +74,18 @@ joins_own c l live = step (is_le (endpoint_cmp c.local c.peer))
     step false = second (is_live_between c.peer c.local (Connected c l)) (is_live_between c.local c.peer (Connected c l)) own
 
 -- what a segment opens
-record IsOpening (h : SocketsView) (isn : ℕ) (source : Addr) (s : Segment) (next : SocketsView) : Type 0 where
+record IsOpening (h : SocketsView) (now : Moment) (isn : ℕ) (source : Addr) (s : Segment) (next : SocketsView) : Type 0 where
   none : find (is_between (local_end h s) (peer_end source s)) h.entries ≡ None
   listener : Entry
-  is : next ≡ after_opening h isn listener source s
+  is : next ≡ after_opening h (later_moment h now) isn listener source s
 
 answers_not : (h : SocketsView) (reply : Option Head) (next : SocketsView) → arrival_with_reply h reply ≡ Opens next → ⊥
 answers_not h None next e = cc
 answers_not h (Some head) next e = cc
 
-opening_of : (h : SocketsView) (now : Moment) (isn : ℕ) (source : Addr) (s : Segment) (next : SocketsView) → arrival h now isn source s ≡ Opens next → IsOpening h isn source s next
+opening_of : (h : SocketsView) (now : Moment) (isn : ℕ) (source : Addr) (s : Segment) (next : SocketsView) → arrival h now isn source s ≡ Opens next → IsOpening h now isn source s next
 opening_of h now isn source s next =
-    by_arrival h now isn source s (λ a. a ≡ Opens next → IsOpening h isn source s next) (λ reply is opened. absurd (answers_not h reply next opened)) (λ e taker opened. cc) (λ listener called full opened. cc)
+    by_arrival h now isn source s (λ a. a ≡ Opens next → IsOpening h now isn source s next) (λ reply is opened. absurd (answers_not h reply next opened)) (λ e taker opened. cc) (λ listener called full opened. cc)
     (λ listener called room opened. record { none = called.none; listener = listener; is = cc })
 
 apart_too : (a b : Addr) → same_addr a b ≡ false → same_addr b a ≡ false
@@ -97,7 +97,7 @@ pub opening_holds : (h : SocketsView) (now : Moment) (isn : ℕ) (source : Addr)
     → holder_id next (pair_of (local_end h s) (peer_end source s)) ≡ Some (record { 0 = h.last_id + 1 })
 opening_holds h now isn source s next ordered apart opened =
     let o = opening_of h now isn source s next opened in
-    let c : View = opened_passively (local_end h s) (peer_end source s) isn s in
+    let c : View = opened_passively (local_end h s) (peer_end source s) isn s (later_moment h now) in
     let x : Entry = new_waiting (record { 0 = h.last_id + 1 }) o.listener.id c in
     let pair : Pair = pair_of (local_end h s) (peer_end source s) in
     let free : find (is_of_pair pair) h.entries ≡ None = unheld (local_end h s) (peer_end source s) h.entries (apart_too source h.addr apart) ordered.own o.none in

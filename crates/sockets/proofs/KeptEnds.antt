@@ -76,4 +76,5 @@ keeps-event v e =
       leaves = λ now alive. record { local = refl; peer = refl; live = λ lives. alive };
       aborts = λ e now moment cause alive. record { local = refl; peer = refl; live = λ lives. alive };
       refused = λ number hit. record { local = refl; peer = refl; live = λ lives. cc };
+      hopless = λ now over. record { local = refl; peer = refl; live = λ lives. cc };
     }) e

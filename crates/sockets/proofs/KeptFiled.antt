@@ -118,10 +118,10 @@ opens-unfiled : (id : SocketId) (r : Role) (bound : Option Endpoint) → open_an
 opens-unfiled id (Connected c l) bound opens = absurd (had_opens_none c.state c.pending_error bound opens)
 opens-unfiled id _ bound opens = refl
 
-opens-filed : (id : SocketId) (r : Role) (bound : Option Endpoint) (local peer : Endpoint) (isn : ℕ) → open_answer r ≡ Ok bound → filed_as id (role_after_connect local peer isn r) ≡ Some (filed_at id local peer)
-opens-filed id (Idle buffers b) bound local peer isn opens = refl
-opens-filed id (Connected c l) bound local peer isn opens = absurd (had_opens_none c.state c.pending_error bound opens)
-opens-filed id _ bound local peer isn opens = cc
+opens-filed : (id : SocketId) (r : Role) (bound : Option Endpoint) (local peer : Endpoint) (isn : ℕ) (now : Moment) → open_answer r ≡ Ok bound → filed_as id (role_after_connect local peer isn now r) ≡ Some (filed_at id local peer)
+opens-filed id (Idle buffers b) bound local peer isn now opens = refl
+opens-filed id (Connected c l) bound local peer isn now opens = absurd (had_opens_none c.state c.pending_error bound opens)
+opens-filed id _ bound local peer isn now opens = cc
 
 -- the entry of a socket that may open one
 module _ (xs ls : List Entry) (i : ℕ) (a : Entry) (id : SocketId) (bound : Option Endpoint) (place : position (is_socket id) xs ≡ Some i) (lent : ls ≡ xs) (opens : open_answer (get_or ls i a).role ≡ Ok bound) where
@@ -139,15 +139,15 @@ module _ (xs ls : List Entry) (i : ℕ) (a : Entry) (id : SocketId) (bound : Opt
   room_connected = room_index xs i a within_list (unfiled_here a)
 
   -- and it is filed
-  pub index_after_connect : (old index : List Filed) (zs : List Entry) (d y : Entry) (local peer : Endpoint) (isn : ℕ) → old ≡ index_of xs → index ≡ inserted (filed_at id local peer) old → zs ≡ xs
-      → y ≡ with_role (role_after_connect local peer isn) (get_or zs i d) → index ≡ index_of (refill (length xs) xs (set zs i y))
-  index_after_connect old index zs d y local peer isn was is same connected =
+  pub index_after_connect : (old index : List Filed) (zs : List Entry) (d y : Entry) (local peer : Endpoint) (isn : ℕ) (now : Moment) → old ≡ index_of xs → index ≡ inserted (filed_at id local peer) old → zs ≡ xs
+      → y ≡ with_role (role_after_connect local peer isn now) (get_or zs i d) → index ≡ index_of (refill (length xs) xs (set zs i y))
+  index_after_connect old index zs d y local peer isn now was is same connected =
       let e : Entry = get_or xs i d in
       let number : e.id.0 ≡ id.0 = eqb-true e.id.0 id.0 (and_parts (e.id.0 == id.0) (has_socket e.role) (position-Some (is_socket id) xs i d place).1).0 in
       let its_id : e.id ≡ id = ap (λ n. let s : SocketId = record { 0 = n } in s) number in
       let filed_now : filed y ≡ Some (filed_at id local peer) =
-      ap (λ (z : Entry). filed z) (connected ∙ ap (λ (ws : List Entry). with_role (role_after_connect local peer isn) (get_or ws i d)) same)
-      ∙ opens-filed e.id e.role bound local peer isn (opens_here d)
+      ap (λ (z : Entry). filed z) (connected ∙ ap (λ (ws : List Entry). with_role (role_after_connect local peer isn now) (get_or ws i d)) same)
+      ∙ opens-filed e.id e.role bound local peer isn now (opens_here d)
       ∙ ap (λ (s : SocketId). Some (filed_at s local peer)) its_id
       in
       index_connected old index xs zs i y d (filed_at id local peer) was is same within_list (ap (λ (ws : List Entry). filed (get_or ws i d)) same ∙ unfiled_here d) filed_now

@@ -49,12 +49,17 @@ pub mod Places
 pub mod ErrorsFirst
 pub mod Led
 pub mod Timed
+pub mod Unheard
+pub mod SoundTicks
+pub mod HopTicks
 pub mod Near
 pub mod Telling
 pub mod OneEvent
 pub mod EachOnce
 pub mod EventsOnce
 pub mod ByIds
+pub mod Hopless
+pub mod HopEnds
 pub mod Closings
 pub mod Strays
 pub mod Calling

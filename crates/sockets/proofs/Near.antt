@@ -24,17 +24,17 @@ use Rattle.sockets.specs.declared.entry.Entry.{Entry}
 use Rattle.sockets.specs.declared.role.Role.{Role}
 use Rattle.sockets.specs.declared.role.Role.TheVariants.{Idle, Listener, Connected, Datagrams}
 use Rattle.sockets.specs.Entries.{deadline_of}
-use Rattle.sockets.specs.Causes.{Event, GivesUp, after_event}
-use Rattle.sockets.specs.Lost.{after_giving_up}
+use Rattle.sockets.specs.Causes.{Event, after_event}
 use Rattle.sockets.specs.Sound.{IsSoundRole, IsSoundTable}
 use Rattle.sockets.specs.SocketsView.{SocketsView, new_sockets, later_moment}
 use Rattle.sockets.specs.Ticks.{least_deadline}
 use Rattle.sockets.specs.Timing.{AreSound, IsNear, IsNearIn, AreNear, IsUpTo}
 use Rattle.sockets.specs.Traffic.{after_events}
-use Rattle.sockets.proofs.Followed.{by_test, all_followed, all_joined}
+use Rattle.sockets.proofs.Followed.{by_test, all_joined}
 use Rattle.sockets.proofs.Numbered.{moment_kept}
-use Rattle.sockets.proofs.Steps.{IsEventOf, sends_it, reads_it, shuts_it, closes_it, aborts_it, ticks_it, comes_to_it, goes_out, tells_it, IsStepOf, stays, moves, opens, accepted, binds_datagrams, requeues, IsJoining, made, made_datagrams, called, IsStepped, followed, joined, stepped, later_up_to}
+use Rattle.sockets.proofs.Steps.{IsEventOf, sends_it, reads_it, shuts_it, closes_it, aborts_it, ticks_it, comes_to_it, goes_out, tells_it, loses_it, IsStepOf, stays, moves, opens, accepted, IsJoining, made, made_datagrams, called, IsStepped, followed, joined, stepped, later_up_to}
 use Rattle.sockets.proofs.Timed.{all_left}
+use Rattle.sockets.proofs.Unheard.{from_then, unheard_by}
 
 -- One connection.
 
@@ -86,10 +86,11 @@ since_by last c old =
       leaves = λ now lives told. chosen (is_fin_wait_2 c.state) (latest c.since now) c.since last (later_of c.since now last old (told now refl)) old;
       aborts = λ e now moment cause lives told. told now moment;
       refused = λ number hit told. old;
+      hopless = λ now over told. old;
     })
 
 event_near : (last : Moment) (c : View) (ev : edge.Event) → IsSound c → ((now : Moment) → edge.moment_of ev ≡ Some now → now.0 ≤ last.0) → IsNear last c → IsNear last (edge.after_event c ev)
-event_near last c ev sound told near = record { since = since_by last c near.since ev told; timers = λ kind end set. by_moment kind end set (edge.moment_of ev) refl }
+event_near last c ev sound told near = record { since = since_by last c near.since ev told; unheard = unheard_by last c near.unheard ev told; timers = λ kind end set. by_moment kind end set (edge.moment_of ev) refl }
   where
     by_moment : (kind : TimerKind) (end : Moment) → (let d = edge.after_event c ev in timer_of d.timers kind) ≡ Some end → (o : Option Moment) → edge.moment_of ev ≡ o → end.0 ≤ last.0 + 60000
     by_moment kind end set None is = near.timers kind end (never c ev end kind is set)
@@ -120,18 +121,19 @@ told_by h last kept x _ _ (ticks_it moment) up now is = same_moment (later_momen
 told_by h last kept x _ _ (comes_to_it moment isn source s between) up now is = same_moment (later_moment h moment) now last (later_up_to h moment last kept up) is
 told_by h last kept x _ _ (goes_out goes moment found) up now is = same_moment (later_moment h moment) now last (later_up_to h moment last kept up) is
 told_by h last kept x _ _ (tells_it local peer number between) up now is = cc
+told_by h last kept x _ _ (loses_it lost moment hopless) up now is = same_moment (later_moment h moment) now last (later_up_to h moment last kept up) is
 
 step_near : (h : SocketsView) (e : Event) (last : Moment) → h.kept.0 ≤ last.0 → IsUpTo last e → (x y : Entry) → IsStepOf h e x (Some y) → IsSoundRole x.role → IsNearIn last x.role → IsNearIn last y.role
 step_near h e last kept up x _ stays sound near = near
 step_near h e last kept up _ _ (moves ev id c l meets is) sound near = event_near last c ev sound.sound (told_by h last kept _ e ev meets up) near
-step_near h _ last kept up _ _ (opens isn named peer routed id buffers bound local names) sound near = record { since = omega arith; timers = none_near last }
+step_near h _ last kept up _ _ (opens isn named peer routed id buffers bound local names) sound near = record { since = omega arith; unheard = from_then last h.kept kept; timers = none_near last }
 step_near h _ last kept up _ _ (accepted named id c l next) sound near = near
 step_near h e last kept up _ _ _ sound near = tt
 
-joining_near : (h : SocketsView) (e : Event) (last : Moment) (x : Entry) → IsJoining h e x → IsNearIn last x.role
-joining_near h _ last _ (made buffers) = tt
-joining_near h _ last _ made_datagrams = tt
-joining_near h _ last _ (called now isn source s listener call) = record { since = omega arith; timers = none_near last }
+joining_near : (h : SocketsView) (e : Event) (last : Moment) → h.kept.0 ≤ last.0 → IsUpTo last e → (x : Entry) → IsJoining h e x → IsNearIn last x.role
+joining_near h _ last kept up _ (made buffers) = tt
+joining_near h _ last kept up _ made_datagrams = tt
+joining_near h _ last kept up _ (called now isn source s listener call) = record { since = omega arith; unheard = from_then last (later_moment h now) (later_up_to h now last kept up); timers = none_near last }
 
 moment_up_to : (h : SocketsView) (e : Event) (last : Moment) → h.kept.0 ≤ last.0 → IsUpTo last e → (let w = after_event h e in w.kept.0 ≤ last.0)
 moment_up_to h e last before up = by_step (after_event h e) (stepped h e)
@@ -145,21 +147,7 @@ each_near h e last sound up near = record { kept = moment_up_to h e last near.ke
   where
     by_step : (w : SocketsView) → IsStepped h e w → AllByRecursion (λ (x : Entry). IsNearIn last x.role) w.entries
     by_step w (followed f) = all_left (IsStepOf h e) (λ (x : Entry). IsSoundRole x.role) (λ (x : Entry). IsNearIn last x.role) (step_near h e last near.kept up) h.entries w.entries f.entries sound.entries near.each
-    by_step _ (joined {x = x} j) = all_joined (λ (y : Entry). IsNearIn last y.role) h.entries x near.each (joining_near h e last x j)
-
--- giving up moves no connection, so it wants none to be sound
-given_up_near : (h : SocketsView) (lost : Addr → Bool) (now last : Moment) (x y : Entry) → IsStepOf h (GivesUp lost now) x (Some y) → IsNearIn last x.role → IsNearIn last y.role
-given_up_near h lost now last x _ stays near = near
-given_up_near h lost now last _ _ (moves ev id c l meets is) near = elim meets [ ]
-given_up_near h lost now last _ _ (requeues id bound before after) near = tt
-given_up_near h lost now last _ _ (binds_datagrams id bound local before after takes) near = tt
-
-pub left_near : (h : SocketsView) (lost : Addr → Bool) (now last : Moment) → AreNear last h → AreNear last (after_giving_up h lost now)
-left_near h lost now last near = record { kept = near.kept; each = by_step (after_giving_up h lost now) (stepped h (GivesUp lost now)) }
-  where
-    by_step : (w : SocketsView) → IsStepped h (GivesUp lost now) w → AllByRecursion (λ (x : Entry). IsNearIn last x.role) w.entries
-    by_step w (followed f) = all_followed (IsStepOf h (GivesUp lost now)) (λ (x : Entry). IsNearIn last x.role) (given_up_near h lost now last) h.entries w.entries f.entries near.each
-    by_step _ (joined j) = elim j [ ]
+    by_step _ (joined {x = x} j) = all_joined (λ (y : Entry). IsNearIn last y.role) h.entries x near.each (joining_near h e last near.kept up x j)
 
 pub fresh_near : (addr : Addr) (last : Moment) → AreNear last (new_sockets addr)
 fresh_near addr last = record { kept = omega arith; each = tt }
@@ -174,7 +162,7 @@ further last new later [] all = tt
 further last new later (x ∷ xs) all = (by_role x.role all.0, further last new later xs all.1)
   where
     by_role : (r : Role) → IsNearIn last r → IsNearIn new r
-    by_role (Connected c l) near = record { since = omega (arith, near.since, later); timers = λ kind end set. omega (arith, near.timers kind end set, later) }
+    by_role (Connected c l) near = record { since = omega (arith, near.since, later); unheard = λ since is. omega (arith, near.unheard since is, later); timers = λ kind end set. omega (arith, near.timers kind end set, later) }
     by_role (Idle buffers bound) near = tt
     by_role (Listener local backlog) near = tt
     by_role (Datagrams bound queues) near = tt

@@ -1,5 +1,6 @@
 -- What events make of a connection that waits at a listener.
-use Rattle.std.proofs.Common.{◌≡◌, inl, inr, ℕ, ◌≤◌, ◌&&◌, ◌==◌, not, Bool, true, false, if◌then◌else◌, Option, Some, None, refl, sym, ◌∙◌, ap, subst, arith}
+use Rattle.std.proofs.Common.{◌≡◌, inl, inr, ℕ, ◌≤◌, ◌&&◌, ◌||◌, ◌==◌, not, Bool, true, false, if◌then◌else◌, Option, Some, None, refl, sym, ◌∙◌, ap, subst, arith}
+use Rattle.std.proofs.lemmas.Grind.{common_steps}
 use Rattle.ipv4.specs.declared.addr.Addr.{Addr}
 use Rattle.ipv4.specs.declared.addr.Endpoint.{Endpoint}
 use Rattle.udp_socket.specs.SocketView.{SocketView as Queues}
@@ -22,7 +23,8 @@ use Rattle.sockets.specs.declared.emission.Outgoing.{Outgoing}
 use Rattle.sockets.specs.declared.role.Role.{Role}
 use Rattle.sockets.specs.declared.role.Role.TheVariants.{Idle, Listener, Connected, Datagrams}
 use Rattle.sockets.specs.Entries.{on_connection, on_datagrams, is_pending, has_socket, waits_at, is_in_syn_received, backlog_of, is_kept, role_after_bind, role_after_listen, role_after_connect, role_after_accept, role_after_tick, tick_fate_of, role_after_unreachable, unreachable_fate_of, role_after_listener_close, listener_close_fate_of, role_after_emission, emission_fate_of}
-use Rattle.sockets.specs.Lost.{role_after_giving_up, give_up_fate_of}
+use Rattle.tcp_state.specs.Hop.{unheard_until, after_hopless, hopless_fate}
+use Rattle.sockets.specs.Lost.{is_given_up, is_hopless, role_after_giving_up, give_up_fate_of}
 use Rattle.sockets.specs.Offered.{is_ready}
 use Rattle.sockets.proofs.Ticked.{tick-passed, tick-gone as fate_tells}
 use Rattle.sockets.proofs.Followed.{by_test}
@@ -169,9 +171,9 @@ listening-stays backlog (Idle buffers (Some local)) p = quiet (Idle buffers (Som
 listening-stays backlog (Idle buffers None) p = as-it-was (Idle buffers None) p
 listening-stays backlog r p = as-it-was r p
 
-pub connecting-stays : (local peer : Endpoint) (isn : ℕ) (r : Role) → IsPlain r → StaysReady r (role_after_connect local peer isn r)
-connecting-stays local peer isn (Connected c l) p = as-it-was (Connected c l) p
-connecting-stays local peer isn r p = quiet r (role_after_connect local peer isn r) refl refl (omega arith)
+pub connecting-stays : (local peer : Endpoint) (isn : ℕ) (now : Moment) (r : Role) → IsPlain r → StaysReady r (role_after_connect local peer isn now r)
+connecting-stays local peer isn now (Connected c l) p = as-it-was (Connected c l) p
+connecting-stays local peer isn now r p = quiet r (role_after_connect local peer isn now r) refl refl (omega arith)
 
 pub queued-stays : (bind : Option Endpoint → Option Endpoint) (change : Queues → Queues) (r : Role) → IsPlain r → StaysReady r (on_datagrams bind change r)
 queued-stays bind change (Connected c l) p = as-it-was (Connected c l) p
@@ -230,16 +232,44 @@ emission-gone now what r gone p = gone-by r (λ c l is q. over-left c (after_fir
 
 -- Resets and datagrams that are given up.
 
-pub give_up-stays : (lost : Addr → Bool) (now : Moment) (r : Role) → IsPlain r → StaysReady r (role_after_giving_up lost now r)
-give_up-stays lost now (Connected c l) p = as-it-was (Connected c l) p
-give_up-stays lost now r p = quiet r (role_after_giving_up lost now r) refl refl (omega arith)
+-- what a listener opened passes SYN-RECEIVED, or is taken out
+hop-passed : (over released passive waits : Bool) → is_kept (if over && (released || (passive && waits)) then Removed else Stays) ≡ true → over ≡ true → passive ≡ true → waits ≡ false
+hop-passed over released passive waits kept e f = grind (arith, common_steps)
 
--- taken out is one that owes a reset, and was left
+hop-kept : (lost : Addr → Bool) (now : Moment) (c : View) → (is_hopless lost c ≡ true → is_kept (hopless_fate c now) ≡ true) → IsPlainView c → StaysOn c (if is_hopless lost c then after_hopless c now else c)
+hop-kept lost now c kept p =
+    by_test (is_hopless lost c)
+    (λ hopless. rw hopless (by_test (has_come (unheard_until c) now)
+    (λ over. rw over (goes-on c (after_reset c (Some ETIMEDOUT)) (ended c) (λ left. refl) p, sym (hop-passed (has_come (unheard_until c) now) c.released c.passive (is_syn_received c.state) (kept hopless) over p.passive)))
+    (λ waits. rw waits (unmoved c c (same c, refl) p))))
+    (λ reached. rw reached (unmoved c c (same c, refl) p))
+
+pub give_up-stays : (lost : Addr → Bool) (now : Moment) (r : Role) → is_kept (give_up_fate_of lost now r) ≡ true → IsPlain r → StaysReady r (role_after_giving_up lost now r)
+give_up-stays lost now (Connected c l) kept p =
+    stays-by (λ d. if is_hopless lost d then after_hopless d now else d) (Connected c l)
+    (λ d k is q. let same_view : c ≡ d = cc in subst (λ (x : View). StaysOn x (if is_hopless lost x then after_hopless x now else x)) same_view (hop-kept lost now c kept_by (subst IsPlainView (sym same_view) q))) p
+  where
+    kept_by : is_hopless lost c ≡ true → is_kept (hopless_fate c now) ≡ true
+    kept_by hopless =
+        by_test (is_given_up lost now (Connected c l))
+        (λ reset. let gone : is_kept (give_up_fate_of lost now (Connected c l)) ≡ false = rw reset in cc)
+        (λ other. rw (other, hopless) at kept)
+give_up-stays lost now r kept p = quiet r (role_after_giving_up lost now r) refl refl (omega arith)
+
+-- taken out is one that owes a reset, and was left, or one that is left, or in SYN-RECEIVED
 pub give_up-gone : (lost : Addr → Bool) (now : Moment) (r : Role) → is_kept (give_up_fate_of lost now r) ≡ false → IsPlain r → is_ready r ≡ false
 give_up-gone lost now r gone p = gone-by r unready p
   where
+    kept_by : (c : View) (b : Bool) → c.released ≡ false → is_syn_received c.state ≡ false → is_kept (if b then hopless_fate c now else Stays) ≡ true
+    kept_by c false held passed = refl
+    kept_by c true held passed =
+        by_test (has_come (unheard_until c) now)
+        (λ over. by_test c.passive (λ passive. rw (over, held, passive, passed) refl) (λ active. rw (over, held, active) refl))
+        (λ waits. rw waits refl)
+
     unready : Waiting (λ c. (not c.released && not (is_syn_received c.state)) ≡ false) r
-    unready c l is q = by_test c.released (λ left. rw left) (λ held. let kept = (rw (is, q.owes held) at gone) in cc)
+    unready c l is q = by_test c.released (λ left. rw left) (λ held. by_test (is_syn_received c.state) (λ waits. rw (held, waits) refl)
+        (λ passed. let kept : is_kept (give_up_fate_of lost now r) ≡ true = rw (is, q.owes held) (kept_by c (lost c.peer.addr) held passed) in cc))
 
 -- A hard error.
 

@@ -188,7 +188,7 @@ connect-outcome h isn id peer routed =
     by_result (port_connected h id peer routed) (λ refusal given. rw given (nothing-happens h))
     (λ port given.
     let local : Endpoint = record { addr = h.addr; port = port } in
-    rw given (still h _ refl refl (changed (is_socket id) (role_after_connect local peer isn) h.entries (λ x passes. connecting-stays local peer isn x.role))))
+    rw given (still h _ refl refl (changed (is_socket id) (role_after_connect local peer isn h.kept) h.entries (λ x passes. connecting-stays local peer isn h.kept x.role))))
 
 sendto-outcome : (h : SocketsView) (id : SocketId) (peer : Endpoint) (octets : List ℕ) (routed : Bool) → Outcome h (after_sendto h id peer octets routed)
 sendto-outcome h id peer octets routed =
@@ -272,11 +272,11 @@ answer-outcome : (h : SocketsView) (reply : Option Head) → Outcome h (after_ar
 answer-outcome h None = nothing-happens h
 answer-outcome h (Some head) = nothing-happens h
 
-opening-outcome : (h : SocketsView) (isn : ℕ) (listener : Entry) (source : Addr) (s : Segment) → find (is_listening_at s.destination) h.entries ≡ Some listener → has_no_room h listener ≡ false → Outcome h (after_opening h isn listener source s)
-opening-outcome h isn listener source s found place =
+opening-outcome : (h : SocketsView) (now : Moment) (isn : ℕ) (listener : Entry) (source : Addr) (s : Segment) → find (is_listening_at s.destination) h.entries ≡ Some listener → has_no_room h listener ≡ false → Outcome h (after_opening h now isn listener source s)
+opening-outcome h now isn listener source s found place =
     let parts = or_parts _ _ place in
     Joined (record {
-      new = new_waiting (record { 0 = h.last_id + 1 }) listener.id (opened_passively (local_end h s) (peer_end source s) isn s);
+      new = new_waiting (record { 0 = h.last_id + 1 }) listener.id (opened_passively (local_end h s) (peer_end source s) isn s now);
       id = refl;
       last = refl;
       entries = refl;
@@ -322,7 +322,7 @@ taking-outcome h now source s e taker = by_test (is_offered_by moment s e.role) 
 segment-outcome : (h : SocketsView) (now : Moment) (isn : ℕ) (source : Addr) (s : Segment) → Outcome h (after_arrival h (arrival h now isn source s))
 segment-outcome h now isn source s =
     by_arrival h now isn source s (λ a. Outcome h (after_arrival h a)) (λ reply is. answer-outcome h reply) (λ e taker. taking-outcome h now source s e taker)
-    (λ listener called full. nothing-happens h) (λ listener called room. opening-outcome h isn listener source s called.found room)
+    (λ listener called full. nothing-happens h) (λ listener called room. opening-outcome h (later_moment h now) isn listener source s called.found room)
 
 pub outcome : (h : SocketsView) (e : Event) → IsAllowed h e → Outcome h (after_event h e)
 outcome h (Makes buffers) allowed = Joined (record { new = new_socket (record { 0 = h.last_id + 1 }) buffers; id = refl; last = refl; entries = refl; offered = refl; place = allowed; plain = tt; ready = refl; room = λ id w. cc })
@@ -339,7 +339,7 @@ outcome h (Ticks now) allowed = let later = later_moment h now in still h _ refl
 outcome h (Hears now isn source s) allowed = segment-outcome h now isn source s
 outcome h (Emits goes now) allowed = emission-outcome h goes now
 outcome h (GivesUp lost now) allowed =
-    let later = later_moment h now in still h _ refl refl (all-settled (give_up_fate_of lost later) (role_after_giving_up lost later) h.entries (λ r kept. give_up-stays lost later r) (give_up-gone lost later))
+    let later = later_moment h now in still h _ refl refl (all-settled (give_up_fate_of lost later) (role_after_giving_up lost later) h.entries (give_up-stays lost later) (give_up-gone lost later))
 outcome h (Unreachable local peer number) allowed = error-outcome h local peer number
 outcome h (SendsTo id peer octets routed) allowed = sendto-outcome h id peer octets routed
 outcome h (ReceivesFrom id len) allowed = still h _ refl refl (changed (is_socket id) (on_datagrams _ _) h.entries (λ x passes. queued-stays _ _ x.role))

@@ -2,6 +2,7 @@
 use Rattle.std.proofs.Common.{◌≡◌, ℕ, ◌==◌, Bool, true, cond, List, [], ◌∷◌, Option, Some, None, option_map, option_and_then, Result, Ok, Err, refl, sym, ◌∙◌, ap}
 use Rattle.std.specs.List.{find}
 use Rattle.std.proofs.lemmas.Bool.{and_parts, and_from}
+use Rattle.clock.specs.declared.moment.Moment.{Moment}
 use Rattle.ipv4.specs.declared.addr.Endpoint.{Endpoint}
 use Rattle.ipv4.specs.declared.addr.Pair.{Pair}
 use Rattle.ipv4.specs.Addresses.{pair_of}
@@ -38,11 +39,11 @@ found_passes test (y ∷ ys) x found =
     (λ not_here. found_passes test ys x (ap (λ b. cond b (Some y) (find test ys)) (sym not_here) ∙ found))
 
 -- a role that may open a connection opens it
-opens_pair : (role : Role) (bound : Option Endpoint) (local peer : Endpoint) (isn : ℕ) → open_answer role ≡ Ok bound
-    → (has_socket (role_after_connect local peer isn role) ≡ true) × (pair_in (role_after_connect local peer isn role) ≡ Some (pair_of local peer))
-opens_pair (Idle buffers b) bound local peer isn e = (refl, refl)
-opens_pair (Connected c l) bound local peer isn e = absurd (had_opens_none c.state c.pending_error bound e)
-opens_pair _ bound local peer isn e = cc
+opens_pair : (role : Role) (bound : Option Endpoint) (local peer : Endpoint) (isn : ℕ) (now : Moment) → open_answer role ≡ Ok bound
+    → (has_socket (role_after_connect local peer isn now role) ≡ true) × (pair_in (role_after_connect local peer isn now role) ≡ Some (pair_of local peer))
+opens_pair (Idle buffers b) bound local peer isn now e = (refl, refl)
+opens_pair (Connected c l) bound local peer isn now e = absurd (had_opens_none c.state c.pending_error bound e)
+opens_pair _ bound local peer isn now e = cc
 
 -- a socket that stays one has the role that it was given
 pub socket_changed : (h : SocketsView) (id : SocketId) (change : Role → Role) (role : Role) → role_of h id ≡ Some role → has_socket (change role) ≡ true → role_of (with_socket h id change) id ≡ Some (change role)
@@ -64,8 +65,8 @@ connect_opens h isn id peer routed pair foreseen = by_port (port_connected h id 
     by_port (Ok port) given =
         let local : Endpoint = record { addr = h.addr; port = port } in
         let c = connecting h id peer routed port given in
-        let parts = opens_pair c.role c.bound local peer isn c.opens in
+        let parts = opens_pair c.role c.bound local peer isn h.kept c.opens in
         let told : pair_connected h id peer routed ≡ Some (pair_of local peer) = rw given in
         ap (λ (w : SocketsView). socket_pair w id) (after_connect-given h isn id peer routed c.role c.bound port c.is c.opens c.reached c.given)
-        ∙ ap (λ (o : Option Role). option_and_then pair_in o) (socket_changed (record h { last_port = last_port_after h c.bound port }) id (role_after_connect local peer isn) c.role c.is parts.0)
+        ∙ ap (λ (o : Option Role). option_and_then pair_in o) (socket_changed (record h { last_port = last_port_after h c.bound port }) id (role_after_connect local peer isn h.kept) c.role c.is parts.0)
         ∙ parts.1 ∙ sym told ∙ foreseen

@@ -3,6 +3,7 @@ use Rattle.std.proofs.Common.{◌≡◌, ℕ, ◌+◌, ◌≤◌, ◌==◌, ◌&
 use Rattle.std.proofs.lemmas.Grind.{common_steps}
 use Rattle.std.specs.List.{find, list_any}
 use Rattle.std.proofs.lemmas.Bool.{eqb-true, and_parts, or_parts}
+use Rattle.clock.specs.declared.moment.Moment.{Moment}
 use Rattle.ipv4.specs.declared.addr.Addr.{Addr}
 use Rattle.ipv4.specs.declared.addr.Endpoint.{Endpoint}
 use Rattle.udp_socket.specs.SocketView.{SocketView as Queues, with_sent}
@@ -17,7 +18,7 @@ use Rattle.ipv4.specs.Addresses.{same_addr, same_end}
 use Rattle.sockets.specs.declared.role.Role.{Role}
 use Rattle.sockets.specs.declared.role.Role.TheVariants.{Idle, Listener, Datagrams}
 use Rattle.sockets.specs.Entries.{is_socket, is_between, sends, has_port, uses_port, role_after_bind, role_after_connect, new_socket, new_datagram_socket, new_waiting, on_datagrams, is_datagrams_at, with_role}
-use Rattle.sockets.specs.SocketsView.{SocketsView, new_sockets, role_of}
+use Rattle.sockets.specs.SocketsView.{SocketsView, new_sockets, later_moment, role_of}
 use Rattle.sockets.specs.Calls.{reach_refusal, port_for, last_port_after, is_pair_held, bound_of, port_at, port_bound, last_port_bound, bind_refusal, after_bind, port_connected, connect_refusal, after_connect}
 use Rattle.sockets.specs.Datagrams.{sending_end, end_sent_from, after_sendto}
 use Rattle.sockets.specs.Arrival.{local_end, peer_end, after_opening}
@@ -159,16 +160,16 @@ counted_dynamic h (Some b) peer port dynamic given = dynamic
 counted_dynamic h None peer port dynamic given = given_dynamic (is_free_port h.entries h.addr peer) h.last_port 0 16384 port given
 
 -- between the two ends alone a connection comes to lie
-connecting_role : (h : SocketsView) (local peer : Endpoint) (isn : ℕ) → local.addr ≡ h.addr → same_addr peer.addr h.addr ≡ false → (r : Role) → IsBound (λ (l p : Endpoint). same_end local l && same_end peer p) no_port no_port h.addr r (role_after_connect local peer isn r)
-connecting_role h local peer isn own other (Idle buffers bound) = record { ends = λ l p apart live. let bad : true ≡ false = sym live ∙ apart in cc; port = λ port e has. cc; datagrams = λ port e has. cc; own = λ lies. (own, other) }
-connecting_role h local peer isn own other _ = record { ends = λ l p e live. live; port = λ port e has. has; datagrams = λ port e has. has; own = λ lies. lies }
+connecting_role : (h : SocketsView) (local peer : Endpoint) (isn : ℕ) (now : Moment) → local.addr ≡ h.addr → same_addr peer.addr h.addr ≡ false → (r : Role) → IsBound (λ (l p : Endpoint). same_end local l && same_end peer p) no_port no_port h.addr r (role_after_connect local peer isn now r)
+connecting_role h local peer isn now own other (Idle buffers bound) = record { ends = λ l p apart live. let bad : true ≡ false = sym live ∙ apart in cc; port = λ port e has. cc; datagrams = λ port e has. cc; own = λ lies. (own, other) }
+connecting_role h local peer isn now own other _ = record { ends = λ l p e live. live; port = λ port e has. has; datagrams = λ port e has. has; own = λ lies. lies }
 
 opened_ordered : (h : SocketsView) (id : SocketId) (peer : Endpoint) (isn port last : ℕ) → IsDynamic last → same_addr peer.addr h.addr ≡ false → is_pair_held h port peer ≡ false → IsOrdered h
-    → IsOrdered (record h { last_port = last; entries = change_first (is_socket id) (with_role (role_after_connect (record { addr = h.addr; port = port }) peer isn)) h.entries })
+    → IsOrdered (record h { last_port = last; entries = change_first (is_socket id) (with_role (role_after_connect (record { addr = h.addr; port = port }) peer isn h.kept)) h.entries })
 opened_ordered h id peer isn port last dynamic reached free o =
     let w : SocketsView = record h { last_port = last; entries = changed } in
     ordered_by at_ends no_port no_port h w refl refl (λ (d : IsDynamic h.last_port). dynamic)
-    (first_changed (Keeps at_ends no_port no_port h.addr) IsNothing refl (is_socket id) (with_role (role_after_connect local peer isn)) h.entries (itself at_ends no_port no_port h) (λ x passes found. (refl, connecting_role h local peer isn refl reached x.role)))
+    (first_changed (Keeps at_ends no_port no_port h.addr) IsNothing refl (is_socket id) (with_role (role_after_connect local peer isn h.kept)) h.entries (itself at_ends no_port no_port h) (λ x passes found. (refl, connecting_role h local peer isn h.kept refl reached x.role)))
     at_them
     (λ n e. cc) (λ n e. cc) o
   where
@@ -179,12 +180,12 @@ opened_ordered h id peer isn port last dynamic reached free o =
     at_ends l p = same_end local l && same_end peer p
 
     changed : List Entry
-    changed = change_first (is_socket id) (with_role (role_after_connect local peer isn)) h.entries
+    changed = change_first (is_socket id) (with_role (role_after_connect local peer isn h.kept)) h.entries
 
     one : count_by (is_between local peer) changed ≤ 1
     one =
         let none : count_by (is_between local peer) h.entries ≡ 0 = count_none (is_between local peer) h.entries free in
-        let more : count_by (is_between local peer) changed ≤ count_by (is_between local peer) h.entries + 1 = count_changed (is_socket id) (is_between local peer) (with_role (role_after_connect local peer isn)) h.entries in
+        let more : count_by (is_between local peer) changed ≤ count_by (is_between local peer) h.entries + 1 = count_changed (is_socket id) (is_between local peer) (with_role (role_after_connect local peer isn h.kept)) h.entries in
         omega arith
 
     at_them : (l p : Endpoint) → at_ends l p ≡ true → count_by (is_between l p) changed ≤ 1
@@ -202,9 +203,9 @@ connect_ordered h isn id peer routed allowed o =
 
 -- What else joins the table.
 
-opening_ordered : (h : SocketsView) (isn : ℕ) (listener : Entry) (source : Addr) (s : Segment) → find (is_between (local_end h s) (peer_end source s)) h.entries ≡ None → same_addr source h.addr ≡ false → IsOrdered h → IsOrdered (after_opening h isn listener source s)
-opening_ordered h isn listener source s none apart o =
-    joined_ordered h (new_waiting (record { 0 = h.last_id + 1 }) listener.id (opened_passively (local_end h s) (peer_end source s) isn s)) refl free (λ port. refl) (λ port. refl) (refl, apart) o
+opening_ordered : (h : SocketsView) (now : Moment) (isn : ℕ) (listener : Entry) (source : Addr) (s : Segment) → find (is_between (local_end h s) (peer_end source s)) h.entries ≡ None → same_addr source h.addr ≡ false → IsOrdered h → IsOrdered (after_opening h now isn listener source s)
+opening_ordered h now isn listener source s none apart o =
+    joined_ordered h (new_waiting (record { 0 = h.last_id + 1 }) listener.id (opened_passively (local_end h s) (peer_end source s) isn s now)) refl free (λ port. refl) (λ port. refl) (refl, apart) o
   where
     free : (l p : Endpoint) → (same_end (local_end h s) l && same_end (peer_end source s) p) ≡ true → count_by (is_between l p) h.entries ≡ 0
     free l p is =
@@ -215,7 +216,7 @@ opening_ordered h isn listener source s none apart o =
 joining_ordered : (h : SocketsView) (e : Event) (x : Entry) → IsJoining h e x → IsAllowed h e → IsOrdered h → IsOrdered (record h { last_id = h.last_id + 1; entries = h.entries ++ x ∷ [] })
 joining_ordered h _ _ (made buffers) allowed o = joined_ordered h (new_socket (record { 0 = h.last_id + 1 }) buffers) refl (λ l p live. cc) (λ port. refl) (λ port. refl) tt o
 joining_ordered h _ _ made_datagrams allowed o = joined_ordered h (new_datagram_socket (record { 0 = h.last_id + 1 })) refl (λ l p live. cc) (λ port. refl) (λ port. refl) tt o
-joining_ordered h _ _ (called now isn source s listener call) allowed o = opening_ordered h isn listener source s call.none allowed o
+joining_ordered h _ _ (called now isn source s listener call) allowed o = opening_ordered h (later_moment h now) isn listener source s call.none allowed o
 
 -- Datagrams.
 

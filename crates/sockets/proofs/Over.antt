@@ -1,10 +1,10 @@
 -- Why no connection stays in the table that is over.
-use Rattle.std.proofs.Common.{◌≡◌, ◌||◌, Bool, true, false, if◌then◌else◌, Some, refl, ◌∙◌, ap, arith}
+use Rattle.std.proofs.Common.{◌≡◌, ◌&&◌, ◌||◌, Bool, true, false, if◌then◌else◌, Some, refl, ◌∙◌, ap, arith}
 use Rattle.std.proofs.lemmas.Grind.{common_steps}
 use Rattle.tcp_segment.specs.Segment.{Segment}
 use Rattle.tcp_state.specs.declared.state.State.{State}
 use Rattle.tcp_state.specs.declared.connection.Fate.TheVariants.{Stays, Removed, Rejected}
-use Rattle.tcp_state.specs.View.{View, is_closed, is_over, after_reset}
+use Rattle.tcp_state.specs.View.{View, is_closed, is_syn_received, is_over, after_reset}
 use Rattle.tcp_state.specs.Calls.{beyond_shutdown}
 use Rattle.tcp_state.specs.Arrival.{is_lost, after_segment, after_heard, is_rejected, ends_opening, fate}
 use Rattle.tcp_state.specs.Due.{first_due}
@@ -40,6 +40,10 @@ heard_left c s live kept =
 unless_over : (d : View) → is_kept (if is_over d then Removed else Stays) ≡ true → is_over d ≡ false
 unless_over d kept = by_test (is_over d) (λ over. let gone : is_kept (if is_over d then Removed else Stays) ≡ false = rw over in cc) (λ left. left)
 
+-- what its caller closed is taken out with its hop
+unreleased : (released opening : Bool) → is_kept (if released || opening then Removed else Stays) ≡ true → released ≡ false
+unreleased released opening kept = grind (arith, common_steps)
+
 -- what an event leaves in the table is not over
 event_left : (c : View) (e : edge.Event) → is_kept (edge.fate_by c e) ≡ true → is_over c ≡ false → is_over (edge.after_event c e) ≡ false
 event_left c e kept left =
@@ -57,6 +61,7 @@ event_left c e kept left =
       leaves = λ now live kept. rw (shut_closed c.state, live);
       aborts = λ e now moment cause live kept. refl;
       refused = λ number hit kept. unless_over (after_reset c (Some ECONNREFUSED)) (rw hit at kept);
+      hopless = λ now over kept. let alone : c.released ≡ false = unreleased c.released (c.passive && is_syn_received c.state) (rw over at kept) in rw alone;
     }) e kept
 
 -- The table.

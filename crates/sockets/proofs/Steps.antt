@@ -30,7 +30,8 @@ use Rattle.sockets.specs.declared.role.Role.TheVariants.{Idle, Listener, Connect
 use Rattle.sockets.specs.Entries.{on_connection, in_connection, on_datagrams, is_socket, waits_at, is_waiting_at, is_waiting_id, is_between, sends, new_socket, new_datagram_socket, new_waiting, is_kept, entries_after_step, entries_after_steps, role_after_bind, role_after_listen, role_after_connect, role_after_accept, role_after_close, close_fate_of, role_after_listener_close, listener_close_fate_of, role_after_tick, tick_fate_of, with_first, role_after_emission, emission_fate_of, is_datagrams_at, with_role}
 use Rattle.sockets.specs.SocketsView.{SocketsView, later_moment, role_of, with_socket}
 use Rattle.sockets.specs.Lists.{change_first}
-use Rattle.sockets.specs.Lost.{is_given_up, role_after_giving_up, give_up_fate_of}
+use Rattle.tcp_state.specs.Hop.{hopless_fate}
+use Rattle.sockets.specs.Lost.{is_given_up, is_hopless, loses_hop, role_after_giving_up, give_up_fate_of}
 use Rattle.sockets.specs.Emission.{after_segment_sent}
 use Rattle.sockets.specs.Unreachable.{after_unreachable}
 use Rattle.sockets.specs.Calls.{port_bound, after_bind, is_next_at, port_connected, after_connect, after_socket_closed, after_close}
@@ -46,7 +47,7 @@ use Rattle.sockets.proofs.Told.{told-found, told-none}
 use Rattle.sockets.proofs.Followed.{IsNothing, by_test, some_same, as_it_was, first_changed, each_followed, settled_followed, steps_joined}
 
 -- An event of the table that is one of an entry's connection: a call of its socket, the close of the listener that it waits at, a tick, a segment of its
--- two ends, that something of it goes out, or a hard error about a segment between its two ends.
+-- two ends, that something of it goes out, a hard error about a segment between its two ends, or the loss of its hop.
 pub data IsEventOf (h : SocketsView) (x : Entry) : Event → edge.Event → Type 0 where
   sends_it : (id : SocketId) (octets : List ℕ) → is_socket id x ≡ true → IsEventOf h x (Sends id octets) (edge.Sends octets h.kept)
   reads_it : (id : SocketId) (len : ℕ) → is_socket id x ≡ true → IsEventOf h x (Receives id len) (edge.Receives len)
@@ -57,6 +58,7 @@ pub data IsEventOf (h : SocketsView) (x : Entry) : Event → edge.Event → Type
   comes_to_it : (now : Moment) (isn : ℕ) (source : Addr) (s : Segment) → is_between (local_end h s) (peer_end source s) x ≡ true → IsEventOf h x (Hears now isn source s) (edge.Hears s (later_moment h now))
   goes_out : (goes : Addr → Bool) (now : Moment) → find (sends goes) h.entries ≡ Some x → IsEventOf h x (Emits goes now) (edge.Emits (later_moment h now))
   tells_it : (local peer : Endpoint) (number : ℕ) → is_between local peer x ≡ true → IsEventOf h x (Unreachable local peer number) (edge.Unreachable number)
+  loses_it : (lost : Addr → Bool) (now : Moment) → loses_hop lost x.role ≡ true → IsEventOf h x (GivesUp lost now) (edge.LosesHop (later_moment h now))
 
 -- an entry by its two parts
 abbrev pub entry : SocketId → Role → Entry
@@ -82,7 +84,7 @@ pub data IsStepOf (h : SocketsView) : Event → Entry → Option Entry → Type 
   listens : (named : SocketId) (backlog : ℕ) (id : SocketId) (buffers : Buffers) (local : Endpoint) → is_socket named (entry id (Idle buffers (Some local))) ≡ true
       → IsStepOf h (Listens named backlog) (entry id (Idle buffers (Some local))) (Some (entry id (Listener local backlog)))
   opens : (isn : ℕ) (named : SocketId) (peer : Endpoint) (routed : Bool) (id : SocketId) (buffers : Buffers) (bound : Option Endpoint) (local : Endpoint) → is_socket named (entry id (Idle buffers bound)) ≡ true
-      → IsStepOf h (Connects isn named peer routed) (entry id (Idle buffers bound)) (Some (entry id (Connected (opened_actively local peer isn) None)))
+      → IsStepOf h (Connects isn named peer routed) (entry id (Idle buffers bound)) (Some (entry id (Connected (opened_actively local peer isn h.kept) None)))
   accepted : (named id : SocketId) (c : View) (l : Option SocketId) → is_next_at h named (entry id (Connected c l)) ≡ true → IsStepOf h (Accepts named) (entry id (Connected c l)) (Some (entry id (Connected c None)))
   requeues : {e : Event} (id : SocketId) (bound : Option Endpoint) (before after : Queues) → IsStepOf h e (entry id (Datagrams bound before)) (Some (entry id (Datagrams bound after)))
   binds_datagrams : {e : Event} (id : SocketId) (bound : Option Endpoint) (local : Endpoint) (before after : Queues) → takes_end e ≡ true → IsStepOf h e (entry id (Datagrams bound before)) (Some (entry id (Datagrams (Some local) after)))
@@ -94,7 +96,7 @@ pub data IsJoining (h : SocketsView) : Event → Entry → Type 0 where
   made : (buffers : Buffers) → IsJoining h (Makes buffers) (new_socket (record { 0 = h.last_id + 1 }) buffers)
   made_datagrams : IsJoining h MakesDatagrams (new_datagram_socket (record { 0 = h.last_id + 1 }))
   called : (now : Moment) (isn : ℕ) (source : Addr) (s : Segment) (listener : Entry) → IsCalled h source s listener
-      → IsJoining h (Hears now isn source s) (new_waiting (record { 0 = h.last_id + 1 }) listener.id (opened_passively (local_end h s) (peer_end source s) isn s))
+      → IsJoining h (Hears now isn source s) (new_waiting (record { 0 = h.last_id + 1 }) listener.id (opened_passively (local_end h s) (peer_end source s) isn s (later_moment h now)))
 
 -- the table where an event adds nothing
 pub record IsFollowed (h : SocketsView) (e : Event) (w : SocketsView) : Type 0 where
@@ -122,11 +124,6 @@ gone_removed r gone = grind arith
 staying : (role : Role) → is_kept (in_connection Stays (λ (c : View). Stays) role) ≡ true
 staying (Connected c l) = refl
 staying _ = refl
-
--- a reset is given up where its test passes
-given_up_gone : (b : Bool) → is_kept (if b then Removed else Stays) ≡ false → b ≡ true
-given_up_gone true gone = refl
-given_up_gone false gone = cc
 
 -- the later of a moment and the kept one is no earlier than either
 pub later_kept : (h : SocketsView) (now : Moment) → (let later = later_moment h now in (h.kept.0 ≤ later.0) × (now.0 ≤ later.0))
@@ -223,7 +220,7 @@ accepting : (h : SocketsView) (named id : SocketId) (role : Role) → is_next_at
 accepting h named id (Connected c l) next = accepted named id c l next
 accepting h named id _ next = stays
 
-opening : (h : SocketsView) (isn : ℕ) (named id : SocketId) (local peer : Endpoint) (routed : Bool) (role : Role) → is_socket named (entry id role) ≡ true → IsStepOf h (Connects isn named peer routed) (entry id role) (Some (entry id (role_after_connect local peer isn role)))
+opening : (h : SocketsView) (isn : ℕ) (named id : SocketId) (local peer : Endpoint) (routed : Bool) (role : Role) → is_socket named (entry id role) ≡ true → IsStepOf h (Connects isn named peer routed) (entry id role) (Some (entry id (role_after_connect local peer isn h.kept role)))
 opening h isn named id local peer routed (Idle buffers before) socket = opens isn named peer routed id buffers before local socket
 opening h isn named id local peer routed _ socket = stays
 
@@ -233,7 +230,7 @@ connect_stepped h isn id peer routed = by_port (port_connected h id peer routed)
     by_port : (r : Result ℕ Refusal) → port_connected h id peer routed ≡ r → IsStepped h (Connects isn id peer routed) (after_connect h isn id peer routed)
     by_port (Err refusal) given = rw given (unchanged h (Connects isn id peer routed) refl)
     by_port (Ok port) given = rw given (ported h (Connects isn id peer routed) refl _ h.identification _ (λ none. refl) refl
-        (changes h (Connects isn id peer routed) (is_socket id) (role_after_connect (record { addr = h.addr; port = port }) peer isn) (λ x passes. opening h isn id x.id (record { addr = h.addr; port = port }) peer routed x.role passes)))
+        (changes h (Connects isn id peer routed) (is_socket id) (role_after_connect (record { addr = h.addr; port = port }) peer isn h.kept) (λ x passes. opening h isn id x.id (record { addr = h.addr; port = port }) peer routed x.role passes)))
 
 -- a read into an empty buffer leaves the connection
 pub read_either : (c : View) (len : ℕ) → let d : View = if len == 0 then c else after_recv c len in (d ≡ c) ⊎ (d ≡ edge.after_event c (edge.Receives len))
@@ -386,9 +383,33 @@ emission_stepped h goes now = by_entry (find (sends goes) h.entries) refl
         (λ kept x passes at. going what x.id x.role (goes_out goes now at) (ap (λ y. is_kept (fate y)) (some_same _ x first at found) ∙ kept))
         (λ gone x passes at. gone_out what x.id x.role (goes_out goes now at) (ap (λ y. is_kept (fate y)) (some_same _ x first at found) ∙ gone))))
 
-giving_up : (h : SocketsView) (lost : Addr → Bool) (now later : Moment) (id : SocketId) (role : Role) → IsStepOf h (GivesUp lost now) (entry id role) (Some (entry id (role_after_giving_up lost later role)))
-giving_up h lost now later id (Datagrams before queues) = requeues id before queues _
-giving_up h lost now later id _ = stays
+-- What waits for a lost address is given up: a connection goes on by the loss of its hop, or not at all.
+
+module _ (h : SocketsView) (lost : Addr → Bool) (now : Moment) where
+  abbrev gives_up : Event
+  gives_up = GivesUp lost now
+
+  abbrev by_then : Moment
+  by_then = later_moment h now
+
+  giving_up : (id : SocketId) (role : Role) → is_kept (give_up_fate_of lost by_then role) ≡ true → IsStepOf h gives_up (entry id role) (Some (entry id (role_after_giving_up lost by_then role)))
+  giving_up id (Connected c l) kept =
+      by_test (is_given_up lost by_then (Connected c l))
+      (λ reset. let gone : is_kept (give_up_fate_of lost by_then (Connected c l)) ≡ false = rw reset in cc)
+      (λ other. by_test (is_hopless lost c)
+      (λ hopless. let so : is_kept (hopless_fate c by_then) ≡ true = rw (other, hopless) at kept in rw hopless (moves (edge.LosesHop by_then) id c l (loses_it lost now hopless) so))
+      (λ reached. rw reached stays))
+  giving_up id (Datagrams before queues) kept = requeues id before queues _
+  giving_up id _ kept = stays
+
+  gone_up : (id : SocketId) (role : Role) → is_kept (give_up_fate_of lost by_then role) ≡ false → IsStepOf h gives_up (entry id role) None
+  gone_up id (Connected c l) gone =
+      by_test (is_given_up lost by_then (Connected c l))
+      (λ reset. given_up lost now (entry id (Connected c l)) reset)
+      (λ other. by_test (is_hopless lost c)
+      (λ hopless. let so : is_kept (hopless_fate c by_then) ≡ false = rw (other, hopless) at gone in ends (edge.LosesHop by_then) id c l (loses_it lost now hopless) (gone_removed _ so))
+      (λ reached. let kept : is_kept (give_up_fate_of lost by_then (Connected c l)) ≡ true = rw (other, reached) in cc))
+  gone_up id _ gone = cc
 
 -- An error comes, or a datagram.
 
@@ -447,7 +468,7 @@ stepped h (Emits goes now) = emission_stepped h goes now
 stepped h (GivesUp lost now) =
     plain h (GivesUp lost now) _ _ refl
     (each_followed (IsStepOf h (GivesUp lost now)) IsNothing refl (λ x. is_kept (give_up_fate_of lost (later_moment h now) x.role)) (with_role (role_after_giving_up lost (later_moment h now))) h.entries
-    (λ x kept. giving_up h lost now (later_moment h now) x.id x.role) (λ x gone. given_up lost now x (given_up_gone _ gone)))
+    (λ x kept. giving_up h lost now x.id x.role kept) (λ x gone. gone_up h lost now x.id x.role gone))
 stepped h (Unreachable local peer number) = error_stepped h local peer number
 stepped h (SendsTo id peer octets routed) = sendto_stepped h id peer octets routed
 stepped h (ReceivesFrom id len) = plain h (ReceivesFrom id len) _ _ refl (changes h (ReceivesFrom id len) (is_socket id) (on_datagrams (λ bound. bound) after_read) (λ x passes. queued h (ReceivesFrom id len) x.id after_read x.role))

@@ -14,7 +14,7 @@ use Rattle.sockets.specs.Arrival.{Becomes, Opens, NoRoom, Answers, local_end, pe
 use Rattle.sockets.specs.Causes.{IsOpenedBy}
 use Rattle.sockets.specs.Entries.{is_between, is_listening_at, is_waiting_at, backlog_of, fate_of, new_waiting}
 use Rattle.sockets.specs.Replies.{reset_at_ack, reset_past}
-use Rattle.sockets.specs.SocketsView.{SocketsView}
+use Rattle.sockets.specs.SocketsView.{SocketsView, later_moment}
 use Rattle.sockets.specs.Strays.{IsResetOf}
 use Rattle.sockets.proofs.Ends.{eqb-same, same_end-same}
 
@@ -80,8 +80,8 @@ module _ (h : SocketsView) (now : Moment) (isn : ℕ) (source : Addr) (s : Segme
   syn_opens listener none found rst ack syn fewer few young =
       let room : has_no_room h listener ≡ false = place (backlog_of listener.role) (count_by (is_waiting_at listener.id) h.entries) (length h.entries) (h.last_id + 1) fewer few young in
       let opened = opens_so rst ack syn in
-      let waiting : Entry = new_waiting (record { 0 = h.last_id + 1 }) listener.id (opened_passively (local_end h s) (peer_end source s) isn s) in (
-        after_opening h isn listener source s,
+      let waiting : Entry = new_waiting (record { 0 = h.last_id + 1 }) listener.id (opened_passively (local_end h s) (peer_end source s) isn s (later_moment h now)) in (
+        after_opening h (later_moment h now) isn listener source s,
         rw (none, found, opened, room) refl,
         (
           waiting,

@@ -1,9 +1,7 @@
 -- Why an error that a connection of the table tells stays told.
-use Rattle.std.proofs.Common.{◌≡◌, ℕ, ◌+◌, ◌≤◌, ◌<◌, Bool, cond, List, [], ◌∷◌, Option, Some, None, is_some, refl, sym, ◌∙◌, ap, arith}
+use Rattle.std.proofs.Common.{◌≡◌, ℕ, ◌+◌, ◌≤◌, ◌<◌, cond, List, [], ◌∷◌, Option, Some, None, is_some, refl, sym, ◌∙◌, ap, arith}
 use Rattle.std.proofs.lemmas.Bool.{eqb-true}
 use Rattle.std.specs.List.{find, AllByRecursion}
-use Rattle.ipv4.specs.declared.addr.Addr.{Addr}
-use Rattle.clock.specs.declared.moment.Moment.{Moment}
 use Rattle.tcp_state.specs.View.{View}
 use Rattle.tcp_state.specs.Edges as edge
 use Rattle.tcp_state.specs.declared.calls.Refusal.{Refusal as Error}
@@ -16,13 +14,12 @@ use Rattle.sockets.specs.declared.role.Role.TheVariants.{Connected}
 use Rattle.sockets.specs.Entries.{is_socket}
 use Rattle.sockets.specs.Ids.{AreAscending}
 use Rattle.sockets.specs.Order.{IsOrdered}
-use Rattle.sockets.specs.Causes.{Event, GivesUp, after_event, pending_error_in, TellsStill}
-use Rattle.sockets.specs.Lost.{after_giving_up}
+use Rattle.sockets.specs.Causes.{Event, after_event, pending_error_in, TellsStill}
 use Rattle.sockets.specs.Sound.{IsSoundRole, IsSoundTable}
 use Rattle.sockets.specs.SocketsView.{SocketsView, role_of}
 use Rattle.sockets.specs.Timing.{KeepsTimeIn, EachKeepsTime, AreSound}
 use Rattle.sockets.specs.Traffic.{after_events}
-use Rattle.sockets.proofs.Followed.{by_test, all_followed, all_joined}
+use Rattle.sockets.proofs.Followed.{by_test, all_joined}
 use Rattle.sockets.proofs.Numbered.{never_back}
 use Rattle.sockets.proofs.OfferCounts.{by_option}
 use Rattle.sockets.proofs.Steps.{IsStepOf, stays, moves, binds, listens, opens, accepted, requeues, binds_datagrams, IsJoining, made, made_datagrams, called, IsStepped, followed, joined, stepped}
@@ -65,20 +62,6 @@ tells_on h e id error sound keeps given all = by_step (after_event h e) (stepped
     by_step : (w : SocketsView) → IsStepped h e w → TellsStill id error w
     by_step w (followed f) = all_left (IsStepOf h e) (Keeps id error) (Tells id error) (step_tells id error h e) h.entries w.entries f.entries (both id error h.entries sound.entries keeps) all
     by_step _ (joined {x = x} j) = all_joined (Tells id error) h.entries x all (joining_tells id error h e x given j)
-
--- giving up moves no connection
-given_up_tells : (id : SocketId) (error : Error) (h : SocketsView) (lost : Addr → Bool) (now : Moment) (x y : Entry) → IsStepOf h (GivesUp lost now) x (Some y) → Tells id error x → Tells id error y
-given_up_tells id error h lost now x _ stays tells = tells
-given_up_tells id error h lost now _ _ (moves ev i c l meets is) tells = elim meets [ ]
-given_up_tells id error h lost now _ _ (requeues i bound before after) tells = tells
-given_up_tells id error h lost now _ _ (binds_datagrams i bound local before after takes) tells = tells
-
-pub tells_left : (h : SocketsView) (lost : Addr → Bool) (now : Moment) (id : SocketId) (error : Error) → TellsStill id error h → TellsStill id error (after_giving_up h lost now)
-tells_left h lost now id error all = by_step (after_giving_up h lost now) (stepped h (GivesUp lost now))
-  where
-    by_step : (w : SocketsView) → IsStepped h (GivesUp lost now) w → TellsStill id error w
-    by_step w (followed f) = all_followed (IsStepOf h (GivesUp lost now)) (Tells id error) (given_up_tells id error h lost now) h.entries w.entries f.entries all
-    by_step _ (joined j) = elim j [ ]
 
 pub tells_led : (h : SocketsView) (events : List Event) (id : SocketId) (error : Error) → AreSound h events → EachKeepsTime h → id.0 ≤ h.last_id → TellsStill id error h → TellsStill id error (after_events h events)
 tells_led h [] id error sound keeps given all = all
@@ -131,11 +114,19 @@ role_found h id role is =
     (λ none. let bad : role_of h id ≡ None = rw none refl in let clash : ◌≡◌ {A = Option Role} None (Some role) = sym bad ∙ is in cc)
     (λ x found. let there : role_of h id ≡ Some x.role = rw found refl in let same : ◌≡◌ {A = Option Role} (Some x.role) (Some role) = sym there ∙ is in (x, found, cc))
 
+-- what a socket's connection tells, each entry with its id does, and the id was given
+pub socket_told : (h : SocketsView) (id : SocketId) (c : View) (listener : Option SocketId) (error : Error) → IsOrdered h → role_of h id ≡ Some (Connected c listener) → c.pending_error ≡ Some error → TellsStill id error h × (id.0 ≤ h.last_id)
+socket_told h id c listener error o is told =
+    let first = role_found h id (Connected c listener) is in
+    let tells = found_tells id error 0 h.last_id h.entries first.0 o.ids first.1 (ap pending_error_in first.2 ∙ told) in
+    (tells.0, tells.2)
+
+-- and what each entry with its id tells, its role does
+pub role_tells : (h : SocketsView) (id : SocketId) (error : Error) (role : Role) → TellsStill id error h → role_of h id ≡ Some role → pending_error_in role ≡ Some error
+role_tells h id error role all now = let last = role_found h id role now in ap pending_error_in (sym last.2) ∙ told_of id error h.entries last.0 all last.1
+
 pub socket_tells : (h : SocketsView) (events : List Event) (id : SocketId) (c : View) (listener : Option SocketId) (error : Error) → IsOrdered h → AreSound h events → EachKeepsTime h → role_of h id ≡ Some (Connected c listener) → c.pending_error ≡ Some error
     → (let later = after_events h events in (role : Role) → role_of later id ≡ Some role → pending_error_in role ≡ Some error)
 socket_tells h events id c listener error o sound keeps is told role now =
-    let first = role_found h id (Connected c listener) is in
-    let tells = found_tells id error 0 h.last_id h.entries first.0 o.ids first.1 (ap pending_error_in first.2 ∙ told) in
-    let left = tells_led h events id error sound keeps tells.2 tells.0 in
-    let last = role_found (after_events h events) id role now in
-    ap pending_error_in (sym last.2) ∙ told_of id error (let later = after_events h events in later.entries) last.0 left last.1
+    let tells = socket_told h id c listener error o is told in
+    role_tells (after_events h events) id error role (tells_led h events id error sound keeps tells.1 tells.0) now

@@ -1,17 +1,15 @@
 -- Why every connection of the table keeps its timers and its congestion window.
-use Rattle.std.proofs.Common.{inl, inr, Bool, List, [], ◌∷◌, Option, Some, sym, subst}
+use Rattle.std.proofs.Common.{inl, inr, List, [], ◌∷◌, Option, Some, sym, subst}
 use Rattle.std.specs.List.{AllByRecursion}
 use Rattle.ipv4.specs.declared.addr.Addr.{Addr}
-use Rattle.clock.specs.declared.moment.Moment.{Moment}
 use Rattle.tcp_state.proofs.Timers.{stays_timed, opened_timed, accepted_timed}
 use Rattle.tcp_state.proofs.Congestion.{stays_kept, opened_kept, accepted_kept}
 use Rattle.sockets.specs.declared.entry.Entry.{Entry}
-use Rattle.sockets.specs.Causes.{Event, GivesUp, Follows, after_event}
-use Rattle.sockets.specs.Lost.{after_giving_up}
+use Rattle.sockets.specs.Causes.{Event, Follows, after_event}
 use Rattle.sockets.specs.Sound.{IsSoundRole, IsSoundTable}
-use Rattle.sockets.specs.SocketsView.{SocketsView, new_sockets}
+use Rattle.sockets.specs.SocketsView.{SocketsView, new_sockets, later_moment}
 use Rattle.sockets.specs.Timing.{KeepsTimeIn, EachKeepsTime, IsNumbered}
-use Rattle.sockets.proofs.Followed.{IsNothing, all_followed, all_joined}
+use Rattle.sockets.proofs.Followed.{IsNothing, all_joined}
 use Rattle.sockets.proofs.Steps.{IsStepOf, stays, moves, binds, listens, opens, accepted, requeues, binds_datagrams, IsJoining, made, made_datagrams, called, IsStepped, followed, joined, stepped}
 
 -- what a step keeps of an entry that is this by then holds of all that is left
@@ -26,7 +24,7 @@ step_timed h e small x _ stays sound keeps = keeps
 step_timed h e small _ _ (moves ev id c l meets kept) sound keeps = (stays_timed c ev sound.sound keeps.0, stays_kept c ev sound.sound keeps.1)
 step_timed h _ small _ _ (binds named asked id buffers bound local names) sound keeps = tt
 step_timed h _ small _ _ (listens named backlog id buffers local names) sound keeps = tt
-step_timed h _ small _ _ (opens isn named peer routed id buffers bound local names) sound keeps = (opened_timed local peer isn small, opened_kept local peer isn)
+step_timed h _ small _ _ (opens isn named peer routed id buffers bound local names) sound keeps = (opened_timed local peer isn h.kept small, opened_kept local peer isn h.kept)
 step_timed h _ small _ _ (accepted named id c l next) sound keeps = keeps
 step_timed h e small _ _ (requeues id bound before after) sound keeps = tt
 step_timed h e small _ _ (binds_datagrams id bound local before after takes) sound keeps = tt
@@ -34,7 +32,7 @@ step_timed h e small _ _ (binds_datagrams id bound local before after takes) sou
 joining_timed : (h : SocketsView) (e : Event) → IsNumbered e → (x : Entry) → IsJoining h e x → KeepsTimeIn x.role
 joining_timed h _ small _ (made buffers) = tt
 joining_timed h _ small _ made_datagrams = tt
-joining_timed h _ small _ (called now isn source s listener call) = (accepted_timed _ _ isn s small, accepted_kept _ _ isn s)
+joining_timed h _ small _ (called now isn source s listener call) = (accepted_timed _ _ isn s (later_moment h now) small, accepted_kept _ _ isn s (later_moment h now))
 
 pub each_timed : (h : SocketsView) (e : Event) → IsSoundTable h → IsNumbered e → EachKeepsTime h → EachKeepsTime (after_event h e)
 each_timed h e sound small all = by_step (after_event h e) (stepped h e)
@@ -42,20 +40,6 @@ each_timed h e sound small all = by_step (after_event h e) (stepped h e)
     by_step : (w : SocketsView) → IsStepped h e w → EachKeepsTime w
     by_step w (followed f) = all_left (IsStepOf h e) (λ (x : Entry). IsSoundRole x.role) (λ (x : Entry). KeepsTimeIn x.role) (step_timed h e small) h.entries w.entries f.entries sound.entries all
     by_step _ (joined {x = x} j) = all_joined (λ (y : Entry). KeepsTimeIn y.role) h.entries x all (joining_timed h e small x j)
-
--- giving up moves no connection
-given_up_timed : (h : SocketsView) (lost : Addr → Bool) (now : Moment) (x y : Entry) → IsStepOf h (GivesUp lost now) x (Some y) → KeepsTimeIn x.role → KeepsTimeIn y.role
-given_up_timed h lost now x _ stays keeps = keeps
-given_up_timed h lost now _ _ (moves ev id c l meets kept) keeps = elim meets [ ]
-given_up_timed h lost now _ _ (requeues id bound before after) keeps = tt
-given_up_timed h lost now _ _ (binds_datagrams id bound local before after takes) keeps = tt
-
-pub left_timed : (h : SocketsView) (lost : Addr → Bool) (now : Moment) → EachKeepsTime h → EachKeepsTime (after_giving_up h lost now)
-left_timed h lost now all = by_step (after_giving_up h lost now) (stepped h (GivesUp lost now))
-  where
-    by_step : (w : SocketsView) → IsStepped h (GivesUp lost now) w → EachKeepsTime w
-    by_step w (followed f) = all_followed (IsStepOf h (GivesUp lost now)) (λ (x : Entry). KeepsTimeIn x.role) (given_up_timed h lost now) h.entries w.entries f.entries all
-    by_step _ (joined j) = elim j [ ]
 
 pub fresh_timed : (addr : Addr) → EachKeepsTime (new_sockets addr)
 fresh_timed addr = tt

@@ -36,11 +36,11 @@ is_opening flags = flags.syn && not flags.rst && not flags.ack
 abbrev pub has_no_room : SocketsView → Entry → Bool
 has_no_room h listener = nat_le (backlog_of listener.role) (count_by (is_waiting_at listener.id) h.entries) || is_table_full h
 
--- a connection in SYN-RECEIVED at the end of the table, which waits at the listener
-abbrev pub after_opening : SocketsView → ℕ → Entry → Addr → Segment → SocketsView
-after_opening h isn listener source s = record h {
+-- a connection in SYN-RECEIVED, opened at a moment, at the end of the table, which waits at the listener
+abbrev pub after_opening : SocketsView → Moment → ℕ → Entry → Addr → Segment → SocketsView
+after_opening h now isn listener source s = record h {
   last_id = h.last_id + 1;
-  entries = h.entries ++ new_waiting (record { 0 = h.last_id + 1 }) listener.id (opened_passively (local_end h s) (peer_end source s) isn s) ∷ [];
+  entries = h.entries ++ new_waiting (record { 0 = h.last_id + 1 }) listener.id (opened_passively (local_end h s) (peer_end source s) isn s now) ∷ [];
 }
 
 -- What a segment leads to: the table becomes this, or it does where memory is there, or there is no place, or the segment is to be answered
@@ -57,20 +57,20 @@ arrival_with_reply h None = Becomes h
 arrival_with_reply h (Some head) = Answers head
 
 -- a segment that opens a connection at this listener
-abbrev pub opening : SocketsView → ℕ → Addr → Segment → Entry → Arrival
-opening h isn source s listener = if has_no_room h listener then NoRoom else Opens (after_opening h isn listener source s)
+abbrev pub opening : SocketsView → Moment → ℕ → Addr → Segment → Entry → Arrival
+opening h now isn source s listener = if has_no_room h listener then NoRoom else Opens (after_opening h now isn listener source s)
 
 -- a segment for a listener and no connection (section 3.10.7.2): it opens one, or is answered, or changes nothing
-abbrev pub arrival_at : SocketsView → ℕ → Addr → Segment → Entry → Arrival
-arrival_at h isn source s listener = if is_opening s.flags then opening h isn source s listener else arrival_with_reply h (answer_at_listener s)
+abbrev pub arrival_at : SocketsView → Moment → ℕ → Addr → Segment → Entry → Arrival
+arrival_at h now isn source s listener = if is_opening s.flags then opening h now isn source s listener else arrival_with_reply h (answer_at_listener s)
 
 -- a segment for no connection goes to the listener of its destination port, and is answered where there is none
-abbrev pub arrival_alone : SocketsView → ℕ → Addr → Segment → Arrival
-arrival_alone h isn source s = of_listener (find (is_listening_at s.destination) h.entries)
+abbrev pub arrival_alone : SocketsView → Moment → ℕ → Addr → Segment → Arrival
+arrival_alone h now isn source s = of_listener (find (is_listening_at s.destination) h.entries)
   where
     of_listener : Option Entry → Arrival
     of_listener None = arrival_with_reply h (answer_to s)
-    of_listener (Some listener) = arrival_at h isn source s listener
+    of_listener (Some listener) = arrival_at h now isn source s listener
 
 -- Those offered: the id of a connection that is offered now stands behind the others. The list has as many places as the table.
 abbrev pub offered_with : Bool → SocketId → List SocketId → List SocketId
@@ -90,7 +90,7 @@ arrival h now isn source s = of_entry (find (is_between (local_end h s) (peer_en
   where
     of_entry : Option Entry → Arrival
     of_entry (Some e) = arrival_at_connection h now source s e (fate_of s e.role)
-    of_entry None = arrival_alone h isn source s
+    of_entry None = arrival_alone h (later_moment h now) isn source s
 
 -- the pair that a segment leads to the opening of
 abbrev pub opened_by : SocketsView → Addr → Segment → Arrival → Option Pair

@@ -339,4 +339,4 @@ after_connect h isn id peer routed = of_port (port_connected h id peer routed)
   where
     of_port : Result ℕ Refusal → SocketsView
     of_port (Err refusal) = h
-    of_port (Ok port) = with_socket (record h { last_port = last_port_after h (option_and_then bound_of (role_of h id)) port }) id (role_after_connect (record { addr = h.addr; port = port }) peer isn)
+    of_port (Ok port) = with_socket (record h { last_port = last_port_after h (option_and_then bound_of (role_of h id)) port }) id (role_after_connect (record { addr = h.addr; port = port }) peer isn h.kept)

@@ -19,15 +19,15 @@ use Rattle.sockets.specs.declared.state.SocketState.TheVariants.{Datagram, Strea
 use Rattle.sockets.specs.Entries.{in_connection, is_socket, is_waiting_at, is_between, is_listening_at, sends, shown_state, new_socket, new_datagram_socket}
 use Rattle.sockets.specs.SocketsView.{SocketsView, later_moment}
 use Rattle.sockets.specs.Ticks.{after_tick}
-use Rattle.sockets.specs.Lost.{is_given_up, after_giving_up}
+use Rattle.sockets.specs.Lost.{is_given_up, loses_hop, after_giving_up}
 use Rattle.sockets.specs.Emission.{after_segment_sent}
 use Rattle.sockets.specs.Unreachable.{after_unreachable}
 use Rattle.sockets.specs.Calls.{after_socket, after_datagram_socket, after_bind, after_listen, after_accept, after_connect, after_send, after_recv, after_shutdown, after_close}
 use Rattle.sockets.specs.Datagrams.{after_sendto, after_recvfrom, after_reception}
 use Rattle.sockets.specs.Arrival.{Arrival, Becomes, Opens, NoRoom, Answers, local_end, peer_end, is_opening, arrival}
 
--- what may happen to the table: a call that is not refused, a tick, a segment or a datagram from an address, something goes out, resets and
--- datagrams are given up, or a hard error about the segment of a number from one end to another
+-- what may happen to the table: a call that is not refused, a tick, a segment or a datagram from an address, something goes out, what waits for a lost
+-- address is given up, or a hard error about the segment of a number from one end to another
 pub data Event : Type 0 where
   Makes : Buffers → Event
   MakesDatagrams : Event
@@ -92,14 +92,14 @@ abbrev pub is_close_cause : Moment → Role → Bool
 is_close_cause now role = in_connection true (λ c. edge.is_cause c (edge.Closes now)) role
 
 -- What ends an entry: that its socket is closed, as its role says, or the listener that it waits at; and for a connection a segment of its two
--- ends, a tick, the going out of its segment or a hard error about a segment between its two ends, each as its own rules say, or that its reset
--- is given up. No datagram ends one.
+-- ends, a tick, the going out of its segment, a hard error about a segment between its two ends or the loss of its hop, each as its own rules say, or
+-- that its reset is given up. No datagram ends one.
 abbrev pub is_cause_for : SocketsView → Event → Entry → Bool
 is_cause_for h (Closes id) x = (is_socket id x && is_close_cause h.kept x.role) || is_waiting_at id x
 is_cause_for h (Ticks now) x = is_connection_cause (edge.Ticks (later_moment h now)) x.role
 is_cause_for h (Hears now isn source s) x = is_between (local_end h s) (peer_end source s) x && is_connection_cause (edge.Hears s (later_moment h now)) x.role
 is_cause_for h (Emits goes now) x = is_next_out h goes x && is_connection_cause (edge.Emits (later_moment h now)) x.role
-is_cause_for h (GivesUp lost now) x = is_given_up lost (later_moment h now) x.role
+is_cause_for h (GivesUp lost now) x = is_given_up lost (later_moment h now) x.role || (loses_hop lost x.role && is_connection_cause (edge.LosesHop (later_moment h now)) x.role)
 is_cause_for h (Unreachable local peer number) x = is_between local peer x && is_connection_cause (edge.Unreachable number) x.role
 is_cause_for h _ x = false
 
@@ -127,13 +127,15 @@ pending_error_in role = in_connection None (λ c. c.pending_error) role
 abbrev pub TellsStill : SocketId → Error → SocketsView → Type 0
 TellsStill id error h = AllByRecursion (λ (e : Entry). e.id ≡ id → pending_error_in e.role ≡ Some error) h.entries
 
--- an event of the entry's connection makes it tell an error: a reset that acts or a hard error, in a state that has it, or the last expiry of its timer
+-- an event of the entry's connection makes it tell an error: a reset that acts or a hard error, in a state that has it, the last expiry of its timer, or the end of
+-- its wait for a hop
 abbrev pub reports : edge.Event → Error → Role → Bool
 reports e error role = in_connection false (λ c. edge.may_raise c e error) role
 
 abbrev pub reports_to : SocketsView → Event → Error → Entry → Bool
 reports_to h (Hears now isn source s) error x = is_between (local_end h s) (peer_end source s) x && reports (edge.Hears s (later_moment h now)) error x.role
 reports_to h (Ticks now) error x = reports (edge.Ticks (later_moment h now)) error x.role
+reports_to h (GivesUp lost now) error x = loses_hop lost x.role && reports (edge.LosesHop (later_moment h now)) error x.role
 reports_to h (Unreachable local peer number) error x = is_between local peer x && reports (edge.Unreachable number) error x.role
 reports_to h _ error x = false
 

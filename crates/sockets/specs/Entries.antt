@@ -109,6 +109,10 @@ waits_at id (Datagrams bound socket) = false
 abbrev pub is_in_syn_received : Role → Bool
 is_in_syn_received role = in_connection false (λ c. is_syn_received c.state) role
 
+-- .. that a listener opened
+abbrev pub is_half_open : Role → Bool
+is_half_open role = in_connection false (λ c. c.passive && is_syn_received c.state) role
+
 -- the peer of a connection, in any state
 abbrev pub peer_of : Role → Option Endpoint
 peer_of role = in_connection None (λ c. Some c.peer) role
@@ -243,12 +247,12 @@ role_after_listen backlog (Listener l b) = Listener l b
 role_after_listen backlog (Connected c l) = Connected c l
 role_after_listen backlog (Datagrams bound socket) = Datagrams bound socket
 
--- a connection in SYN-SENT (RFC 9293 section 3.10.1)
-abbrev pub role_after_connect : Endpoint → Endpoint → ℕ → Role → Role
-role_after_connect local peer isn (Idle buffers bound) = Connected (opened_actively local peer isn) None
-role_after_connect local peer isn (Listener l b) = Listener l b
-role_after_connect local peer isn (Connected c l) = Connected c l
-role_after_connect local peer isn (Datagrams bound socket) = Datagrams bound socket
+-- a connection in SYN-SENT, opened at a moment (RFC 9293 section 3.10.1)
+abbrev pub role_after_connect : Endpoint → Endpoint → ℕ → Moment → Role → Role
+role_after_connect local peer isn now (Idle buffers bound) = Connected (opened_actively local peer isn now) None
+role_after_connect local peer isn now (Listener l b) = Listener l b
+role_after_connect local peer isn now (Connected c l) = Connected c l
+role_after_connect local peer isn now (Datagrams bound socket) = Datagrams bound socket
 
 abbrev pub role_after_accept : Role → Role
 role_after_accept (Connected c listener) = Connected c None

@@ -10,15 +10,15 @@ use Rattle.sockets.specs.declared.role.Role.{Role}
 use Rattle.sockets.specs.declared.role.Role.TheVariants.{Idle, Listener, Connected, Datagrams}
 use Rattle.sockets.specs.Entries.{in_connection, is_socket, is_waiting_at, is_between, is_datagrams_at, is_kept}
 use Rattle.sockets.specs.SocketsView.{SocketsView, later_moment}
-use Rattle.sockets.specs.Lost.{is_given_up}
+use Rattle.sockets.specs.Lost.{is_given_up, loses_hop}
 use Rattle.sockets.specs.Calls.{is_next_at, port_connected}
 use Rattle.sockets.specs.Arrival.{local_end, peer_end}
 use Rattle.sockets.specs.Causes.{Event, Binds, Listens, Accepts, Connects, Sends, Receives, Shuts, Closes, Ticks, Hears, Emits, GivesUp, Unreachable, SendsTo, ReceivesFrom, HearsDatagram, is_next_out}
 use Rattle.sockets.specs.Traffic.{is_stream}
 
 -- Which event of an entry's connection an event of the table is, if any: a call of its socket, but for a read into an empty buffer; the close of its socket,
--- or of the listener that it waits at, by which it is aborted; any tick; a segment of its two ends; that of all that is due it is what goes out; or a hard
--- error about a segment between its two ends. Calls happen at the kept moment, and all else at the later of that and the event's own.
+-- or of the listener that it waits at, by which it is aborted; any tick; a segment of its two ends; that of all that is due it is what goes out; a hard
+-- error about a segment between its two ends; or that what waits for its peer's address is given up. Calls happen at the kept moment, and all else at the later of that and the event's own.
 abbrev pub event_of : SocketsView → Event → Entry → Option edge.Event
 event_of h (Sends id octets) x = if is_socket id x then Some (edge.Sends octets h.kept) else None
 event_of h (Receives id len) x = if len == 0 then None else if is_socket id x then Some (edge.Receives len) else None
@@ -27,6 +27,7 @@ event_of h (Closes id) x = if is_socket id x then Some (edge.Closes h.kept) else
 event_of h (Ticks now) x = Some (edge.Ticks (later_moment h now))
 event_of h (Hears now isn source s) x = if is_between (local_end h s) (peer_end source s) x then Some (edge.Hears s (later_moment h now)) else None
 event_of h (Emits goes now) x = if is_next_out h goes x then Some (edge.Emits (later_moment h now)) else None
+event_of h (GivesUp lost now) x = if loses_hop lost x.role then Some (edge.LosesHop (later_moment h now)) else None
 event_of h (Unreachable local peer number) x = if is_between local peer x then Some (edge.Unreachable number) else None
 event_of h _ x = None
 
@@ -79,7 +80,7 @@ pub data IsSocketLeft (h : SocketsView) : Event → Entry → Option Entry → T
   changes : {e : Event} {x : Entry} (y : Entry) → y.id ≡ x.id → in_connection None (λ c. Some c) y.role ≡ None → may_change h e x ≡ true → IsSocketLeft h e x (Some y)
   opens : (isn : ℕ) (named : SocketId) (peer : Endpoint) (routed : Bool) (port : ℕ) (id : SocketId) (buffers : Buffers) (bound : Option Endpoint)
       → is_socket named (record { id = id; role = Idle buffers bound }) ≡ true → port_connected h named peer routed ≡ Ok port
-      → IsSocketLeft h (Connects isn named peer routed) (record { id = id; role = Idle buffers bound }) (Some (connected id (opened_actively (record { addr = h.addr; port = port }) peer isn) None))
+      → IsSocketLeft h (Connects isn named peer routed) (record { id = id; role = Idle buffers bound }) (Some (connected id (opened_actively (record { addr = h.addr; port = port }) peer isn h.kept) None))
   closes : (named : SocketId) (x : Entry) → is_socket named x ≡ true → IsSocketLeft h (Closes named) x None
 
 -- what is left of an entry: of a connection exactly what its one event leaves, or all of it where it has none

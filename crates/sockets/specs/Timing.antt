@@ -36,9 +36,10 @@ abbrev pub AreSound : SocketsView → List Event → Type 0
 AreSound h [] = Unit {0}
 AreSound h (e ∷ rest) = IsSoundTable h × IsNumbered e × AreSound (after_event h e) rest
 
--- a connection counts its wait from this moment at the latest, and each of its timers runs until a minute past it at the latest
+-- a connection counts its wait, and that for its hop, from this moment at the latest, and each of its timers runs until a minute past it at the latest
 pub record IsNear (latest : Moment) (c : View) : Type 0 where
   pub since : c.since.0 ≤ latest.0
+  pub unheard : (since : Moment) → c.unheard ≡ Some since → since.0 ≤ latest.0
   pub timers : (kind : TimerKind) (deadline : Moment) → deadline_of c.timers kind ≡ Some deadline → deadline.0 ≤ latest.0 + 60000
 
 abbrev pub IsNearIn : Moment → Role → Type 0

@@ -31,7 +31,7 @@ impl Sockets {
         let (local, peer) = self.ends(source, segment);
         match index::connection_between(&self.entries, &self.ends, local, peer) {
             Some(place) => self.take_at(now, place, source, segment),
-            None => self.take_alone(isn, source, segment),
+            None => self.take_alone(self.later_moment(now), isn, source, segment),
         }
     }
 
@@ -55,28 +55,35 @@ impl Sockets {
     }
 
     /// Takes a segment for no connection: it goes to the listener at its destination port, or is answered where there is none.
-    fn take_alone(&mut self, isn: Seq, source: Addr, segment: &TcpView<'_>) -> Taken
-        ensures { Meets (arrival_alone self.old isn.0 source segment.now) self.old result self.new }
+    fn take_alone(&mut self, now: Moment, isn: Seq, source: Addr, segment: &TcpView<'_>) -> Taken
+        ensures { Meets (arrival_alone self.old now isn.0 source segment.now) self.old result self.new }
     {
         match table::listener_at(&self.entries, segment.destination()) {
             None => answered(replies::answer_to(segment)),
-            Some(place) if is_opening(segment) => self.open(isn, place, source, segment),
+            Some(place) if is_opening(segment) => self.open(now, isn, place, source, segment),
             Some(_) => answered(replies::answer_at_listener(segment)),
         }
     }
 
     /// Opens a connection for `syn` at the listener in this place (RFC 9293 section 3.10.7.2), where that has a place for it.
-    fn open(&mut self, isn: Seq, place: usize, source: Addr, syn: &TcpView<'_>) -> Taken
+    fn open(
+        &mut self,
+        now: Moment,
+        isn: Seq,
+        place: usize,
+        source: Addr,
+        syn: &TcpView<'_>,
+    ) -> Taken
         requires place { position (is_listening_at syn.now.destination) self.old.entries ≡ Some place }
         requires opens { is_opening syn.now.flags ≡ true }
-        ensures { Meets (arrival_alone self.old isn.0 source syn.now) self.old result self.new }
+        ensures { Meets (arrival_alone self.old now isn.0 source syn.now) self.old result self.new }
     {
         let listener = &self.entries[place];
         if self.has_no_room(listener) {
             return Taken::NoRoom;
         }
         let listener = listener.id;
-        self.open_with(Buffers::new(self.alloc), isn, listener, source, syn)
+        self.open_with(Buffers::new(self.alloc), now, isn, listener, source, syn)
     }
 
     /// Opens a connection for `syn` in these buffers, where the listener at its port has a place for it. NoRoom exactly where memory was
@@ -84,6 +91,7 @@ impl Sockets {
     fn open_with(
         &mut self,
         buffers: Result<Buffers, AllocError>,
+        now: Moment,
         isn: Seq,
         listener: SocketId,
         source: Addr,
@@ -92,13 +100,13 @@ impl Sockets {
         requires place { length self.old.entries < ENTRIES }
         requires id { self.old.last_id < u64.MAX }
         ensures answer { MatchResult buffers (λ given. result ≡ Taken.Done) (λ refused. result ≡ Taken.NoRoom) }
-        ensures table { MatchResult buffers (λ given. (entry : Entry) → entry.id ≡ listener → self.new ≡ after_opening self.old isn.0 entry source syn.now) (λ refused. self.new ≡ self.old) }
+        ensures table { MatchResult buffers (λ given. (entry : Entry) → entry.id ≡ listener → self.new ≡ after_opening self.old now isn.0 entry source syn.now) (λ refused. self.new ≡ self.old) }
     {
         let Ok(buffers) = buffers else {
             return Taken::NoRoom;
         };
         let (local, peer) = self.ends(source, syn);
-        let connection = Connection::passive(buffers, local, peer, isn, syn);
+        let connection = Connection::passive(buffers, local, peer, isn, syn, now);
         self.last_id += 1;
         let id = SocketId(self.last_id);
         index::file(&mut self.ends, id, local, peer);

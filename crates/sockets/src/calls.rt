@@ -233,7 +233,8 @@ impl Sockets {
         self.last_port = self.last_port_after(bound, port);
         let local = Endpoint { addr, port };
         index::file(&mut self.ends, id, local, peer);
-        self.entries[place].role.connect(local, peer, isn);
+        let now = self.kept;
+        self.entries[place].role.connect(now, local, peer, isn);
         Ok(())
     }
 

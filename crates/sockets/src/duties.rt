@@ -1,6 +1,6 @@
 //! Laws over what the table owes its callers and its peers: functions with nothing to do, whose contracts are the laws.
 
-ghost use Rattle.std.specs.Prelude.{◌≡◌, ◌⊎◌, ℕ, ◌+◌, ◌-◌, ◌%◌, ◌^◌, ◌≤◌, ◌<◌, ◌==◌, ◌&&◌, ◌||◌, not, nat_lt, min, if◌then◌else◌, true, false, List, [], ◌∷◌, ◌++◌, length, take, drop, filter, count_by, find, Option, Some, None, Ok, Err};
+ghost use Rattle.std.specs.Prelude.{◌≡◌, ◌⊎◌, ℕ, ◌+◌, ◌-◌, ◌%◌, ◌^◌, ◌≤◌, ◌<◌, ◌==◌, ◌&&◌, ◌||◌, not, nat_lt, min, if◌then◌else◌, Bool, true, false, List, [], ◌∷◌, ◌++◌, length, take, drop, filter, count_by, find, Option, Some, None, Ok, Err};
 ghost use Rattle.std.specs.List.{list_any};
 ghost use Rattle.ipv4.specs.declared.addr.Addr.{Addr};
 ghost use Rattle.ipv4.specs.declared.addr.Endpoint.{Endpoint};
@@ -9,9 +9,11 @@ ghost use Rattle.udp_socket.specs.SocketView.{SocketView};
 ghost use Rattle.tcp_halves.specs.declared.buffers.Buffers.{Buffers};
 ghost use Rattle.tcp_state.specs.declared.calls.Received.TheVariants.{Octets};
 ghost use Rattle.clock.specs.declared.moment.Moment.{Moment};
+ghost use Rattle.clock.specs.Moments.{after};
 ghost use Rattle.tcp_segment.specs.declared.head.Head.{Head};
 ghost use Rattle.tcp_segment.specs.Segment.{Segment, span_of};
 ghost use Rattle.tcp_state.specs.declared.connection.Fate.TheVariants.{Rejected};
+ghost use Rattle.tcp_state.specs.Counted.{IsGivenUp};
 ghost use Rattle.tcp_state.specs.View.{View, is_opening, is_closed, is_syn_sent, is_syn_received, is_write_closed};
 ghost use Rattle.sockets.specs.declared.entry.SocketId.{SocketId};
 ghost use Rattle.sockets.specs.declared.entry.Entry.{Entry};
@@ -19,7 +21,10 @@ ghost use Rattle.sockets.specs.declared.role.Role.{Role};
 ghost use Rattle.sockets.specs.declared.role.Role.TheVariants.{Idle, Listener, Connected, Datagrams};
 ghost use Rattle.sockets.specs.declared.refusal.Refusal.TheVariants.{EINVAL, EADDRINUSE, EAGAIN};
 ghost use Rattle.sockets.specs.Entries.{in_connection, is_socket, is_between, is_listening_at, has_port, is_datagrams_at, backlog_of, is_waiting_at, is_waiting_id, fate_of};
-ghost use Rattle.sockets.specs.SocketsView.{SocketsView, role_of};
+ghost use Rattle.sockets.specs.Lost.{is_hopless, after_giving_up};
+ghost use Rattle.sockets.specs.Sound.{IsSoundTable};
+ghost use Rattle.sockets.specs.SocketsView.{SocketsView, later_moment, role_of};
+ghost use Rattle.sockets.specs.Timing.{EachKeepsTime};
 ghost use Rattle.sockets.specs.Calls.{any_addr, bind_refusal, listen_refusal, after_listen, send_answer, after_send, recv_answer, recv_front, after_recv, after_shutdown, after_close};
 ghost use Rattle.sockets.specs.Arrival.{Becomes, Opens, NoRoom, Answers, local_end, peer_end, arrival};
 ghost use Rattle.sockets.specs.Causes.{IsOpenedBy};
@@ -46,6 +51,31 @@ pub fn closes_leave()
     ensures others { (h : SocketsView) (id other : SocketId) (x : Entry) → IsOrdered h → entry_of h other ≡ Some x → is_socket id x ≡ false → is_waiting_at id x ≡ false → entry_of (after_close h id) other ≡ Some x }
     ensures offered { (h : SocketsView) (id : SocketId) → let after = after_close h id in after.offered ≡ filter (λ x. not (is_waiting_id h.entries id x)) h.offered }
     ensures nameless { (h : SocketsView) (id : SocketId) (role : Role) → IsOrdered h → role_of h id ≡ Some role → role_of (after_close h id) id ≡ None }
+{}
+
+/// What becomes of a connection whose peer's address is lost and that owes no reset (RFC 1122 section 4.2.3.5, RFC 9293 section 3.8.3). Where what takes numbers has been due for 483,000 ms, and nothing of
+/// it is outstanding, it is given up: CLOSED, with ETIMEDOUT told at each call, and taken out where its caller closed it. What a listener opened is taken out of SYN-RECEIVED after 3,000 ms, and so frees its
+/// place there. None is given up before, none of which nothing waits, and none whose peer's address is known.
+pub fn waits_for_hops_end()
+    ensures told { (h : SocketsView) (lost : Addr → Bool) (now : Moment) (id : SocketId) (c : View) (listener : Option SocketId) → IsOrdered h → entry_of h id ≡ Some (connected id c listener) → IsSoundTable h → EachKeepsTime h
+        → is_hopless lost c ≡ true → (since : Moment) → c.unheard ≡ Some since → (c.passive && is_syn_received c.state) ≡ false → c.released ≡ false
+        → (let end = after since 483000 in end.0) ≤ (let later = later_moment h now in later.0) → (d : View) × (entry_of (after_giving_up h lost now) id ≡ Some (connected id d listener)) × IsGivenUp d }
+    ensures left { (h : SocketsView) (lost : Addr → Bool) (now : Moment) (id : SocketId) (c : View) (listener : Option SocketId) → IsOrdered h → entry_of h id ≡ Some (connected id c listener) → IsSoundTable h → EachKeepsTime h
+        → is_hopless lost c ≡ true → (since : Moment) → c.unheard ≡ Some since → (c.passive && is_syn_received c.state) ≡ false → c.released ≡ true
+        → (let end = after since 483000 in end.0) ≤ (let later = later_moment h now in later.0) → entry_of (after_giving_up h lost now) id ≡ None }
+    ensures half_open { (h : SocketsView) (lost : Addr → Bool) (now : Moment) (id : SocketId) (c : View) (listener : Option SocketId) → IsOrdered h → entry_of h id ≡ Some (connected id c listener) → IsSoundTable h → EachKeepsTime h
+        → is_hopless lost c ≡ true → (since : Moment) → c.unheard ≡ Some since → (c.passive && is_syn_received c.state) ≡ true
+        → (let end = after since 3000 in end.0) ≤ (let later = later_moment h now in later.0) → entry_of (after_giving_up h lost now) id ≡ None }
+    ensures early { (h : SocketsView) (lost : Addr → Bool) (now : Moment) (id : SocketId) (c : View) (listener : Option SocketId) → IsOrdered h → entry_of h id ≡ Some (connected id c listener)
+        → (since : Moment) → c.owes_reset ≡ false → c.unheard ≡ Some since → (c.passive && is_syn_received c.state) ≡ false
+        → (let later = later_moment h now in later.0) < (let end = after since 483000 in end.0) → entry_of (after_giving_up h lost now) id ≡ Some (connected id c listener) }
+    ensures half_open_early { (h : SocketsView) (lost : Addr → Bool) (now : Moment) (id : SocketId) (c : View) (listener : Option SocketId) → IsOrdered h → entry_of h id ≡ Some (connected id c listener)
+        → (since : Moment) → c.owes_reset ≡ false → c.unheard ≡ Some since → (c.passive && is_syn_received c.state) ≡ true
+        → (let later = later_moment h now in later.0) < (let end = after since 3000 in end.0) → entry_of (after_giving_up h lost now) id ≡ Some (connected id c listener) }
+    ensures idle { (h : SocketsView) (lost : Addr → Bool) (now : Moment) (id : SocketId) (c : View) (listener : Option SocketId) → IsOrdered h → entry_of h id ≡ Some (connected id c listener)
+        → c.owes_reset ≡ false → c.unheard ≡ None → entry_of (after_giving_up h lost now) id ≡ Some (connected id c listener) }
+    ensures known { (h : SocketsView) (lost : Addr → Bool) (now : Moment) (id : SocketId) (c : View) (listener : Option SocketId) → IsOrdered h → entry_of h id ≡ Some (connected id c listener)
+        → lost c.peer.addr ≡ false → entry_of (after_giving_up h lost now) id ≡ Some (connected id c listener) }
 {}
 
 /// A segment for which there is no connection (RFC 9293 sections 3.5.2, 3.10.7.1 and 3.10.7.2). One with RST changes nothing and draws no answer. One with ACK draws <SEQ=SEG.ACK><CTL=RST>, at a

@@ -113,8 +113,8 @@ impl Entry {
         self.role.due_places()
     }
 
-    /// The moment from which something of it is given up, since it is for a lost address, which `lost` says: the reset of an abort, or the
-    /// first of a UDP socket's datagrams that is.
+    /// The moment from which something of it is given up, since it is for a lost address, which `lost` says: the reset of an abort, what takes
+    /// numbers of a connection of which nothing is outstanding, or the first of a UDP socket's datagrams that is.
     pub fn give_up_at<F: Fn(Addr) -> bool>(&self, lost: &F) -> Option<Moment>
         requires { F.IsAlwaysCallable lost.now }
         ensures { (test : Addr → Bool) → ((addr : Addr) (answer : Bool) → F.post lost.now addr answer → answer ≡ test addr) → result ≡ give_up_at test self.now.role }

@@ -12,11 +12,12 @@ ghost use Rattle.tcp_segment.specs.Segment.{Segment, FieldsFit};
 ghost use Rattle.tcp_segment.specs.Sent.{CanBeSent};
 ghost use Rattle.clock.specs.declared.moment.Moment.{Moment};
 ghost use Rattle.clock.specs.Moments.{has_come};
+ghost use Rattle.tcp_state.specs.Hop.{unheard_until};
 ghost use Rattle.tcp_state.specs.View.{View};
 ghost use Rattle.tcp_state.specs.declared.calls.Refusal.{Refusal as Error};
 ghost use Rattle.sockets.specs.declared.entry.SocketId.{SocketId};
 ghost use Rattle.sockets.specs.declared.entry.Entry.{Entry};
-ghost use Rattle.sockets.specs.Entries.{is_listening_at, is_waiting_at, backlog_of};
+ghost use Rattle.sockets.specs.Entries.{is_half_open, is_listening_at, is_waiting_at, backlog_of};
 ghost use Rattle.sockets.specs.SocketsView.{SocketsView, holder_id, new_sockets, later_moment, role_of};
 ghost use Rattle.sockets.specs.Ticks.{after_tick, least_deadline, IsLeastDeadline, HasNoDeadline};
 ghost use Rattle.sockets.specs.Lost.{role_after_giving_up, after_giving_up, waiting_resets, waits_still};
@@ -27,7 +28,7 @@ ghost use Rattle.sockets.specs.Datagrams.{sendto_answer, after_sendto, sending_e
 ghost use Rattle.sockets.specs.Calls.{refusal_of, connect_refusal, after_connect, send_answer, recv_answer, shutdown_refusal, pair_connected};
 ghost use Rattle.sockets.specs.Pairs.{socket_pair};
 ghost use Rattle.sockets.specs.Sound.{IsSoundTable, NoneIsOver};
-ghost use Rattle.sockets.specs.Timing.{EachKeepsTime, IsNumbered, AreSound, AreNear, IsUpTo};
+ghost use Rattle.sockets.specs.Timing.{EachKeepsTime, IsNumbered, AreSound, IsNear, AreNear, IsUpTo};
 ghost use Rattle.sockets.specs.Ports.{first_port, IsDynamic, IsFirstBehind};
 ghost use Rattle.sockets.specs.declared.calls.TheConstants.{MOST_BACKLOG};
 ghost use Rattle.sockets.specs.declared.table.TheConstants.{ENTRIES};
@@ -88,24 +89,29 @@ pub fn nothing_over_stays()
 pub fn connections_keep_time()
     ensures fresh { (addr : Addr) → EachKeepsTime (new_sockets addr) }
     ensures kept { (h : SocketsView) (e : Event) → IsSoundTable h → IsNumbered e → EachKeepsTime h → EachKeepsTime (after_event h e) }
-    ensures given_up { (h : SocketsView) (lost : Addr → Bool) (now : Moment) → EachKeepsTime h → EachKeepsTime (after_giving_up h lost now) }
+{}
+
+/// What every connection keeps of itself a tick leaves it, so what is given up behind the timers finds it in each.
+pub fn ticks_leave_tables_sound()
+    ensures { (h : SocketsView) (now : Moment) → IsSoundTable h → IsSoundTable (after_tick h now) }
 {}
 
 /// No timer of a connection runs until later than a minute past the latest moment that the table was told of, and no wait is counted from a later one: in a new table, over each event, and over a list
-/// of them. So no deadline lies more than 240,000 ms past it, the time that TIME-WAIT lasts (RFC 9293 section 3.4.2). A segment, an emission and what is given up are taken at a moment that the table
+/// of them. So no deadline lies more than 240,000 ms past it, the time that TIME-WAIT lasts (RFC 9293 section 3.4.2), and no wait for a hop ends more than 483,000 ms past it. A segment, an emission and what is given up are taken at a moment that the table
 /// doesn't keep; where each names none but what the table keeps, since a tick told it, all this is said of the kept moment.
 pub fn timers_lie_near()
     ensures fresh { (addr : Addr) (latest : Moment) → AreNear latest (new_sockets addr) }
     ensures event { (h : SocketsView) (e : Event) (latest : Moment) → IsSoundTable h → IsUpTo latest e → AreNear latest h → AreNear latest (after_event h e) }
     ensures over { (h : SocketsView) (events : List Event) (latest : Moment) → AreSound h events → AllByRecursion (IsUpTo latest) events → AreNear latest h → AreNear latest (after_events h events) }
     ensures kept { (h : SocketsView) (e : Event) → IsSoundTable h → let after = after_event h e in IsUpTo after.kept e → AreNear h.kept h → AreNear after.kept after }
-    ensures given_up { (h : SocketsView) (lost : Addr → Bool) (now latest : Moment) → AreNear latest h → AreNear latest (after_giving_up h lost now) }
+    ensures hop { (c : View) (latest until : Moment) → IsNear latest c → unheard_until c ≡ Some until → until.0 ≤ latest.0 + 483000 }
     ensures deadline { (h : SocketsView) (latest moment : Moment) → AreNear latest h → least_deadline h ≡ Some moment → moment.0 ≤ latest.0 + 240000 }
 {}
 
-/// No socket is given up with the resets that can't go out: each id names what it named, a UDP socket without the datagrams that it gives up.
+/// No socket is given up with what can't go out: each id names what it named, a UDP socket without the datagrams that it gives up, and a connection that ended, in CLOSED. (One that a listener opened is a
+/// socket only from its `accept` on, past SYN-RECEIVED.)
 pub fn sockets_are_not_given_up()
-    ensures { (h : SocketsView) (lost : Addr → Bool) (now : Moment) (id : SocketId) → IsSoundTable h → role_of (after_giving_up h lost now) id ≡ option_map (role_after_giving_up lost (later_moment h now)) (role_of h id) }
+    ensures { (h : SocketsView) (lost : Addr → Bool) (now : Moment) (id : SocketId) → IsSoundTable h → ((role : Role) → role_of h id ≡ Some role → is_half_open role ≡ false) → role_of (after_giving_up h lost now) id ≡ option_map (role_after_giving_up lost (later_moment h now)) (role_of h id) }
 {}
 
 /// Of the dynamic ports (RFC 6335 section 6: 49152 to 65535) the first one that passes is given, in the turn that begins behind the last one
@@ -182,7 +188,6 @@ pub fn errors_are_reported_first()
 pub fn errors_told_stay()
     ensures event { (h : SocketsView) (e : Event) (id : SocketId) (error : Error) → IsSoundTable h → EachKeepsTime h → id.0 ≤ h.last_id → TellsStill id error h → TellsStill id error (after_event h e) }
     ensures over { (h : SocketsView) (events : List Event) (id : SocketId) (error : Error) → AreSound h events → EachKeepsTime h → id.0 ≤ h.last_id → TellsStill id error h → TellsStill id error (after_events h events) }
-    ensures given_up { (h : SocketsView) (lost : Addr → Bool) (now : Moment) (id : SocketId) (error : Error) → TellsStill id error h → TellsStill id error (after_giving_up h lost now) }
     ensures socket { (h : SocketsView) (events : List Event) (id : SocketId) (c : View) (listener : Option SocketId) (error : Error) → IsOrdered h → AreSound h events → EachKeepsTime h → role_of h id ≡ Some (Connected c listener)
         → c.pending_error ≡ Some error → let later = after_events h events in (role : Role) → role_of later id ≡ Some role → pending_error_in role ≡ Some error }
 {}

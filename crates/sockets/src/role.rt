@@ -5,6 +5,7 @@ ghost use Rattle.std.specs.Result.{result_err};
 ghost use Rattle.ipv4.specs.declared.addr.Addr.{Addr};
 ghost use Rattle.sockets.specs.Calls.{own_end};
 ghost use Rattle.sockets.specs.Emission.{IsWithin};
+ghost use Rattle.sockets.specs.Lost.{is_hopless, waits_until};
 ghost use Rattle.sockets.specs.Entries.{is_pending, is_left, has_socket, is_live_between, joins, uses_port, uses_datagram_port, waits_at, is_in_syn_received, peer_of, shown_state, deadline_of, dues_of, HasOutgoing, reset_wait, backlog_of, listens_at, is_kept, source_of};
 
 use crate::emission::{Emitted, Outgoing};
@@ -75,6 +76,24 @@ pub(crate) fn is_kept(fate: Fate) -> bool
     ensures { result ≡ is_kept fate }
 {
     fate != Fate::Removed
+}
+
+/// Until when a connection waits for its hop: with the reset that it owes, or else with what takes numbers.
+fn waits_until(connection: &Connection) -> Option<Moment>
+    ensures { result ≡ waits_until connection.now }
+{
+    match connection.reset_since() {
+        Some(since) => Some(since.after(HOP_WAIT)),
+        None => connection.unheard_until(),
+    }
+}
+
+/// Whether the address of the connection's peer is lost, and it owes no reset.
+fn is_hopless<F: Fn(Addr) -> bool>(connection: &Connection, lost: &F) -> bool
+    requires { F.IsAlwaysCallable lost.now }
+    ensures { (test : Addr → Bool) → ((addr : Addr) (answer : Bool) → F.post lost.now addr answer → answer ≡ test addr) → result ≡ is_hopless test connection.now }
+{
+    connection.reset_since().is_none() && lost(connection.peer().addr)
 }
 
 /// What a role shows.
@@ -315,17 +334,17 @@ impl Role {
         }
     }
 
-    /// The moment from which something of it is given up: its reset, where its peer's address is lost, or one of its datagrams to a lost
-    /// address.
+    /// The moment from which something of it is given up: its reset or what takes numbers, where its peer's address is lost, or one of its
+    /// datagrams to a lost address.
     pub(crate) fn give_up_at<F: Fn(Addr) -> bool>(&self, lost: &F) -> Option<Moment>
         requires { F.IsAlwaysCallable lost.now }
         ensures { (test : Addr → Bool) → ((addr : Addr) (answer : Bool) → F.post lost.now addr answer → answer ≡ test addr) → result ≡ give_up_at test self.now }
     {
-        if let Role::Datagrams { socket, .. } = self {
-            return socket.deadline(lost);
-        }
-        match self.reset_wait() {
-            Some((peer, since)) if lost(peer.addr) => Some(since.after(HOP_WAIT)),
+        match self {
+            Role::Connected { connection, .. } if lost(connection.peer().addr) => {
+                waits_until(connection)
+            }
+            Role::Datagrams { socket, .. } => socket.deadline(lost),
             _ => None,
         }
     }
@@ -375,13 +394,13 @@ impl Role {
         }
     }
 
-    /// Lets an idle socket open a connection (RFC 9293 section 3.10.1).
-    pub(crate) fn connect(&mut self, local: Endpoint, peer: Endpoint, isn: Seq)
-        ensures { self.new ≡ role_after_connect local peer isn.0 self.old }
+    /// Lets an idle socket open a connection at this moment (RFC 9293 section 3.10.1).
+    pub(crate) fn connect(&mut self, now: Moment, local: Endpoint, peer: Endpoint, isn: Seq)
+        ensures { self.new ≡ role_after_connect local peer isn.0 now self.old }
     {
         *self = match mem::take(self) {
             Role::Idle { buffers, .. } => Role::Connected {
-                connection: Connection::active(buffers, local, peer, isn),
+                connection: Connection::active(buffers, local, peer, isn, now),
                 listener: None,
             },
             other => other,
@@ -569,14 +588,18 @@ impl Role {
         ensures after { (test : Addr → Bool) → ((addr : Addr) (answer : Bool) → F.post lost.now addr answer → answer ≡ test addr) → self.new ≡ role_after_giving_up test now self.old }
         ensures filed { (id : SocketId) → filed_as id self.new ≡ filed_as id self.old }
     {
-        if let Role::Datagrams { socket, .. } = self {
-            socket.give_up(now, lost);
-            return Fate::Stays;
-        }
         if self.is_given_up(now, lost) {
-            Fate::Removed
-        } else {
-            Fate::Stays
+            return Fate::Removed;
+        }
+        match self {
+            Role::Connected { connection, .. } if is_hopless(connection, lost) => {
+                connection.lose_hop(now)
+            }
+            Role::Datagrams { socket, .. } => {
+                socket.give_up(now, lost);
+                Fate::Stays
+            }
+            _ => Fate::Stays,
         }
     }
 

@@ -130,7 +130,9 @@ impl Sockets {
 
     /// Gives up each reset of an abort that is owed to a peer at a lost address, which `lost` says, and has waited for 3,000 ms or more at the
     /// later of `now` and the kept moment: its connection is taken out of the table. So does a UDP socket give up each datagram to a lost
-    /// address that has waited as long. All else stays, in order.
+    /// address that has waited as long. A connection to a lost address that has had something with numbers to send for 483,000 ms, or for
+    /// 3,000 ms in SYN-RECEIVED of a listener, and of which nothing is outstanding, ends as at its last expiry: its caller is told ETIMEDOUT,
+    /// and one that its caller closed or that waits at a listener in SYN-RECEIVED is taken out. All else stays, in order.
     pub fn give_up<F: Fn(Addr) -> bool>(&mut self, now: Moment, lost: F)
         requires { F.IsAlwaysCallable lost }
         ensures { (test : Addr → Bool) → ((addr : Addr) (answer : Bool) → F.post lost addr answer → answer ≡ test addr) → self.new ≡ after_giving_up self.old test now }

@@ -197,7 +197,8 @@ pub(crate) fn forsake(
     index::forget(ends, entries, held);
 }
 
-/// Lets every entry give up what has waited too long for a lost address, and takes out the connections whose reset is given up.
+/// Lets every entry give up what has waited too long for a lost address, and takes out the connections whose reset is given up, and those
+/// that are given up themselves and that no caller has.
 pub(crate) fn give_up<F: Fn(Addr) -> bool>(
     entries: &mut ArrayVec<Entry, ENTRIES>,
     ends: &mut ArrayVec<Filed, ENTRIES>,

@@ -10,7 +10,7 @@ use host::SocketState::Stream;
 use tcp_state::{Received, State};
 
 /// A calls and learns where B is, and the hands are shaken: each frame is the one that was due.
-const CONNECTED: &[Step] = &[
+pub(super) const CONNECTED: &[Step] = &[
     (A, Act::Connect(5, ONE, SERVER, Ok(()))),
     (A, Act::Pass(7)),
     (A, Act::Emit(None)),

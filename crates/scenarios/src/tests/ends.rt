@@ -223,8 +223,8 @@ fn plays(rt: &impl Abort, alloc: Global, scenario: &Scenario) {
     let ours = Buffers::new(alloc).expect(rt, "memory for two buffers");
     let theirs = Buffers::new(alloc).expect(rt, "memory for two buffers");
     let syn = TcpView::parse(CALLER.addr, LISTENER.addr, &SYN_SEGMENT).expect(rt, "a segment");
-    let mut a = End::new(Connection::active(ours, CALLER, LISTENER, Seq(4_294_967_295)));
-    let mut b = End::new(Connection::passive(theirs, LISTENER, CALLER, Seq(7), &syn));
+    let mut a = End::new(Connection::active(ours, CALLER, LISTENER, Seq(4_294_967_295), Moment(0)));
+    let mut b = End::new(Connection::passive(theirs, LISTENER, CALLER, Seq(7), &syn, Moment(0)));
     for (part, steps) in scenario.parts.iter().enumerate() {
         for (step, (side, act)) in steps.iter().enumerate() {
             let is_answered = match side {

@@ -1,5 +1,6 @@
 //! What waits for the MAC of its next hop.
 
+use super::calls::CONNECTED;
 use super::octets::{
     ASKED_BACK, FAR_SYN, GATEWAY_ASKED, GATEWAY_REPLY, REFUSAL, REPLIED_BACK, REPLY, REQUEST, SYN,
     THIRD_ASKED, THIRD_IS_ASKED_FOR, THIRD_SYN,
@@ -10,14 +11,14 @@ use super::stations::{
 };
 use clock::Moment;
 use host::SocketState::Stream;
-use host::{DropCause, Refusal};
+use host::{DropCause, Refusal, SocketId};
 use ipv4::{Addr, Endpoint, Pair};
 use tcp_state::State;
 
 /// One request a second goes out. The SYN is as it was when an answer comes, and its own second begins then.
 const SYN_WAITS: &[Step] = &[
     (A, Act::Connect(4_294_967_295, ONE, SERVER, Ok(()))),
-    (A, Act::Deadline(None)),
+    (A, Act::Deadline(Some(Moment(483_000)))),
     (A, Act::Emit(Some(60))),
     (A, Act::Emit(None)),
     (A, Act::Deadline(Some(Moment(1_000)))),
@@ -31,6 +32,75 @@ const SYN_WAITS: &[Step] = &[
     (A, Act::Sends(SYN)),
     (A, Act::Emit(None)),
     (A, Act::Deadline(Some(Moment(61_000)))),
+];
+
+/// A SYN for which no hop answers is given up in the time of one that goes out thirteen times in vain: 1, 2, 4, 8, 16 and 32 seconds, and seven
+/// times a minute (RFC 1122 section 4.2.3.5). Its caller is told.
+const SYN_IS_GIVEN_UP: &[Step] = &[
+    (A, Act::Connect(5, ONE, SERVER, Ok(()))),
+    (A, Act::Sends(REQUEST)),
+    (A, Act::Deadline(Some(Moment(1_000)))),
+    (A, Act::Tick(482_999)),
+    (A, Act::Sends(REQUEST)),
+    (A, Act::Deadline(Some(Moment(483_000)))),
+    (A, Act::State(ONE, Ok(Stream(State::SynSent)))),
+    (A, Act::Tick(483_000)),
+    (A, Act::State(ONE, Ok(Stream(State::Closed)))),
+    (A, Act::Recv(ONE, Err(Refusal::ETIMEDOUT))),
+    (A, Act::Deadline(None)),
+    (A, Act::Emit(None)),
+    (A, Act::Hear(0, REPLY, Ok(()))),
+    (A, Act::Emit(None)),
+];
+
+/// Eight SYNs from a host that answers no request leave a listener no place for three seconds.
+const FLOOD: &[Step] = &[
+    (B, Act::Socket(ONE)),
+    (B, Act::Bind(ONE, SERVER, Ok(()))),
+    (B, Act::Listen(ONE, 8)),
+    (B, Act::Hear(0, REPLIED_BACK, Ok(()))),
+    (B, Act::Hear(0, THIRD_SYN, Ok(()))),
+    (B, Act::HearChanged(THIRD_SYN, &[(35, 1), (51, 0xcc)], Ok(()))),
+    (B, Act::HearChanged(THIRD_SYN, &[(35, 2), (51, 0xcb)], Ok(()))),
+    (B, Act::HearChanged(THIRD_SYN, &[(35, 3), (51, 0xca)], Ok(()))),
+    (B, Act::HearChanged(THIRD_SYN, &[(35, 4), (51, 0xc9)], Ok(()))),
+    (B, Act::HearChanged(THIRD_SYN, &[(35, 5), (51, 0xc8)], Ok(()))),
+    (B, Act::HearChanged(THIRD_SYN, &[(35, 6), (51, 0xc7)], Ok(()))),
+    (B, Act::HearChanged(THIRD_SYN, &[(35, 7), (51, 0xc6)], Ok(()))),
+    (B, Act::Hear(0, SYN, Err(DropCause::NoRoom))),
+    (B, Act::Sends(THIRD_ASKED)),
+    (B, Act::Emit(None)),
+    (B, Act::Deadline(Some(Moment(1_000)))),
+    (B, Act::Tick(2_999)),
+    (B, Act::Deadline(Some(Moment(3_000)))),
+    (B, Act::Hear(0, SYN, Err(DropCause::NoRoom))),
+];
+
+/// When they are over, a host that answers gets in.
+const FLOOD_IS_OVER: &[Step] = &[
+    (B, Act::Tick(3_000)),
+    (B, Act::Holder(THIRD, None)),
+    (B, Act::Deadline(None)),
+    (B, Act::Emit(None)),
+    (B, Act::Hear(0, SYN, Ok(()))),
+    (B, Act::Holder(PAIR, Some(SocketId(10)))),
+    (B, Act::Emit(Some(60))),
+];
+
+/// A's caller closes after more than twenty minutes in which nothing came from B. B answers no request: A keeps the pair for 483 seconds.
+const FIN_IS_GIVEN_UP: &[Step] = &[
+    (A, Act::Tick(1_300_000)),
+    (A, Act::Close(ONE)),
+    (A, Act::Deadline(Some(Moment(1_783_000)))),
+    (A, Act::Sends(REQUEST)),
+    (A, Act::Deadline(Some(Moment(1_301_000)))),
+    (A, Act::Tick(1_782_999)),
+    (A, Act::Holder(PAIR, Some(ONE))),
+    (A, Act::Deadline(Some(Moment(1_783_000)))),
+    (A, Act::Tick(1_783_000)),
+    (A, Act::Holder(PAIR, None)),
+    (A, Act::Deadline(None)),
+    (A, Act::Emit(None)),
 ];
 
 /// What is for a host that isn't on the link goes to the gateway, whose MAC is asked for.
@@ -126,6 +196,21 @@ pub(super) const SCENARIOS: &[Scenario] = &[
         name: "a SYN waits for its hop",
         ways: FRESH,
         parts: &[LISTENING, SYN_WAITS],
+    },
+    Scenario {
+        name: "a SYN waits for its hop for 483 seconds at most",
+        ways: FRESH,
+        parts: &[LISTENING, SYN_IS_GIVEN_UP],
+    },
+    Scenario {
+        name: "silent hosts leave a listener no place for three seconds",
+        ways: FRESH,
+        parts: &[FLOOD, FLOOD_IS_OVER],
+    },
+    Scenario {
+        name: "a FIN waits for its hop for 483 seconds at most",
+        ways: FRESH,
+        parts: &[LISTENING, CONNECTED, FIN_IS_GIVEN_UP],
     },
     Scenario {
         name: "a gateway is the hop",

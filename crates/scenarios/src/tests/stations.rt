@@ -74,8 +74,8 @@ pub(super) enum Act {
     DatagramSocket(SocketId),
     /// Binds a socket.
     Bind(SocketId, Endpoint, Result<(), Refusal>),
-    /// Lets a socket take connections, of which one may wait.
-    Listen(SocketId),
+    /// Lets a socket take connections, of which so many may wait.
+    Listen(SocketId, usize),
     /// Takes the connection that waits at a socket: its id, and its peer.
     Accept(SocketId, SocketId, Endpoint),
     /// Opens a connection with this initial number to a peer.
@@ -242,8 +242,8 @@ impl Station {
         self.host.bind(id, local) == want
     }
 
-    fn listens(&mut self, id: SocketId) -> bool {
-        self.host.listen(id, 1) == Ok(())
+    fn listens(&mut self, id: SocketId, backlog: usize) -> bool {
+        self.host.listen(id, backlog) == Ok(())
     }
 
     fn accepts(&mut self, id: SocketId, accepted: SocketId, peer: Endpoint) -> bool {
@@ -374,7 +374,7 @@ fn is_answered(station: &mut Station, other: &mut Station, act: Act) -> bool {
         Act::Socket(id) => station.makes(Kind::Tcp, id),
         Act::DatagramSocket(id) => station.makes(Kind::Udp, id),
         Act::Bind(id, local, want) => station.binds(id, local, want),
-        Act::Listen(id) => station.listens(id),
+        Act::Listen(id, backlog) => station.listens(id, backlog),
         Act::Accept(id, accepted, peer) => station.accepts(id, accepted, peer),
         Act::Connect(isn, id, peer, want) => station.connects(isn, id, peer, want),
         Act::Send(id, octets, want) => station.sends(id, octets, want),
@@ -409,7 +409,7 @@ pub(super) const NEIGHBOURS: &[Step] = &[
 pub(super) const LISTENING: &[Step] = &[
     (Side::B, Act::Socket(ONE)),
     (Side::B, Act::Bind(ONE, SERVER, Ok(()))),
-    (Side::B, Act::Listen(ONE)),
+    (Side::B, Act::Listen(ONE, 1)),
     (Side::A, Act::Socket(ONE)),
 ];
 

@@ -24,4 +24,4 @@ returns-in-Some-2 c =
     in
     let found = found_by_place (is_listening_at s.destination) h.entries c.in-Some-2.field-0 place in
     let opens : is_opening s.flags ≡ false = sym c.is_opening.ensures ∙ c.if-is_opening.false in
-    meets_reply _ h h _ (answer_at_listener s) _ _ (listener-answers h c.args.isn.0 c.args.source s found.0 found.1 opens) c.answer_at_listener.ensures refl (c.answered-in-Some-2.ensures h)
+    meets_reply _ h h _ (answer_at_listener s) _ _ (listener-answers h c.args.now c.args.isn.0 c.args.source s found.0 found.1 opens) c.answer_at_listener.ensures refl (c.answered-in-Some-2.ensures h)
