@@ -34,7 +34,7 @@ use Rattle.host.proofs.Ran.{keeps-ordered, keeps-timed}
 use Rattle.host.proofs.Waiting.{deadline-come, later-twice}
 
 module _ (h : HostView) (now : Moment) (id : SocketId) (c : View) (listener : Option SocketId) (sound : IsSoundHost h) (run : HasRun h) (is : entry_of h.sockets id ≡ Some (connected id c listener)) where
-  moment : Moment
+  abbrev moment : Moment
   moment = later_moment h.sockets now
 
   twice : later_moment h.sockets moment ≡ moment

@@ -39,6 +39,7 @@ pub mod OfferRoles
 pub mod OfferHeard
 pub mod OfferSteps
 pub mod OfferHeld
+pub mod Accepted
 pub mod OfferOrder
 pub mod OfferTurns
 pub mod OfferAccepted

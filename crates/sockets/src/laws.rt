@@ -17,7 +17,7 @@ ghost use Rattle.tcp_state.specs.View.{View};
 ghost use Rattle.tcp_state.specs.declared.calls.Refusal.{Refusal as Error};
 ghost use Rattle.sockets.specs.declared.entry.SocketId.{SocketId};
 ghost use Rattle.sockets.specs.declared.entry.Entry.{Entry};
-ghost use Rattle.sockets.specs.Entries.{is_half_open, is_listening_at, is_waiting_at, backlog_of};
+ghost use Rattle.sockets.specs.Entries.{is_listening_at, is_waiting_at, backlog_of};
 ghost use Rattle.sockets.specs.SocketsView.{SocketsView, holder_id, new_sockets, later_moment, role_of};
 ghost use Rattle.sockets.specs.Ticks.{after_tick, least_deadline, IsLeastDeadline, HasNoDeadline};
 ghost use Rattle.sockets.specs.Lost.{role_after_giving_up, after_giving_up, waiting_resets, waits_still};
@@ -108,10 +108,10 @@ pub fn timers_lie_near()
     ensures deadline { (h : SocketsView) (latest moment : Moment) → AreNear latest h → least_deadline h ≡ Some moment → moment.0 ≤ latest.0 + 240000 }
 {}
 
-/// No socket is given up with what can't go out: each id names what it named, a UDP socket without the datagrams that it gives up, and a connection that ended, in CLOSED. (One that a listener opened is a
+/// No socket is given up with what can't go out: each id names what it named, a UDP socket without the datagrams that it gives up, and a connection that ended, in CLOSED. (What a listener opened is a
 /// socket only from its `accept` on, past SYN-RECEIVED.)
 pub fn sockets_are_not_given_up()
-    ensures { (h : SocketsView) (lost : Addr → Bool) (now : Moment) (id : SocketId) → IsSoundTable h → ((role : Role) → role_of h id ≡ Some role → is_half_open role ≡ false) → role_of (after_giving_up h lost now) id ≡ option_map (role_after_giving_up lost (later_moment h now)) (role_of h id) }
+    ensures { (h : SocketsView) (lost : Addr → Bool) (now : Moment) (id : SocketId) → IsSoundTable h → IsReached h → role_of (after_giving_up h lost now) id ≡ option_map (role_after_giving_up lost (later_moment h now)) (role_of h id) }
 {}
 
 /// Of the dynamic ports (RFC 6335 section 6: 49152 to 65535) the first one that passes is given, in the turn that begins behind the last one
