@@ -1,16 +1,16 @@
 -- From when on a request for a hop may go out again, and what lists have.
-use Rattle.std.proofs.Common.{◌≡◌, ℕ, zero, suc, ◌+◌, ◌<◌, ◌≤◌, ◌||◌, nat_le, nat_lt, Bool, true, false, cond, List, [], ◌∷◌, Contains, slice_index_or, filter, fold, length, map, Option, Some, None, IfSome, refl, sym, ◌∙◌, ap, subst, arith}
+use Rattle.std.proofs.Common.{◌≡◌, ◌⊎◌, inl, inr, ℕ, zero, suc, ◌+◌, ◌-◌, ◌^◌, ◌<◌, ◌≤◌, ◌||◌, nat_le, nat_lt, Bool, true, false, cond, List, [], ◌∷◌, Contains, slice_index_or, filter, fold, length, map, Option, Some, None, IfSome, refl, sym, ◌∙◌, ap, subst, arith}
 use Rattle.std.specs.List.{list_any, AllByRecursion}
 use Rattle.std.proofs.lemmas.Bool.Decides.{nat_tests}
 use Rattle.ipv4.specs.declared.addr.Addr.{Addr}
 use Rattle.clock.specs.declared.moment.Moment.{Moment}
 use Rattle.clock.specs.Moments.{has_come, later, sooner}
 use Rattle.arp.specs.declared.entry.Asked.{Asked}
-use Rattle.arp.specs.Cache.{end_of, is_note_of, may_ask, IsNextAsk}
-use Rattle.arp.specs.Waits.{first_end, next_ask, own_end, room_end}
-use Rattle.arp.proofs.WaitsOver.{next_is}
+use Rattle.arp.specs.Cache.{is_note_of, may_ask, IsNextAsk}
+use Rattle.arp.specs.Waits.{first_last, following, last_of, next_ask, own_last, room_last}
+use Rattle.arp.proofs.WaitsOver.{is_past, never_again, next_is, over_is}
 use Rattle.interface.specs.Routing.{next_hop}
-use Rattle.host.specs.ComesUp.{IsAskedFrom}
+use Rattle.host.specs.ComesUp.{IsAskedFrom, IsPastAsking}
 use Rattle.host.specs.HostView.{HostView}
 use Rattle.host.proofs.Causes.{all-filtered}
 
@@ -81,17 +81,14 @@ filtered-in {X} p (y ∷ ys) x at = by_test (p y) refl (filtered-in p ys x) at
 
 -- From when on a hop may be asked for.
 
--- one of the requests was sent a second before this moment at most
-abbrev IsEnd : List Asked → Moment → Type 0
-IsEnd asked m = (request : Asked) × Contains asked request × (m.0 ≤ request.at.0 + 1000)
+-- this is the last moment of one of the requests
+abbrev IsLast : List Asked → Moment → Type 0
+IsLast asked m = (request : Asked) × Contains asked request × (last_of request ≡ m)
 
-end-soon : (request : Asked) → (let end = end_of request in end.0 ≤ request.at.0 + 1000)
-end-soon request = grind arith
-
-ends-in : (all asked : List Asked) → ((request : Asked) → Contains asked request → Contains all request) → AllByRecursion (λ (request : Asked). IsEnd all (end_of request)) asked
-ends-in all [] noted = tt
-ends-in all (request ∷ rest) noted =
-    ((request, noted request (0, omega arith, refl), end-soon request), ends-in all rest (λ r at. noted r (behind request rest r at)))
+lasts-in : (all asked : List Asked) → ((request : Asked) → Contains asked request → Contains all request) → AllByRecursion (λ (request : Asked). IsLast all (last_of request)) asked
+lasts-in all [] noted = tt
+lasts-in all (request ∷ rest) noted =
+    ((request, noted request (0, omega arith, refl), refl), lasts-in all rest (λ r at. noted r (behind request rest r at)))
 
 either-of : (P : Moment → Type 0) (t : Bool) (a b : Moment) → P a → P b → IfSome (cond t (Some a) (Some b)) P
 either-of P true a b p q = p
@@ -110,40 +107,85 @@ both-of P None b p q = q
 both-of P (Some a) None p q = p
 both-of P (Some a) (Some b) p q = later-of P (Some a) b p q
 
-last-of : (P : Moment → Type 0) (first : Option Moment) (asked : List Asked) → IfSome first P → AllByRecursion (λ (request : Asked). P (end_of request)) asked
-    → IfSome (fold (λ (latest : Option Moment) (request : Asked). later latest (Some (end_of request))) first asked) P
+last-of : (P : Moment → Type 0) (first : Option Moment) (asked : List Asked) → IfSome first P → AllByRecursion (λ (request : Asked). P (last_of request)) asked
+    → IfSome (fold (λ (latest : Option Moment) (request : Asked). later latest (Some (last_of request))) first asked) P
 last-of P first [] p all = p
-last-of P first (request ∷ rest) p all = last-of P (later first (Some (end_of request))) rest (later-of P first (end_of request) p all.0) all.1
+last-of P first (request ∷ rest) p all = last-of P (later first (Some (last_of request))) rest (later-of P first (last_of request) p all.0) all.1
 
-soonest-of : (P : Moment → Type 0) (first : Option Moment) (asked : List Asked) → IfSome first P → AllByRecursion (λ (request : Asked). P (end_of request)) asked
-    → IfSome (fold (λ (soonest : Option Moment) (request : Asked). sooner soonest (Some (end_of request))) first asked) P
+soonest-of : (P : Moment → Type 0) (first : Option Moment) (asked : List Asked) → IfSome first P → AllByRecursion (λ (request : Asked). P (last_of request)) asked
+    → IfSome (fold (λ (soonest : Option Moment) (request : Asked). sooner soonest (Some (last_of request))) first asked) P
 soonest-of P first [] p all = p
-soonest-of P first (request ∷ rest) p all = soonest-of P (sooner first (Some (end_of request))) rest (sooner-of P first (end_of request) p all.0) all.1
+soonest-of P first (request ∷ rest) p all = soonest-of P (sooner first (Some (last_of request))) rest (sooner-of P first (last_of request) p all.0) all.1
 
-next-soon : (hop : Addr) (asked : List Asked) → IfSome (next_ask hop asked) (IsEnd asked)
-unfolding next_ask
-next-soon hop asked = both-of (IsEnd asked) (room_end asked) (own_end hop asked) (by_room (nat_lt (length asked) 64)) (last-of (IsEnd asked) None (filter (is_note_of hop) asked) tt own)
+last-known : (hop : Addr) (asked : List Asked) → IfSome (later (room_last asked) (own_last hop asked)) (IsLast asked)
+last-known hop asked = both-of (IsLast asked) (room_last asked) (own_last hop asked) (by_room (nat_lt (length asked) 64)) (last-of (IsLast asked) None (filter (is_note_of hop) asked) tt own)
   where
-    all : AllByRecursion (λ (request : Asked). IsEnd asked (end_of request)) asked
-    all = ends-in asked asked (λ request at. at)
+    all : AllByRecursion (λ (request : Asked). IsLast asked (last_of request)) asked
+    all = lasts-in asked asked (λ request at. at)
 
-    own : AllByRecursion (λ (request : Asked). IsEnd asked (end_of request)) (filter (is_note_of hop) asked)
-    own = all-filtered (λ (request : Asked). IsEnd asked (end_of request)) (is_note_of hop) asked all
+    own : AllByRecursion (λ (request : Asked). IsLast asked (last_of request)) (filter (is_note_of hop) asked)
+    own = all-filtered (λ (request : Asked). IsLast asked (last_of request)) (is_note_of hop) asked all
 
-    by_room : (b : Bool) → IfSome (cond b None (first_end asked)) (IsEnd asked)
+    by_room : (b : Bool) → IfSome (cond b None (first_last asked)) (IsLast asked)
     by_room true = tt
-    by_room false = soonest-of (IsEnd asked) None asked tt all
+    by_room false = soonest-of (IsLast asked) None asked tt all
 
 next-from : (hop : Addr) (asked : List Asked) → length asked ≤ 64 → IsNextAsk hop asked (next_ask hop asked)
 unfolding next_ask
-next-from hop asked few = next_is hop asked (later (room_end asked) (own_end hop asked)) few refl
+next-from hop asked few = next_is hop asked (following (later (room_last asked) (own_last hop asked))) few refl
 
--- where none may go out now, there is such a moment
+-- it lies within a second of a request, or a request was sent at the last moment of the clock
+
+soon : (request : Asked) (m : ℕ) → (let last = last_of request in last.0 ≡ m) → nat_lt m (2 ^ 64 - 1) ≡ true → m + 1 ≤ request.at.0 + 1000
+soon request m is ahead = grind (arith, nat_tests, is, ahead)
+
+at-end : (request : Asked) → (let last = last_of request in nat_lt last.0 (2 ^ 64 - 1) ≡ false) → 2 ^ 64 - 1 ≤ request.at.0
+at-end request end = grind (arith, nat_tests, end)
+
+-- where none may go out now, there is such a moment, or the clock is at its end
 pub asked-from : (h : HostView) (now : Moment) (to hop : Addr) → length h.interface.cache.asked ≤ 64 → next_hop h.interface.routes to ≡ Some hop → may_ask now hop h.interface.cache.asked ≡ false
-    → (moment : Moment) × (next_ask hop h.interface.cache.asked ≡ Some moment) × IsAskedFrom h to moment
-asked-from h now to hop few leads not_now = by_next (next_ask hop h.interface.cache.asked) refl (next-from hop h.interface.cache.asked few) (next-soon hop h.interface.cache.asked)
+    → ((moment : Moment) × (next_ask hop h.interface.cache.asked ≡ Some moment) × IsAskedFrom h to moment) ⊎ IsPastAsking h to
+unfolding next_ask
+asked-from h now to hop few leads not_now = by_last (later (room_last asked) (own_last hop asked)) refl (last-known hop asked)
   where
-    by_next : (o : Option Moment) → next_ask hop h.interface.cache.asked ≡ o → IsNextAsk hop h.interface.cache.asked o → IfSome o (IsEnd h.interface.cache.asked)
-        → (moment : Moment) × (next_ask hop h.interface.cache.asked ≡ Some moment) × IsAskedFrom h to moment
-    by_next None is from soon = let no = sym (from now) ∙ not_now in cc
-    by_next (Some moment) is from soon = (moment, is, record { hop = hop; leads = leads; from = from; request = soon.0; noted = soon.1; soon = soon.2 })
+    asked : List Asked
+    asked = h.interface.cache.asked
+
+    Answered : Type 0
+    Answered = ((moment : Moment) × (following (later (room_last asked) (own_last hop asked)) ≡ Some moment) × IsAskedFrom h to moment) ⊎ IsPastAsking h to
+
+    next : Moment → Moment
+    next last = record { 0 = last.0 + 1 }
+
+    ahead : (last : Moment) (request : Asked) → later (room_last asked) (own_last hop asked) ≡ Some last → nat_lt last.0 (2 ^ 64 - 1) ≡ true → Contains asked request → last_of request ≡ last → Answered
+    ahead last request is within noted same =
+        let there : following (later (room_last asked) (own_last hop asked)) ≡ Some (next last) = ap following is ∙ ap (λ (b : Bool). cond b (Some (next last)) None) within in
+        let number : (let m = last_of request in m.0 ≡ last.0) = ap (λ (m : Moment). m.0) same in
+        inl (next last, there, record {
+          hop = hop;
+          leads = leads;
+          from = subst (IsNextAsk hop asked) there (next-from hop asked few);
+          request = request;
+          noted = noted;
+          soon = soon request last.0 number within;
+        })
+
+    past : (last : Moment) (request : Asked) → later (room_last asked) (own_last hop asked) ≡ Some last → nat_lt last.0 (2 ^ 64 - 1) ≡ false → Contains asked request → last_of request ≡ last → Answered
+    past last request is end noted same =
+        let none : following (later (room_last asked) (own_last hop asked)) ≡ None = ap following is ∙ ap (λ (b : Bool). cond b (Some (next last)) None) end in
+        inr (record {
+          hop = hop;
+          leads = leads;
+          never = λ then within. never_again hop asked now then few none not_now within;
+          request = request;
+          noted = noted;
+          at_the_end = at-end request (ap (λ (m : Moment). nat_lt m.0 (2 ^ 64 - 1)) same ∙ end);
+        })
+
+    by_test : (last : Moment) (b : Bool) → nat_lt last.0 (2 ^ 64 - 1) ≡ b → later (room_last asked) (own_last hop asked) ≡ Some last → IsLast asked last → Answered
+    by_test last true within is known = ahead last known.0 is within known.1 known.2
+    by_test last false end is known = past last known.0 is end known.1 known.2
+
+    by_last : (o : Option Moment) → later (room_last asked) (own_last hop asked) ≡ o → IfSome o (IsLast asked) → Answered
+    by_last None is known = let no : is_past None now ≡ false = ap (λ (o : Option Moment). is_past o now) (sym is) ∙ sym (over_is hop asked now few) ∙ not_now in cc
+    by_last (Some last) is known = by_test last (nat_lt last.0 (2 ^ 64 - 1)) refl is known

@@ -1,5 +1,5 @@
 -- What is due comes up: a frame can go out for it, or the host is woken when its hop may be asked for again.
-use Rattle.std.proofs.Common.{◌≡◌, ◌⊎◌, inl, inr, ℕ, zero, suc, ◌<◌, ◌≤◌, ◌||◌, Bool, true, false, cond, List, [], ◌∷◌, Contains, slice_index_or, filter, length, map, Option, Some, None, IsTrue, is_some, option_map, refl, sym, ◌∙◌, ap, subst, arith}
+use Rattle.std.proofs.Common.{◌≡◌, ◌⊎◌, inl, inr, ℕ, zero, suc, ◌<◌, ◌≤◌, ◌||◌, not, Bool, true, false, cond, List, [], ◌∷◌, Contains, slice_index_or, filter, length, map, Option, Some, None, IsTrue, is_some, option_map, refl, sym, ◌∙◌, ap, subst, arith}
 use Rattle.std.specs.List.{find, list_any}
 use Rattle.std.proofs.lemmas.Bool.Decides.{nat_tests}
 use Rattle.std.proofs.lemmas.List.Elements.{Contains-append_cases, Contains-append_left, Contains-append_right}
@@ -7,7 +7,8 @@ use Rattle.ether.specs.declared.mac.Mac.{Mac}
 use Rattle.ipv4.specs.declared.addr.Addr.{Addr}
 use Rattle.ipv4.specs.declared.addr.Endpoint.{Endpoint}
 use Rattle.clock.specs.declared.moment.Moment.{Moment}
-use Rattle.clock.specs.Moments.{has_come, sooner}
+use Rattle.clock.specs.declared.moment.TheConstants.{HOP_WAIT}
+use Rattle.clock.specs.Moments.{after, has_come, sooner}
 use Rattle.clock.proofs.Comings.{sooner-has_come}
 use Rattle.arp.specs.Cache.{look, may_ask}
 use Rattle.arp.specs.Waits.{next_ask}
@@ -40,7 +41,8 @@ use Rattle.tcp_state.specs.View.{View}
 use Rattle.tcp_state.proofs.Waiting.{goes_out as timed_or_due}
 use Rattle.udp_socket.specs.Emission.{due_peer as datagram_peer}
 use Rattle.udp_socket.specs.SocketView.{Outgoing, SocketView}
-use Rattle.host.specs.ComesUp.{address_of, is_on_route, IsAskedFrom, IsWokenBy, IsDueSoon, IsQuiet, ComesUp, ConnectionComesUp}
+use Rattle.udp_socket.specs.Waits.{deadline_of as datagram_deadline_of}
+use Rattle.host.specs.ComesUp.{address_of, is_on_route, IsAskedFrom, IsHeldAtTheEnd, IsPastAsking, IsWokenBy, IsDueSoon, IsQuiet, ComesUp, ConnectionComesUp}
 use Rattle.host.specs.Emission.{way_to}
 use Rattle.host.specs.HostView.{HostView}
 use Rattle.host.specs.Places.{Place, ReplyOf, EntryOf, places, can_go_out}
@@ -126,6 +128,22 @@ reply-wakes h w to hop m at seeks held next =
     (or-left (has_come (timer_deadline h.sockets) m || has_come (reply_deadline i kept) m) (has_come (pool_deadline h.pool) m)
     (or-right (has_come (timer_deadline h.sockets) m) (has_come (reply_deadline i kept) m) replies)))
 
+-- at the end of its own wait
+reply-ends : (h : HostView) (w : Waiting) (to hop : Addr) → Contains h.interface.replies w → sought w.reply ≡ Some to → IsHeld h h.sockets.kept to hop → IsWokenBy h (reply_end w)
+reply-ends h w to hop at seeks held =
+    let i : InterfaceView = h.interface in
+    let kept : Moment = h.sockets.kept in
+    let m : Moment = reply_end w in
+    let own : deadline_of i kept w ≡ sooner (Some m) (asked_until i kept to) =
+    ap (deadline_for i kept m) seeks ∙ ap (λ (b : Bool). cond b None (sooner (Some m) (asked_until i kept to))) (unknown-is h kept to hop held) in
+    let come : has_come (deadline_of i kept w) m ≡ true =
+    ap (λ (o : Option Moment). has_come o m) own ∙ sooner-has_come (Some m) (asked_until i kept to) m ∙ or-left (has_come (Some m) m) (has_come (asked_until i kept to) m) (same-comes m) in
+    let replies : has_come (reply_deadline i kept) m ≡ true = fold-come (deadline_of i kept) None i.replies m ∙ any-of (λ (x : Waiting). has_come (deadline_of i kept x) m) i.replies w at come in
+    woken h m (deadline-come h m
+    ∙ or-left (has_come (timer_deadline h.sockets) m || has_come (reply_deadline i kept) m || has_come (pool_deadline h.pool) m) (list_any (λ x. has_come (hop_deadline h x) m) h.sockets.entries)
+    (or-left (has_come (timer_deadline h.sockets) m || has_come (reply_deadline i kept) m) (has_come (pool_deadline h.pool) m)
+    (or-right (has_come (timer_deadline h.sockets) m) (has_come (reply_deadline i kept) m) replies)))
+
 -- for an entry
 entry-wakes : (h : HostView) (e : Entry) (peer : Endpoint) (hop : Addr) (m : Moment) → Contains h.sockets.entries e → due_peer e.role ≡ Some peer → IsHeld h h.sockets.kept peer.addr hop → next_ask hop h.interface.cache.asked ≡ Some m
     → IsWokenBy h m
@@ -134,6 +152,23 @@ entry-wakes h e peer hop m at is held next =
     let own : request_deadline h (due_peer e.role) ≡ Some m = ap (request_deadline h) is ∙ until-is h h.sockets.kept peer.addr hop held ∙ next in
     let come : has_come (hop_deadline h e) m ≡ true =
     ap (λ (o : Option Moment). has_come (sooner gives_up o) m) own ∙ sooner-has_come gives_up (Some m) m ∙ or-right (has_come gives_up m) (has_come (Some m) m) (same-comes m) in
+    woken h m (deadline-come h m
+    ∙ or-right (has_come (timer_deadline h.sockets) m || has_come (reply_deadline h.interface h.sockets.kept) m || has_come (pool_deadline h.pool) m) (list_any (λ x. has_come (hop_deadline h x) m) h.sockets.entries)
+    (any-of (λ (x : Entry). has_come (hop_deadline h x) m) h.sockets.entries e at come))
+
+-- at the end of the wait of a datagram
+datagram-ends : (h : HostView) (e : Entry) (bound : Option Endpoint) (socket : SocketView) (o : Outgoing) (hop : Addr) → Contains h.sockets.entries e → e.role ≡ Datagrams bound socket → Contains socket.outbox o
+    → IsHeld h h.sockets.kept o.peer.addr hop → IsWokenBy h (after o.since HOP_WAIT)
+datagram-ends h e bound socket o hop at is waits held =
+    let lost : Addr → Bool = lacks_hop h h.sockets.kept in
+    let m : Moment = after o.since HOP_WAIT in
+    let asks : Option Moment = request_deadline h (due_peer e.role) in
+    let unknown : lost o.peer.addr ≡ true = ap not (unknown-is h h.sockets.kept o.peer.addr hop held) in
+    let own : has_come (datagram_deadline_of lost o) m ≡ true = ap (λ (b : Bool). has_come (cond b (Some m) None) m) unknown ∙ same-comes m in
+    let gives_up : has_come (give_up_at lost e.role) m ≡ true =
+    ap (λ (r : Role). has_come (give_up_at lost r) m) is ∙ fold-come (datagram_deadline_of lost) None socket.outbox m ∙ any-of (λ (x : Outgoing). has_come (datagram_deadline_of lost x) m) socket.outbox o waits own in
+    let come : has_come (hop_deadline h e) m ≡ true =
+    sooner-has_come (give_up_at lost e.role) asks m ∙ or-left (has_come (give_up_at lost e.role) m) (has_come asks m) gives_up in
     woken h m (deadline-come h m
     ∙ or-right (has_come (timer_deadline h.sockets) m || has_come (reply_deadline h.interface h.sockets.kept) m || has_come (pool_deadline h.pool) m) (list_any (λ x. has_come (hop_deadline h x) m) h.sockets.entries)
     (any-of (λ (x : Entry). has_come (hop_deadline h x) m) h.sockets.entries e at come))
@@ -180,21 +215,29 @@ due-somebody (Datagrams bound socket) e = by_peer (datagram_peer socket.outbox) 
     by_peer (Some peer) is some = (peer, is)
 
 -- what to do for an address that a route leads to
-held-up : (h : HostView) (to : Addr) → length h.interface.cache.asked ≤ 64 → is_on_route h.interface.routes (Some to) ≡ true → goes_out (way h.interface h.sockets.kept to) ≡ false
-    → (hop : Addr) × (moment : Moment) × IsHeld h h.sockets.kept to hop × (next_ask hop h.interface.cache.asked ≡ Some moment) × IsAskedFrom h to moment
+record IsHeldUp (h : HostView) (to : Addr) : Type 0 where
+  hop : Addr
+  held : IsHeld h h.sockets.kept to hop
+  next : ((moment : Moment) × (next_ask hop h.interface.cache.asked ≡ Some moment) × IsAskedFrom h to moment) ⊎ IsPastAsking h to
+
+held-up : (h : HostView) (to : Addr) → length h.interface.cache.asked ≤ 64 → is_on_route h.interface.routes (Some to) ≡ true → goes_out (way h.interface h.sockets.kept to) ≡ false → IsHeldUp h to
 held-up h to few routed held =
     let by = held-by h h.sockets.kept to routed held in
-    let from = asked-from h h.sockets.kept to by.0 few (let x = by.1 in x.leads) (let x = by.1 in x.unasked) in
-    (by.0, from.0, by.1, from.1, from.2)
+    record { hop = by.0; held = by.1; next = asked-from h h.sockets.kept to by.0 few (let x = by.1 in x.leads) (let x = by.1 in x.unasked) }
 
 reply-comes : (h : HostView) (w : Waiting) → length h.interface.cache.asked ≤ 64 → Contains h.interface.replies w → is_on_route h.interface.routes (sought w.reply) ≡ true → ComesUp h (ReplyOf w)
 reply-comes h w few at routed = by_test (can_go_out h h.sockets.kept (ReplyOf w)) refl
   where
+    by_next : (to hop : Addr) → sought w.reply ≡ Some to → IsHeld h h.sockets.kept to hop
+        → ((moment : Moment) × (next_ask hop h.interface.cache.asked ≡ Some moment) × IsAskedFrom h to moment) ⊎ IsPastAsking h to → ComesUp h (ReplyOf w)
+    by_next to hop is held (inl next) = inr (inl (to, next.0, is, next.2, reply-wakes h w to hop next.0 at is held next.1))
+    by_next to hop is held (inr past) = inr (inr (to, is, past))
+
     by_address : (o : Option Addr) → sought w.reply ≡ o → is_on_route h.interface.routes o ≡ true → can_go_out h h.sockets.kept (ReplyOf w) ≡ false → ComesUp h (ReplyOf w)
     by_address None is fine held = let no = sym (unsought-goes h.interface h.sockets.kept w.reply is) ∙ held in cc
     by_address (Some to) is fine held =
         let waits = held-up h to few fine (sym (ap goes_out (way-sought h.interface h.sockets.kept w.reply to is)) ∙ held) in
-        inr (to, waits.1, is, waits.4, reply-wakes h w to waits.0 waits.1 at is waits.2 waits.3)
+        by_next to waits.hop is waits.held waits.next
 
     by_test : (b : Bool) → can_go_out h h.sockets.kept (ReplyOf w) ≡ b → ComesUp h (ReplyOf w)
     by_test true goes = inl goes
@@ -203,11 +246,17 @@ reply-comes h w few at routed = by_test (can_go_out h h.sockets.kept (ReplyOf w)
 entry-comes : (h : HostView) (e : Entry) → length h.interface.cache.asked ≤ 64 → Contains h.sockets.entries e → is_due e ≡ true → is_on_route h.interface.routes (address_of (EntryOf e)) ≡ true → ComesUp h (EntryOf e)
 entry-comes h e few at due routed = by_test (can_go_out h h.sockets.kept (EntryOf e)) refl
   where
+    by_next : (peer : Endpoint) (hop : Addr) → due_peer e.role ≡ Some peer → IsHeld h h.sockets.kept peer.addr hop
+        → ((moment : Moment) × (next_ask hop h.interface.cache.asked ≡ Some moment) × IsAskedFrom h peer.addr moment) ⊎ IsPastAsking h peer.addr → ComesUp h (EntryOf e)
+    by_next peer hop is held (inl next) =
+        inr (inl (peer.addr, next.0, ap (λ (o : Option Endpoint). option_map (λ (x : Endpoint). x.addr) o) is, next.2, entry-wakes h e peer hop next.0 at is held next.1))
+    by_next peer hop is held (inr past) = inr (inr (peer.addr, ap (λ (o : Option Endpoint). option_map (λ (x : Endpoint). x.addr) o) is, past))
+
     by_peer : (peer : Endpoint) → due_peer e.role ≡ Some peer → can_go_out h h.sockets.kept (EntryOf e) ≡ false → ComesUp h (EntryOf e)
     by_peer peer is held =
         let fine : is_on_route h.interface.routes (Some peer.addr) ≡ true = sym (ap (λ (o : Option Endpoint). is_on_route h.interface.routes (option_map (λ (x : Endpoint). x.addr) o)) is) ∙ routed in
         let waits = held-up h peer.addr few fine (sym (ap (λ (o : Option Endpoint). goes_out (way_to h h.sockets.kept o)) is) ∙ held) in
-        inr (peer.addr, waits.1, ap (λ (o : Option Endpoint). option_map (λ (x : Endpoint). x.addr) o) is, waits.4, entry-wakes h e peer waits.0 waits.1 at is waits.2 waits.3)
+        by_next peer waits.hop is waits.held waits.next
 
     by_test : (b : Bool) → can_go_out h h.sockets.kept (EntryOf e) ≡ b → ComesUp h (EntryOf e)
     by_test true goes = inl goes
@@ -287,27 +336,42 @@ none-can {X} p (y ∷ ys) x none at e = by_test (λ rest there. none-can p ys x 
 unwoken : (h : HostView) (m : Moment) → least_deadline h ≡ None → IsWokenBy h m → ⊥
 unwoken h m none wakes = let no = sym none ∙ wakes.1 in cc
 
-comes-not : (h : HostView) (place : Place) → find (can_go_out h h.sockets.kept) (places h) ≡ None → least_deadline h ≡ None → Contains (places h) place → ComesUp h place → ⊥
-comes-not h place none quiet at (inl goes) = none-can (can_go_out h h.sockets.kept) (places h) place none at goes
-comes-not h place none quiet at (inr waits) = unwoken h waits.1 quiet waits.4
+comes-not : (h : HostView) (place : Place) → find (can_go_out h h.sockets.kept) (places h) ≡ None → least_deadline h ≡ None → Contains (places h) place → ComesUp h place → IsHeldAtTheEnd h place
+comes-not h place none quiet at (inl goes) = absurd (none-can (can_go_out h h.sockets.kept) (places h) place none at goes)
+comes-not h place none quiet at (inr (inl waits)) = absurd (unwoken h waits.1 quiet waits.4)
+comes-not h place none quiet at (inr (inr past)) = past
 
 unrouted-place : (h : HostView) → length h.interface.cache.asked ≤ 64 → find (can_go_out h h.sockets.kept) (places h) ≡ None → least_deadline h ≡ None
-    → (place : Place) → Contains (places h) place → is_on_route h.interface.routes (address_of place) ≡ false
+    → (place : Place) → Contains (places h) place → (is_on_route h.interface.routes (address_of place) ≡ false) ⊎ IsHeldAtTheEnd h place
 unrouted-place h few none quiet place at = by_test (is_on_route h.interface.routes (address_of place)) refl
   where
-    by_test : (b : Bool) → is_on_route h.interface.routes (address_of place) ≡ b → is_on_route h.interface.routes (address_of place) ≡ false
-    by_test true routed = absurd (comes-not h place none quiet at (place-comes h place few at routed))
-    by_test false unrouted = unrouted
+    by_test : (b : Bool) → is_on_route h.interface.routes (address_of place) ≡ b → (is_on_route h.interface.routes (address_of place) ≡ false) ⊎ IsHeldAtTheEnd h place
+    by_test true routed = inr (comes-not h place none quiet at (place-comes h place few at routed))
+    by_test false unrouted = inl unrouted
+
+-- a place for which no frame can go out
+held-place : (h : HostView) (place : Place) → find (can_go_out h h.sockets.kept) (places h) ≡ None → Contains (places h) place → can_go_out h h.sockets.kept place ≡ false
+held-place h place none at = by_test (can_go_out h h.sockets.kept place) refl
+  where
+    by_test : (b : Bool) → can_go_out h h.sockets.kept place ≡ b → can_go_out h h.sockets.kept place ≡ false
+    by_test true goes = absurd (none-can (can_go_out h h.sockets.kept) (places h) place none at goes)
+    by_test false held = held
 
 no-reply : (h : HostView) (routes : List Route) → KeepsSide routes h.interface → find (can_go_out h h.sockets.kept) (places h) ≡ None → least_deadline h ≡ None → h.interface.replies ≡ []
 no-reply h routes keeps none quiet = by_replies h.interface.replies refl
   where
+    by_address : (w : Waiting) (o : Option Addr) → Contains h.interface.replies w → sought w.reply ≡ o → is_on_route h.interface.routes o ≡ true → can_go_out h h.sockets.kept (ReplyOf w) ≡ false → ⊥
+    by_address w None here is fine held = let no = sym (unsought-goes h.interface h.sockets.kept w.reply is) ∙ held in cc
+    by_address w (Some to) here is fine held =
+        let by = held-by h h.sockets.kept to fine (sym (ap goes_out (way-sought h.interface h.sockets.kept w.reply to is)) ∙ held) in
+        unwoken h (reply_end w) quiet (reply-ends h w to by.0 here is by.1)
+
     by_replies : (ws : List Waiting) → h.interface.replies ≡ ws → h.interface.replies ≡ []
     by_replies [] is = is
     by_replies (w ∷ ws) is =
         let here : Contains h.interface.replies w = subst (λ (xs : List Waiting). Contains xs w) (sym is) (0, omega arith, refl) in
         let routed : is_on_route h.interface.routes (sought w.reply) ≡ true = all-of (λ (x : Waiting). is_on_route h.interface.routes (sought x.reply) ≡ true) h.interface.replies w keeps.routed here in
-        absurd (comes-not h (ReplyOf w) none quiet (reply-due h w here) (reply-comes h w keeps.few here routed))
+        absurd (by_address w (sought w.reply) here refl routed (held-place h (ReplyOf w) none (reply-due h w here)))
 
 no-datagram : (h : HostView) → length h.interface.cache.asked ≤ 64 → find (can_go_out h h.sockets.kept) (places h) ≡ None → least_deadline h ≡ None
     → (e : Entry) (bound : Option Endpoint) (socket : SocketView) (first : Outgoing) (others : List Outgoing) → Contains h.sockets.entries e → e.role ≡ Datagrams bound socket → socket.outbox ≡ first ∷ others
@@ -315,16 +379,30 @@ no-datagram : (h : HostView) → length h.interface.cache.asked ≤ 64 → find 
 no-datagram h few none quiet e bound socket first others at is waits = by_test (is_routed h.interface first.peer.addr) refl
   where
     by_test : (b : Bool) → is_routed h.interface first.peer.addr ≡ b → is_routed h.interface first.peer.addr ≡ false
-    by_test true routed = let due = datagram-comes h e bound socket first others few at is waits routed in absurd (comes-not h (EntryOf e) none quiet due.0 due.1)
+    by_test true routed =
+        let due = datagram-comes h e bound socket first others few at is waits routed in
+        let peer : due_peer e.role ≡ Some first.peer = ap due_peer is ∙ ap datagram_peer waits in
+        let held : goes_out (way h.interface h.sockets.kept first.peer.addr) ≡ false =
+        sym (ap (λ (o : Option Endpoint). goes_out (way_to h h.sockets.kept o)) peer) ∙ held-place h (EntryOf e) none due.0 in
+        let by = held-by h h.sockets.kept first.peer.addr routed held in
+        let here : Contains socket.outbox first = subst (λ (xs : List Outgoing). Contains xs first) (sym waits) (0, omega arith, refl) in
+        absurd (unwoken h (after first.since HOP_WAIT) quiet (datagram-ends h e bound socket first by.0 at is here by.1))
     by_test false unrouted = unrouted
 
 nothing-to-send : (h : HostView) → length h.interface.cache.asked ≤ 64 → IsSoundHost h → EachKeepsTime h.sockets → find (can_go_out h h.sockets.kept) (places h) ≡ None → least_deadline h ≡ None
-    → (e : Entry) (c : View) (l : Option SocketId) → Contains h.sockets.entries e → e.role ≡ Connected c l → is_some (next_hop h.interface.routes c.peer.addr) ≡ true → HasToSend c → ⊥
+    → (e : Entry) (c : View) (l : Option SocketId) → Contains h.sockets.entries e → e.role ≡ Connected c l → is_some (next_hop h.interface.routes c.peer.addr) ≡ true → HasToSend c → IsPastAsking h c.peer.addr
 nothing-to-send h few sound timed none quiet e c l at is routed waits = by_cause (connection-comes h e c l few sound timed at is routed waits)
   where
-    by_cause : ConnectionComesUp h e c → ⊥
-    by_cause (inl due) = comes-not h (EntryOf e) none quiet due.0 due.1
-    by_cause (inr timer) = unwoken h timer.0 quiet timer.2
+    peer_is : (to : Addr) → address_of (EntryOf e) ≡ Some to → to ≡ c.peer.addr
+    peer_is to told = by_first (is_some (first_due c)) (sym (ap (λ (r : Role). option_map (λ (x : Endpoint). x.addr) (due_peer r)) is) ∙ told)
+      where
+        by_first : (d : Bool) → option_map (λ (x : Endpoint). x.addr) (cond d (Some c.peer) None) ≡ Some to → to ≡ c.peer.addr
+        by_first true some = cc
+        by_first false some = cc
+
+    by_cause : ConnectionComesUp h e c → IsPastAsking h c.peer.addr
+    by_cause (inl due) = let past = comes-not h (EntryOf e) none quiet due.0 due.1 in subst (IsPastAsking h) (peer_is past.0 past.1) past.2
+    by_cause (inr timer) = absurd (unwoken h timer.0 quiet timer.2)
 
 -- Of every host.
 

@@ -1,11 +1,11 @@
 -- When what waits to go out is looked at next: it can go out, or the host has a deadline for it (RFC 1122 sections 2.3.2.1 and 2.3.2.2, RFC 9293
--- section 3.8). `laws::what_is_due_comes_up` says that one of both is so.
-use Rattle.std.specs.Prelude.{◌≡◌, ◌⊎◌, ◌≤◌, ◌+◌, Bool, false, true, IsTrue, List, [], ◌∷◌, Contains, Option, Some, None, option_map, is_some}
+-- section 3.8). `laws::what_is_due_comes_up` says that one of both is so, as long as the clock goes on.
+use Rattle.std.specs.Prelude.{◌≡◌, ◌⊎◌, ◌≤◌, ◌<◌, ◌+◌, ◌-◌, ◌^◌, Bool, false, true, IsTrue, List, [], ◌∷◌, Contains, Option, Some, None, option_map, is_some}
 use Rattle.ipv4.specs.declared.addr.Addr.{Addr}
 use Rattle.ipv4.specs.declared.addr.Endpoint.{Endpoint}
 use Rattle.clock.specs.declared.moment.Moment.{Moment}
 use Rattle.arp.specs.declared.entry.Asked.{Asked}
-use Rattle.arp.specs.Cache.{IsNextAsk}
+use Rattle.arp.specs.Cache.{may_ask, IsNextAsk}
 use Rattle.routes.specs.declared.route.Route.{Route}
 use Rattle.interface.specs.Routing.{next_hop}
 use Rattle.interface.specs.Timing.{sought}
@@ -41,14 +41,30 @@ pub record IsAskedFrom (h : HostView) (to : Addr) (moment : Moment) : Type 0 whe
   pub noted : Contains h.interface.cache.asked request
   pub soon : moment.0 ≤ request.at.0 + 1000
 
+-- No request may go out for the next hop to an address at any moment of the clock: one was sent at the last moment, and is in the way.
+pub record IsPastAsking (h : HostView) (to : Addr) : Type 0 where
+  pub hop : Addr
+  pub leads : next_hop h.interface.routes to ≡ Some hop
+  pub never : (now : Moment) → now.0 < 2 ^ 64 → may_ask now hop h.interface.cache.asked ≡ false
+  pub request : Asked
+  pub noted : Contains h.interface.cache.asked request
+  pub at_the_end : 2 ^ 64 - 1 ≤ request.at.0
+
 -- the host has a deadline, and that is not after this moment
 abbrev pub IsWokenBy : HostView → Moment → Type 0
 IsWokenBy h moment = (deadline : Moment) × (least_deadline h ≡ Some deadline) × (deadline.0 ≤ moment.0)
 
--- a frame can go out for a place at the kept moment, or the host is woken by the moment from which the hop may be asked for again
+-- the host is woken by the moment from which the hop of a place may be asked for again
+abbrev pub IsAskedAgain : HostView → Place → Type 0
+IsAskedAgain h place = (to : Addr) × (moment : Moment) × (address_of place ≡ Some to) × IsAskedFrom h to moment × IsWokenBy h moment
+
+-- or there is no such moment
+abbrev pub IsHeldAtTheEnd : HostView → Place → Type 0
+IsHeldAtTheEnd h place = (to : Addr) × (address_of place ≡ Some to) × IsPastAsking h to
+
+-- a frame can go out for a place at the kept moment, or its hop may be asked for again and the host is woken then, or the clock is at its end
 abbrev pub ComesUp : HostView → Place → Type 0
-ComesUp h place =
-    (can_go_out h h.sockets.kept place ≡ true) ⊎ ((to : Addr) × (moment : Moment) × (address_of place ≡ Some to) × IsAskedFrom h to moment × IsWokenBy h moment)
+ComesUp h place = (can_go_out h h.sockets.kept place ≡ true) ⊎ (IsAskedAgain h place ⊎ IsHeldAtTheEnd h place)
 
 -- it is due, and comes up
 abbrev pub IsDueSoon : HostView → Place → Type 0
@@ -59,10 +75,10 @@ abbrev pub ConnectionComesUp : HostView → Entry → View → Type 0
 ConnectionComesUp h e c = IsDueSoon h (EntryOf e) ⊎ ((moment : Moment) × (deadline c ≡ Some moment) × IsWokenBy h moment)
 
 -- Nothing waits that could be sent: no control reply; and no route leads to where a place's frame goes, the first datagram of a UDP socket, or what a
--- connection has to send.
+-- connection has to send, but for what is held at the end of the clock.
 pub record IsQuiet (h : HostView) : Type 0 where
   pub replies : h.interface.replies ≡ []
-  pub due : (place : Place) → Contains (places h) place → is_on_route h.interface.routes (address_of place) ≡ false
+  pub due : (place : Place) → Contains (places h) place → (is_on_route h.interface.routes (address_of place) ≡ false) ⊎ IsHeldAtTheEnd h place
   pub datagrams : (e : Entry) (bound : Option Endpoint) (socket : SocketView) (first : Outgoing) (others : List Outgoing) → Contains h.sockets.entries e → e.role ≡ Datagrams bound socket → socket.outbox ≡ first ∷ others
       → is_routed h.interface first.peer.addr ≡ false
-  pub connections : (e : Entry) (c : View) (listener : Option SocketId) → Contains h.sockets.entries e → e.role ≡ Connected c listener → IsTrue (is_routed h.interface c.peer.addr) → HasToSend c → ⊥
+  pub connections : (e : Entry) (c : View) (listener : Option SocketId) → Contains h.sockets.entries e → e.role ≡ Connected c listener → IsTrue (is_routed h.interface c.peer.addr) → HasToSend c → IsPastAsking h c.peer.addr
