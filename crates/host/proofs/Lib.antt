@@ -20,3 +20,4 @@ pub mod ComesUp
 pub mod Owed
 pub mod Late
 pub mod Hopless
+pub mod RunsDry

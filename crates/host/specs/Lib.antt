@@ -12,3 +12,4 @@ pub mod Causes
 pub mod Plans
 pub mod ComesUp
 pub mod Duties
+pub mod Dry

@@ -6,6 +6,7 @@ mod arrival;
 mod calls;
 mod config;
 mod datagrams;
+pub mod dry;
 pub mod duties;
 mod emission;
 mod host;

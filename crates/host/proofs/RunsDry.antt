@@ -1,0 +1,298 @@
+-- A host runs dry: each frame leaves fewer that may follow it.
+use Rattle.std.proofs.Common.{◌≡◌, ◌≢◌, ℕ, zero, suc, ◌+◌, ◌-◌, ◌*◌, ◌/◌, max, ◌<◌, ◌≤◌, Bool, true, false, cond, nat_lt, List, [], ◌∷◌, length, Option, Some, None, is_some, refl, sym, ◌∙◌, ap, subst, arith}
+use Rattle.std.specs.List.{find, position, slice_get, sum_by, AllByRecursion}
+use Rattle.std.proofs.lemmas.Bool.Decides.{nat_tests}
+use Rattle.std.proofs.lemmas.List.Sums.{sum_by-cons}
+use Rattle.ether.specs.declared.mac.Mac.{Mac}
+use Rattle.ipv4.specs.declared.addr.Addr.{Addr}
+use Rattle.ipv4.specs.declared.addr.Endpoint.{Endpoint}
+use Rattle.clock.specs.declared.moment.Moment.{Moment}
+use Rattle.arp.specs.declared.entry.Asked.{Asked}
+use Rattle.arp.specs.Cache.{Cache, after_ask, look, may_ask}
+use Rattle.udp.specs.Fragments.{count_of}
+use Rattle.udp_socket.specs.Emission.{after_part, fragment_of, due_peer as datagram_peer}
+use Rattle.udp_socket.specs.SocketView.{Outgoing, SocketView}
+use Rattle.tcp_state.specs.declared.emission.Due.{Due}
+use Rattle.tcp_state.specs.Due.{first_due, after_emitted}
+use Rattle.tcp_state.specs.Edges.{after_first}
+use Rattle.tcp_state.specs.View.{View, IsSound}
+use Rattle.tcp_state.specs.declared.connection.Fate.{Fate}
+use Rattle.interface.specs.declared.reply.Waiting.{Waiting}
+use Rattle.interface.specs.declared.way.Way.{Way}
+use Rattle.interface.specs.declared.way.Way.TheVariants.{To, Ask, Waits}
+use Rattle.interface.specs.InterfaceView.{InterfaceView}
+use Rattle.interface.specs.Emission.{asked, frames_left, left_by as reply_left, len_at, len_by, len_of_one, way_at, way_of_one, after_emission as after_reply}
+use Rattle.interface.specs.Replies.{is_due as is_reply_due, way_of}
+use Rattle.interface.specs.Routing.{next_hop}
+use Rattle.interface.specs.Ways.{knows_hop, mac_of, way, way_by_mac, way_over}
+use Rattle.interface.proofs.RunsOut.{fewer as frame_fewer, one_asked}
+use Rattle.interface.proofs.Waits.{first_goes}
+use Rattle.sockets.specs.declared.entry.Entry.{Entry}
+use Rattle.sockets.specs.declared.role.Role.{Role}
+use Rattle.sockets.specs.declared.role.Role.TheVariants.{Idle, Listener, Connected, Datagrams}
+use Rattle.sockets.specs.Entries.{due_peer, sends, is_kept, with_role, role_after_emission, emission_fate_of, entries_after_step}
+use Rattle.sockets.specs.Emission.{after_segment_sent}
+use Rattle.sockets.specs.Lists.{change_first, remove_first}
+use Rattle.sockets.specs.SocketsView.{SocketsView, later_moment}
+use Rattle.sockets.specs.Sound.{IsSoundRole}
+use Rattle.sockets.proofs.Emitting.{segment_sent-found}
+use Rattle.host.specs.Dry.{fragments_left, datagrams_left, most_of, most_at, most_frames, GivesOut, NoFrame, OneMore}
+use Rattle.host.specs.Emission.{Emission, Replies, Sends, Asks, Nothing, emission, emission_at, emission_by, emission_from, emission_to, goes_out_from, len_of, left_by, after_emission, emission_len, table_emission}
+use Rattle.host.specs.HostView.{HostView}
+use Rattle.host.specs.Sound.{IsSoundHost}
+
+-- Sums over a list of which the first that passes a test changes, or is taken out.
+
+change-less : {X : Type 0} (f : X → ℕ) (test : X → Bool) (change : X → X) (xs : List X) (x : X) → find test xs ≡ Some x → f (change x) < f x → sum_by f (change_first test change xs) < sum_by f xs
+change-less f test change [] x e less = absurd cc
+change-less {X} f test change (y ∷ ys) x e less = by_test (test y) (λ found. change-less f test change ys x found less) e
+  where
+    by_test : (b : Bool) → (find test ys ≡ Some x → sum_by f (change_first test change ys) < sum_by f ys) → cond b (Some y) (find test ys) ≡ Some x
+        → sum_by f (cond b (change y ∷ ys) (y ∷ change_first test change ys)) < sum_by f (y ∷ ys)
+    by_test true rest e =
+        let same : y ≡ x = cc in
+        let own : f (change y) < f y = subst (λ (z : X). f (change z) < f z) (sym same) less in
+        omega (arith, sum_by-cons f (change y) ys, sum_by-cons f y ys, own)
+    by_test false rest e = omega (arith, rest e, sum_by-cons f y (change_first test change ys), sum_by-cons f y ys)
+
+remove-less : {X : Type 0} (f : X → ℕ) (test : X → Bool) (xs : List X) (x : X) → find test xs ≡ Some x → 0 < f x → sum_by f (remove_first test xs) < sum_by f xs
+remove-less f test [] x e some = absurd cc
+remove-less {X} f test (y ∷ ys) x e some = by_test (test y) (λ found. remove-less f test ys x found some) e
+  where
+    by_test : (b : Bool) → (find test ys ≡ Some x → sum_by f (remove_first test ys) < sum_by f ys) → cond b (Some y) (find test ys) ≡ Some x
+        → sum_by f (cond b ys (y ∷ remove_first test ys)) < sum_by f (y ∷ ys)
+    by_test true rest e =
+        let same : y ≡ x = cc in
+        let own : 0 < f y = subst (λ (z : X). 0 < f z) (sym same) some in
+        omega (arith, sum_by-cons f y ys, own)
+    by_test false rest e = omega (arith, rest e, sum_by-cons f y (remove_first test ys), sum_by-cons f y ys)
+
+step-less : (f : Role → ℕ) (test : Entry → Bool) (fate : Fate) (change : Role → Role) (xs : List Entry) (e : Entry) → find test xs ≡ Some e → f (change e.role) < f e.role
+    → sum_by (λ (x : Entry). f x.role) (entries_after_step fate test change xs) < sum_by (λ (x : Entry). f x.role) xs
+step-less f test fate change xs e found less = by_fate (is_kept fate)
+  where
+    by_fate : (b : Bool) → sum_by (λ (x : Entry). f x.role) (cond b (change_first test (with_role change) xs) (remove_first test xs)) < sum_by (λ (x : Entry). f x.role) xs
+    by_fate true = change-less (λ (x : Entry). f x.role) test (with_role change) xs e found less
+    by_fate false = remove-less (λ (x : Entry). f x.role) test xs e found (omega (arith, less))
+
+sum-same : {X : Type 0} (f g : X → ℕ) → ((x : X) → f x ≡ g x) → (xs : List X) → sum_by f xs ≡ sum_by g xs
+sum-same f g same [] = refl
+sum-same f g same (x ∷ xs) = omega (arith, sum_by-cons f x xs, sum_by-cons g x xs, same x, sum-same f g same xs)
+
+all-found : {X : Type 0} (P : X → Type 0) (test : X → Bool) (xs : List X) (x : X) → AllByRecursion P xs → find test xs ≡ Some x → P x
+all-found P test [] x all e = absurd cc
+all-found {X} P test (y ∷ ys) x all e = by_test (test y) (λ found. all-found P test ys x all.1 found) e
+  where
+    by_test : (b : Bool) → (find test ys ≡ Some x → P x) → cond b (Some y) (find test ys) ≡ Some x → P x
+    by_test true rest e = subst P (let same : y ≡ x = cc in same) all.0
+    by_test false rest e = rest e
+
+-- A datagram of which one fragment more has gone out, or the last.
+
+more-left : (len parts : ℕ) → nat_lt (1480 * (parts + 1)) len ≡ true → max 1 (count_of len - (parts + 1)) < max 1 (count_of len - parts)
+more-left len parts more =
+    let less : 1480 * (parts + 1) < len = grind (arith, nat_tests, more) in
+    let count : parts + 2 ≤ (len + 1479) / 1480 = omega (arith, less) in
+    grind (arith, nat_tests, count)
+
+datagram-less : (known : Addr → Bool) (o : Outgoing) (rest : List Outgoing) (s : SocketView) → s.outbox ≡ o ∷ rest → known o.peer.addr ≡ true
+    → datagrams_left known (let t = after_part s in t.parts) (let t = after_part s in t.outbox) < datagrams_left known s.parts s.outbox
+datagram-less known o rest s is knows = by_test (nat_lt (1480 * (s.parts + 1)) (8 + length o.octets)) refl
+  where
+    Falls : SocketView → Type 0
+    Falls t = datagrams_left known t.parts t.outbox < datagrams_left known s.parts (o ∷ rest)
+
+    here : (parts : ℕ) → datagrams_left known parts (o ∷ rest) ≡ fragments_left parts o + datagrams_left known 0 rest
+    here parts = ap (λ (b : Bool). cond b (fragments_left parts o) 0 + datagrams_left known 0 rest) knows
+
+    after : (b : Bool) → nat_lt (1480 * (s.parts + 1)) (8 + length o.octets) ≡ b → Falls (cond b (record s { parts = s.parts + 1; outbox = o ∷ rest }) (record s { outbox = rest; parts = 0 }))
+    after true more = omega (arith, here s.parts, here (s.parts + 1), more-left (8 + length o.octets) s.parts more)
+    after false last = let one : 0 < fragments_left s.parts o = grind (arith, nat_tests) in omega (arith, here s.parts, one)
+
+    by_test : (b : Bool) → nat_lt (1480 * (s.parts + 1)) (8 + length o.octets) ≡ b → datagrams_left known (let t = after_part s in t.parts) (let t = after_part s in t.outbox) < datagrams_left known s.parts s.outbox
+    by_test b e =
+        let then : after_part s ≡ cond b (record s { parts = s.parts + 1; outbox = o ∷ rest }) (record s { outbox = rest; parts = 0 }) =
+        ap (λ (out : List Outgoing). after_part (record s { outbox = out })) is ∙ ap (λ (c : Bool). cond c (record s { parts = s.parts + 1; outbox = o ∷ rest }) (record s { outbox = rest; parts = 0 })) e in
+        let falls : Falls (after_part s) = subst Falls (sym then) (after b e) in
+        subst (λ (out : List Outgoing). datagrams_left known (let t = after_part s in t.parts) (let t = after_part s in t.outbox) < datagrams_left known s.parts out) (sym is) falls
+
+-- An entry of which something has gone out.
+
+-- of a connection each segment leaves fewer
+abbrev pub EachFalls : (View → ℕ) → Type 0
+EachFalls segments = (v : View) (due : Due) (now : Moment) → IsSound v → first_due v ≡ Some due → segments (after_emitted v due now) < segments v
+
+role-less : (segments : View → ℕ) → EachFalls segments → (known : Addr → Bool) (now : Moment) (role : Role) (peer : Endpoint) → IsSoundRole role → due_peer role ≡ Some peer → known peer.addr ≡ true
+    → most_of segments known (role_after_emission now role) < most_of segments known role
+role-less segments falls known now (Idle buffers bound) peer sound is knows = cc
+role-less segments falls known now (Listener local backlog) peer sound is knows = cc
+role-less segments falls known now (Connected c l) peer sound is knows = by_due (first_due c) refl is
+  where
+    by_due : (o : Option Due) → first_due c ≡ o → cond (is_some o) (Some c.peer) None ≡ Some peer → segments (after_first c (first_due c) now) < segments c
+    by_due None first e = cc
+    by_due (Some due) first e = subst (λ (o : Option Due). segments (after_first c o now) < segments c) (sym first) (falls c due now sound.sound first)
+role-less segments falls known now (Datagrams bound socket) peer sound is knows = by_outbox socket.outbox refl is
+  where
+    by_outbox : (out : List Outgoing) → socket.outbox ≡ out → datagram_peer out ≡ Some peer → datagrams_left known (let t = after_part socket in t.parts) (let t = after_part socket in t.outbox) < datagrams_left known socket.parts socket.outbox
+    by_outbox [] at e = cc
+    by_outbox (o ∷ rest) at e =
+        let same : o.peer ≡ peer = cc in
+        datagram-less known o rest socket at (ap (λ (x : Endpoint). known x.addr) same ∙ knows)
+
+-- What a known hop has to do with it.
+
+datagrams-same : (p q : Addr → Bool) → ((to : Addr) → p to ≡ q to) → (parts : ℕ) (os : List Outgoing) → datagrams_left p parts os ≡ datagrams_left q parts os
+datagrams-same p q same parts [] = refl
+datagrams-same p q same parts (o ∷ rest) =
+    ap (λ (b : Bool). cond b (fragments_left parts o) 0 + datagrams_left p 0 rest) (same o.peer.addr) ∙ ap (λ (n : ℕ). cond (q o.peer.addr) (fragments_left parts o) 0 + n) (datagrams-same p q same 0 rest)
+
+role-same : (segments : View → ℕ) (p q : Addr → Bool) → ((to : Addr) → p to ≡ q to) → (role : Role) → most_of segments p role ≡ most_of segments q role
+role-same segments p q same (Idle buffers bound) = refl
+role-same segments p q same (Listener local backlog) = refl
+role-same segments p q same (Connected c l) = refl
+role-same segments p q same (Datagrams bound socket) = datagrams-same p q same socket.parts socket.outbox
+
+entries-same : (segments : View → ℕ) (p q : Addr → Bool) → ((to : Addr) → p to ≡ q to) → (entries : List Entry)
+    → sum_by (λ (e : Entry). most_of segments p e.role) entries ≡ sum_by (λ (e : Entry). most_of segments q e.role) entries
+entries-same segments p q same entries = sum-same (λ (e : Entry). most_of segments p e.role) (λ (e : Entry). most_of segments q e.role) (λ e. role-same segments p q same e.role) entries
+
+-- the pairs of the table say which hop is known
+known-by : (now : Moment) (cache : Cache) (notes : List Asked) (hop : Option Addr) → is_some (mac_of now (record cache { asked = notes }) hop) ≡ is_some (mac_of now cache hop)
+known-by now cache notes None = refl
+known-by now cache notes (Some hop) = refl
+
+known-left : (i : InterfaceView) (now : Moment) (place : ℕ) (w : Way) (to : Addr) → knows_hop (reply_left i now place w) now to ≡ knows_hop i now to
+known-left i now place (To mac) to = refl
+known-left i now place (Ask hop) to = known-by now i.cache (let c = after_ask now hop i.cache in c.asked) (next_hop i.routes to)
+known-left i now place Waits to = refl
+
+known-to : (i : InterfaceView) (now : Moment) (to : Addr) (mac : Mac) → way i now to ≡ To mac → knows_hop i now to ≡ true
+known-to i now to mac goes = by_hop (next_hop i.routes to) goes
+  where
+    by_mac : (hop : Addr) (o : Option Mac) → way_by_mac now i.cache.asked hop o ≡ To mac → is_some o ≡ true
+    by_mac hop (Some m) e = refl
+    by_mac hop None e = by_test (may_ask now hop i.cache.asked) e
+      where
+        by_test : (b : Bool) → cond b (Ask hop) Waits ≡ To mac → false ≡ true
+        by_test true is = absurd cc
+        by_test false is = absurd cc
+
+    by_hop : (o : Option Addr) → way_over now i.cache o ≡ To mac → is_some (mac_of now i.cache o) ≡ true
+    by_hop None e = absurd cc
+    by_hop (Some hop) e = by_mac hop (look now hop i.cache) e
+
+-- The first reply for which a frame can go out doesn't wait.
+
+reply-goes : (i : InterfaceView) (now : Moment) (place : ℕ) → position (is_reply_due i now) i.replies ≡ Some place → way_at i now place ≢ Waits
+reply-goes i now place at waits =
+    let long : 60 ≤ len_at i now place = (first_goes i now place at).1 in
+    let short : len_at i now place ≡ 0 = by_one (slice_get i.replies place) waits in
+    omega (arith, long, short)
+  where
+    by_one : (o : Option Waiting) → way_of_one i now o ≡ Waits → len_of_one i now o ≡ 0
+    by_one None e = refl
+    by_one (Some w) e = ap (len_by w.reply) e
+
+-- What goes out, and what is left.
+
+abbrev entry_frames : (View → ℕ) → InterfaceView → Moment → List Entry → ℕ
+entry_frames segments i moment entries = sum_by (λ (e : Entry). most_of segments (knows_hop i moment) e.role) entries
+
+left-less : (segments : View → ℕ) → EachFalls segments → (h : HostView) (moment : Moment) (len : ℕ) → IsSoundHost h → len_of h moment (emission h moment) ≡ Some len
+    → most_at segments (left_by h moment (emission h moment)) moment < most_at segments h moment
+left-less segments falls h moment len sound goes = by_reply (position (is_reply_due h.interface moment) h.interface.replies) refl
+  where
+    Less : Emission → Type 0
+    Less what = most_at segments (left_by h moment what) moment < most_at segments h moment
+
+    reply : (place : ℕ) → position (is_reply_due h.interface moment) h.interface.replies ≡ Some place → Less (Replies place)
+    reply place at =
+        let i : InterfaceView = h.interface in
+        let left : InterfaceView = after_reply i moment place in
+        let one : frames_left left moment + 1 ≡ frames_left i moment = frame_fewer i moment place (reply-goes i moment place at) in
+        let same : entry_frames segments left moment h.sockets.entries ≡ entry_frames segments i moment h.sockets.entries =
+        entries-same segments (knows_hop left moment) (knows_hop i moment) (known-left i moment place (way_at i moment place)) h.sockets.entries in
+        omega (arith, one, same)
+
+    request : (to hop : Addr) → way h.interface moment to ≡ Ask hop → Less (Asks hop)
+    request to hop goes =
+        let i : InterfaceView = h.interface in
+        let left : InterfaceView = asked i moment hop in
+        let one = one_asked i moment to hop goes in
+        let same : entry_frames segments left moment h.sockets.entries ≡ entry_frames segments i moment h.sockets.entries =
+        entries-same segments (knows_hop left moment) (knows_hop i moment) (λ to. known-by moment i.cache (let c = after_ask moment hop i.cache in c.asked) (next_hop i.routes to)) h.sockets.entries in
+        omega (arith, one.0, one.1, same)
+
+    sent : (e : Entry) (peer : Endpoint) (mac : Mac) → find (sends (goes_out_from h moment)) h.sockets.entries ≡ Some e → due_peer e.role ≡ Some peer → way h.interface moment peer.addr ≡ To mac
+        → Less (Sends mac peer.addr)
+    sent e peer mac found is goes =
+        let then : Moment = later_moment h.sockets moment in
+        let known : Addr → Bool = knows_hop h.interface moment in
+        let solid : IsSoundRole e.role = all-found (λ (x : Entry). IsSoundRole x.role) (sends (goes_out_from h moment)) h.sockets.entries e sound.table.entries found in
+        let own : most_of segments known (role_after_emission then e.role) < most_of segments known e.role = role-less segments falls known then e.role peer solid is (known-to h.interface moment peer.addr mac goes) in
+        let entries : sum_by (λ (x : Entry). most_of segments known x.role) (entries_after_step (emission_fate_of (role_after_emission then e.role)) (sends (goes_out_from h moment)) (role_after_emission then) h.sockets.entries)
+        < sum_by (λ (x : Entry). most_of segments known x.role) h.sockets.entries =
+        step-less (most_of segments known) (sends (goes_out_from h moment)) (emission_fate_of (role_after_emission then e.role)) (role_after_emission then) h.sockets.entries e found own in
+        let left : (let t = after_segment_sent h.sockets (goes_out_from h moment) moment in t.entries)
+        ≡ entries_after_step (emission_fate_of (role_after_emission then e.role)) (sends (goes_out_from h moment)) (role_after_emission then) h.sockets.entries =
+        ap (λ (t : SocketsView). t.entries) (segment_sent-found h.sockets (goes_out_from h moment) moment e found) in
+        let all : sum_by (λ (x : Entry). most_of segments known x.role) (let t = after_segment_sent h.sockets (goes_out_from h moment) moment in t.entries)
+        < sum_by (λ (x : Entry). most_of segments known x.role) h.sockets.entries =
+        subst (λ (xs : List Entry). sum_by (λ (x : Entry). most_of segments known x.role) xs < sum_by (λ (x : Entry). most_of segments known x.role) h.sockets.entries) (sym left) entries in
+        omega (arith, all)
+
+    by_what : (what : Emission) → emission h moment ≡ what → (len_of h moment what ≡ Some len → Less what) → Less (emission h moment)
+    by_what what is less = subst Less (sym is) (less (ap (len_of h moment) (sym is) ∙ goes))
+
+    by_way : (e : Entry) (peer : Endpoint) (w : Way) → find (sends (goes_out_from h moment)) h.sockets.entries ≡ Some e → due_peer e.role ≡ Some peer → way h.interface moment peer.addr ≡ w
+        → emission h moment ≡ emission_by peer.addr w → Less (emission h moment)
+    by_way e peer (To mac) found is goes so = by_what (Sends mac peer.addr) so (λ len. sent e peer mac found is goes)
+    by_way e peer (Ask hop) found is goes so = by_what (Asks hop) so (λ len. request peer.addr hop goes)
+    by_way e peer Waits found is goes so = by_what Nothing so (λ len. absurd cc)
+
+    by_peer : (e : Entry) (o : Option Endpoint) → find (sends (goes_out_from h moment)) h.sockets.entries ≡ Some e → due_peer e.role ≡ o → emission h moment ≡ emission_to h moment o → Less (emission h moment)
+    by_peer e None found is so = by_what Nothing so (λ len. absurd cc)
+    by_peer e (Some peer) found is so = by_way e peer (way h.interface moment peer.addr) found is refl so
+
+    by_entry : (o : Option Entry) → find (sends (goes_out_from h moment)) h.sockets.entries ≡ o → emission h moment ≡ emission_from h moment o → Less (emission h moment)
+    by_entry None found so = by_what Nothing so (λ len. absurd cc)
+    by_entry (Some e) found so = by_peer e (due_peer e.role) found refl so
+
+    by_reply : (o : Option ℕ) → position (is_reply_due h.interface moment) h.interface.replies ≡ o → Less (emission h moment)
+    by_reply (Some place) at = by_what (Replies place) (ap (emission_at h moment) at) (λ len. reply place at)
+    by_reply None at =
+        by_entry (find (sends (goes_out_from h moment)) h.sockets.entries) refl (ap (emission_at h moment) at)
+
+-- the kept moment stays
+
+kept-sent : (s : SocketsView) (goes : Entry → Bool) (now : Moment) → (let t = after_segment_sent s goes now in t.kept) ≡ s.kept
+kept-sent s goes now = by_entry (find (sends goes) s.entries) refl
+  where
+    by_entry : (o : Option Entry) → find (sends goes) s.entries ≡ o → (let t = after_segment_sent s goes now in t.kept) ≡ s.kept
+    by_entry None found = rw found refl
+    by_entry (Some e) found = ap (λ (t : SocketsView). t.kept) (segment_sent-found s goes now e found)
+
+kept-left : (h : HostView) (moment : Moment) (what : Emission) → (let g = left_by h moment what in g.sockets.kept) ≡ h.sockets.kept
+kept-left h moment (Replies place) = refl
+kept-left h moment (Sends mac to) = kept-sent h.sockets (goes_out_from h moment) moment
+kept-left h moment (Asks hop) = refl
+kept-left h moment Nothing = refl
+
+moment-left : (h : HostView) (now : Moment) → (let g = after_emission h now in later_moment g.sockets now) ≡ later_moment h.sockets now
+moment-left h now = ap (λ (k : Moment). cond (nat_lt k.0 now.0) now k) (let moment = later_moment h.sockets now in kept-left h moment (emission h moment))
+
+pub fewer : (segments : View → ℕ) → EachFalls segments → (h : HostView) (now : Moment) (len : ℕ) → IsSoundHost h → emission_len h now ≡ Some len → most_frames segments (after_emission h now) now < most_frames segments h now
+fewer segments falls h now len sound goes =
+    subst (λ (m : Moment). most_at segments (after_emission h now) m < most_frames segments h now) (sym (moment-left h now)) (left-less segments falls h (later_moment h.sockets now) len sound goes)
+
+pub most : (segments : View → ℕ) → EachFalls segments → (now : Moment) (frames : ℕ) (first last : HostView) → GivesOut now frames first last → frames + most_frames segments last now ≤ most_frames segments first now
+most segments falls now frames first last (NoFrame h) = omega arith
+most segments falls now frames first last (OneMore n len f h before sound goes) =
+    omega (arith, most segments falls now n f h before, fewer segments falls h now len sound goes)
+
+pub dry : (segments : View → ℕ) → EachFalls segments → (h : HostView) (now : Moment) → IsSoundHost h → most_frames segments h now ≡ 0 → emission_len h now ≡ None
+dry segments falls h now sound none = by_len (emission_len h now) refl
+  where
+    by_len : (o : Option ℕ) → emission_len h now ≡ o → o ≡ None
+    by_len None is = refl
+    by_len (Some len) is = absurd (omega (arith, fewer segments falls h now len sound is, none))
