@@ -161,14 +161,18 @@ asked-from h now to hop few leads not_now = by_last (later (room_last asked) (ow
     ahead last request is within noted same =
         let there : following (later (room_last asked) (own_last hop asked)) ≡ Some (next last) = ap following is ∙ ap (λ (b : Bool). cond b (Some (next last)) None) within in
         let number : (let m = last_of request in m.0 ≡ last.0) = ap (λ (m : Moment). m.0) same in
-        inl (next last, there, record {
-          hop = hop;
-          leads = leads;
-          from = subst (IsNextAsk hop asked) there (next-from hop asked few);
-          request = request;
-          noted = noted;
-          soon = soon request last.0 number within;
-        })
+        inl (
+          next last,
+          there,
+          record {
+            hop = hop;
+            leads = leads;
+            from = subst (IsNextAsk hop asked) there (next-from hop asked few);
+            request = request;
+            noted = noted;
+            soon = soon request last.0 number within;
+          },
+        )
 
     past : (last : Moment) (request : Asked) → later (room_last asked) (own_last hop asked) ≡ Some last → nat_lt last.0 (2 ^ 64 - 1) ≡ false → Contains asked request → last_of request ≡ last → Answered
     past last request is end noted same =

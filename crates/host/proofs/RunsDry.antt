@@ -1,5 +1,5 @@
 -- A host runs dry: each frame leaves fewer that may follow it.
-use Rattle.std.proofs.Common.{◌≡◌, ◌≢◌, ℕ, zero, suc, ◌+◌, ◌-◌, ◌*◌, ◌/◌, max, ◌<◌, ◌≤◌, Bool, true, false, cond, nat_lt, List, [], ◌∷◌, length, Option, Some, None, is_some, refl, sym, ◌∙◌, ap, subst, arith}
+use Rattle.std.proofs.Common.{◌≡◌, ◌≢◌, ℕ, ◌+◌, ◌-◌, ◌*◌, ◌/◌, max, ◌<◌, ◌≤◌, Bool, true, false, cond, nat_lt, List, [], ◌∷◌, length, Option, Some, None, is_some, refl, sym, ◌∙◌, ap, subst, arith}
 use Rattle.std.specs.List.{find, position, slice_get, sum_by, AllByRecursion}
 use Rattle.std.proofs.lemmas.Bool.Decides.{nat_tests}
 use Rattle.std.proofs.lemmas.List.Sums.{sum_by-cons}
@@ -10,7 +10,7 @@ use Rattle.clock.specs.declared.moment.Moment.{Moment}
 use Rattle.arp.specs.declared.entry.Asked.{Asked}
 use Rattle.arp.specs.Cache.{Cache, after_ask, look, may_ask}
 use Rattle.udp.specs.Fragments.{count_of}
-use Rattle.udp_socket.specs.Emission.{after_part, fragment_of, due_peer as datagram_peer}
+use Rattle.udp_socket.specs.Emission.{after_part, due_peer as datagram_peer}
 use Rattle.udp_socket.specs.SocketView.{Outgoing, SocketView}
 use Rattle.tcp_state.specs.declared.emission.Due.{Due}
 use Rattle.tcp_state.specs.Due.{first_due, after_emitted}
@@ -22,7 +22,7 @@ use Rattle.interface.specs.declared.way.Way.{Way}
 use Rattle.interface.specs.declared.way.Way.TheVariants.{To, Ask, Waits}
 use Rattle.interface.specs.InterfaceView.{InterfaceView}
 use Rattle.interface.specs.Emission.{asked, frames_left, left_by as reply_left, len_at, len_by, len_of_one, way_at, way_of_one, after_emission as after_reply}
-use Rattle.interface.specs.Replies.{is_due as is_reply_due, way_of}
+use Rattle.interface.specs.Replies.{is_due as is_reply_due}
 use Rattle.interface.specs.Routing.{next_hop}
 use Rattle.interface.specs.Ways.{knows_hop, mac_of, way, way_by_mac, way_over}
 use Rattle.interface.proofs.RunsOut.{fewer as frame_fewer, one_asked}
@@ -37,7 +37,7 @@ use Rattle.sockets.specs.SocketsView.{SocketsView, later_moment}
 use Rattle.sockets.specs.Sound.{IsSoundRole}
 use Rattle.sockets.proofs.Emitting.{segment_sent-found}
 use Rattle.host.specs.Dry.{fragments_left, datagrams_left, most_of, most_at, most_frames, GivesOut, NoFrame, OneMore}
-use Rattle.host.specs.Emission.{Emission, Replies, Sends, Asks, Nothing, emission, emission_at, emission_by, emission_from, emission_to, goes_out_from, len_of, left_by, after_emission, emission_len, table_emission}
+use Rattle.host.specs.Emission.{Emission, Replies, Sends, Asks, Nothing, emission, emission_at, emission_by, emission_from, emission_to, goes_out_from, len_of, left_by, after_emission, emission_len}
 use Rattle.host.specs.HostView.{HostView}
 use Rattle.host.specs.Sound.{IsSoundHost}
 
