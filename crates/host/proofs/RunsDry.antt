@@ -290,9 +290,12 @@ most segments falls now frames first last (NoFrame h) = omega arith
 most segments falls now frames first last (OneMore n len f h before sound goes) =
     omega (arith, most segments falls now n f h before, fewer segments falls h now len sound goes)
 
-pub dry : (segments : View → ℕ) → EachFalls segments → (h : HostView) (now : Moment) → IsSoundHost h → most_frames segments h now ≡ 0 → emission_len h now ≡ None
+dry : (segments : View → ℕ) → EachFalls segments → (h : HostView) (now : Moment) → IsSoundHost h → most_frames segments h now ≡ 0 → emission_len h now ≡ None
 dry segments falls h now sound none = by_len (emission_len h now) refl
   where
     by_len : (o : Option ℕ) → emission_len h now ≡ o → o ≡ None
     by_len None is = refl
     by_len (Some len) is = absurd (omega (arith, fewer segments falls h now len sound is, none))
+
+pub none-left : (segments : View → ℕ) → EachFalls segments → (now : Moment) (frames : ℕ) (first last : HostView) → GivesOut now frames first last → IsSoundHost last → most_frames segments first now ≤ frames → emission_len last now ≡ None
+none-left segments falls now frames first last gives sound all = dry segments falls last now sound (omega (arith, most segments falls now frames first last gives, all))

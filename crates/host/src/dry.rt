@@ -10,14 +10,15 @@ ghost use Rattle.host.specs.Emission.{after_emission, emission_len};
 ghost use Rattle.host.specs.HostView.{HostView};
 ghost use Rattle.host.specs.Sound.{IsSoundHost};
 
-/// A host runs dry: at any moment of the clock, its last one too, so many frames go out of it one after the other, where nothing else happens to it, and no more. They are as many at most as control
-/// replies wait, as requests may still be sent, 64 less those that were sent within the second or now, as a datagram that can go out has fragments left, and as a connection has segments left. So who asks
-/// for frames until none goes out comes to an end. Every host is sound, as `Host::sound` says.
+/// A host runs dry: at any moment of the clock, its last one too, so many frames go out of it one after the other, where nothing else happens to it, and no more: each leaves fewer, and once as many have gone
+/// out none does. They are as many at most as control replies wait, as requests may still be sent, 64 less those of the second before and of the moment itself, as datagrams that can go out have fragments
+/// left, and as connections have numbers left that may go out, and what they owe beside (`tcp_state::telling::what_goes_out_runs_dry`). So who asks for frames until none goes out comes to an end. Each host is
+/// found sound, as every host is by `Host::sound`.
 pub fn a_host_runs_dry()
     ensures fewer { (segments : View → ℕ) → ((v : View) (due : Due) (now : Moment) → IsSound v → first_due v ≡ Some due → segments (after_emitted v due now) < segments v)
         → (h : HostView) (now : Moment) (len : ℕ) → IsSoundHost h → emission_len h now ≡ Some len → most_frames segments (after_emission h now) now < most_frames segments h now }
     ensures most { (segments : View → ℕ) → ((v : View) (due : Due) (now : Moment) → IsSound v → first_due v ≡ Some due → segments (after_emitted v due now) < segments v)
         → (now : Moment) (frames : ℕ) (first last : HostView) → GivesOut now frames first last → frames + most_frames segments last now ≤ most_frames segments first now }
-    ensures dry { (segments : View → ℕ) → ((v : View) (due : Due) (now : Moment) → IsSound v → first_due v ≡ Some due → segments (after_emitted v due now) < segments v)
-        → (h : HostView) (now : Moment) → IsSoundHost h → most_frames segments h now ≡ 0 → emission_len h now ≡ None }
+    ensures none { (segments : View → ℕ) → ((v : View) (due : Due) (now : Moment) → IsSound v → first_due v ≡ Some due → segments (after_emitted v due now) < segments v)
+        → (now : Moment) (frames : ℕ) (first last : HostView) → GivesOut now frames first last → IsSoundHost last → most_frames segments first now ≤ frames → emission_len last now ≡ None }
 {}

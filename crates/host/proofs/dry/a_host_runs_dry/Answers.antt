@@ -1,4 +1,4 @@
-use Rattle.host.proofs.RunsDry.{fewer, most, dry}
+use Rattle.host.proofs.RunsDry.{fewer, most, none-left}
 use Rattle.host.proofs.dry.a_host_runs_dry.Goals as goal
 
 pub returns-clause-fewer : goal.returns-clause-fewer
@@ -7,5 +7,5 @@ returns-clause-fewer c = fewer
 pub returns-clause-most : goal.returns-clause-most
 returns-clause-most c = most
 
-pub returns-clause-dry : goal.returns-clause-dry
-returns-clause-dry c = dry
+pub returns-clause-none : goal.returns-clause-none
+returns-clause-none c = none-left
