@@ -63,22 +63,6 @@ in-mapped {X} {Y} f (y ∷ ys) x at = by_place (in-mapped f ys x) at.0 at.1 at.2
     by_place further zero within is = (0, omega arith, ap f is)
     by_place further (suc k) within is = behind (f y) (map f ys) (f x) (further (k, omega (arith, within), is))
 
--- what a filter lets through
-pub filtered-in : {X : Type 0} (p : X → Bool) (xs : List X) (x : X) → Contains (filter p xs) x → Contains xs x × (p x ≡ true)
-filtered-in p [] x at = absurd (omega (arith, at.1))
-filtered-in {X} p (y ∷ ys) x at = by_test (p y) refl (filtered-in p ys x) at
-  where
-    further : (Contains (filter p ys) x → Contains ys x × (p x ≡ true)) → Contains (filter p ys) x → Contains (y ∷ ys) x × (p x ≡ true)
-    further rest at = let found = rest at in (behind y ys x found.0, found.1)
-
-    here : p y ≡ true → (Contains (filter p ys) x → Contains ys x × (p x ≡ true)) → (k : ℕ) → k < length (y ∷ filter p ys) → slice_index_or (y ∷ filter p ys) k x ≡ x → Contains (y ∷ ys) x × (p x ≡ true)
-    here passes rest zero within is = ((0, omega arith, is), subst (λ (z : X). p z ≡ true) is passes)
-    here passes rest (suc k) within is = further rest (k, omega (arith, within), is)
-
-    by_test : (b : Bool) → p y ≡ b → (Contains (filter p ys) x → Contains ys x × (p x ≡ true)) → Contains (cond b (y ∷ filter p ys) (filter p ys)) x → Contains (y ∷ ys) x × (p x ≡ true)
-    by_test true e rest at = here e rest at.0 at.1 at.2
-    by_test false e rest at = further rest at
-
 -- From when on a hop may be asked for.
 
 -- this is the last moment of one of the requests

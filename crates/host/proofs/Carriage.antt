@@ -1,5 +1,5 @@
 -- What goes out carries the segment that is meant, or none.
-use Rattle.std.proofs.Common.{◌≡◌, ◌≢◌, ℕ, zero, suc, ◌+◌, ◌*◌, ◌≤◌, Bool, true, false, cond, List, [], ◌∷◌, length, Option, Some, None, is_some, option_map, option_and_then, Result, Ok, refl, sym, ◌∙◌, ap, subst, arith}
+use Rattle.std.proofs.Common.{◌≡◌, ◌≢◌, ℕ, zero, suc, ◌+◌, ◌*◌, ◌≤◌, Bool, true, false, cond, List, [], ◌∷◌, length, Option, Some, None, option_map, option_and_then, Result, Ok, refl, sym, ◌∙◌, ap, subst, arith}
 use Rattle.std.specs.List.{find, position, slice_get, AllByRecursion}
 use Rattle.ether.specs.declared.mac.Mac.{Mac}
 use Rattle.ipv4.specs.declared.addr.Addr.{Addr}
@@ -38,20 +38,25 @@ use Rattle.sockets.specs.declared.role.Role.{Role}
 use Rattle.sockets.specs.declared.role.Role.TheVariants.{Idle, Listener, Connected, Datagrams}
 use Rattle.sockets.specs.declared.emission.Emitted.{Emitted}
 use Rattle.sockets.specs.declared.emission.Emitted.TheVariants as what
-use Rattle.sockets.specs.Entries.{due_emitted, due_octets, due_peer, sends}
-use Rattle.sockets.specs.Emission.{emitted, emitted_octets}
+use Rattle.sockets.specs.declared.emission.Outgoing.{Outgoing}
+use Rattle.sockets.specs.declared.emission.Outgoing.TheVariants as outgoing
+use Rattle.sockets.specs.Entries.{HasOutgoing, due_emitted, due_octets, due_to, sends, with_first}
+use Rattle.sockets.specs.Emission.{emitted_octets}
 use Rattle.sockets.specs.Order.{IsOrdered, LiesAt}
 use Rattle.sockets.specs.Sound.{IsSoundConnection, IsSoundRole}
-use Rattle.sockets.specs.SocketsView.{SocketsView, later_moment}
+use Rattle.sockets.specs.SocketsView.{later_moment}
+use Rattle.sockets.proofs.Emitting.{due_outgoing, emitted-found, emitted_octets-found, first_segment, found_due}
 use Rattle.udp.specs.declared.cutting.Part.{Part}
-use Rattle.udp_socket.specs.Emission.{due_part, due_peer as datagram_peer, fragment_of}
-use Rattle.udp_socket.specs.SocketView.{Outgoing, SocketView}
+use Rattle.udp_socket.specs.Emission.{due_part}
+use Rattle.udp_socket.specs.SocketView.{SocketView}
 use Rattle.host.specs.Arrival.{IsDelivered, MeetsHeard, MeetsSegment, segment_arrival}
 use Rattle.host.specs.Carried.{Carried, carried, carried_by, carried_for, carried_reply, due_segment}
-use Rattle.host.specs.Emission.{Emission, Replies, Sends, Asks, Nothing, emission, emission_at, emission_by, emission_from, emission_octets, emission_to, emitted_frame, goes_out_from, octets_of}
+use Rattle.host.specs.Emission.{Emission, Replies, Sends, Asks, Nothing, emission, emission_at, emission_by, emission_octets, emitted_frame, goes_out_from, octets_of, table_emission}
 use Rattle.host.specs.HostView.{HostView}
 use Rattle.host.specs.Sound.{IsSoundHost}
 use Rattle.host.proofs.DueSegments.{due-can, due-fits}
+use Rattle.host.proofs.Emitting.{none_from, table_from}
+use Rattle.host.proofs.FirstPlace.{part-waits}
 use Rattle.host.proofs.Hearing.{CanGo, echo-can, echo-frame, error-can, error-frame, heard-nothing, heard-reply, heard-request, heard-segment, pair-message, pair-nothing, pair-part, pair-reply, pair-request, pair-segment, segment-message, segment-part, way-mac}
 
 -- octets in which nobody hears a segment
@@ -155,56 +160,42 @@ replies-go h moment place sound = by_place (slice_get h.interface.replies place)
 
 -- What an entry has due.
 
--- the entry for which a frame goes out
+-- the entry for which a frame goes out, and what it has due
 record Sending (h : HostView) (moment : Moment) (mac : Mac) (to : Addr) : Type 0 where
   pub e : Entry
-  pub peer : Endpoint
+  pub due : Endpoint × Outgoing
   pub found : find (sends (goes_out_from h moment)) h.sockets.entries ≡ Some e
-  pub due : due_peer e.role ≡ Some peer
-  pub is_to : to ≡ peer.addr
+  pub is : due_to (goes_out_from h moment) e.role ≡ Some due
+  pub is_to : to ≡ due.0.addr
   pub leads : way h.interface moment to ≡ To mac
 
 sending : (h : HostView) (moment : Moment) (mac : Mac) (to : Addr) → emission h moment ≡ Sends mac to → Sending h moment mac to
 sending h moment mac to = by_place (position (is_due h.interface moment) h.interface.replies)
   where
-    test : Entry → Bool
-    test = sends (goes_out_from h moment)
+    goes : Addr → Bool
+    goes = goes_out_from h moment
 
-    by_way : (e : Entry) (peer : Endpoint) → find test h.sockets.entries ≡ Some e → due_peer e.role ≡ Some peer → (w : Way) → way h.interface moment peer.addr ≡ w
-        → emission_by peer.addr w ≡ Sends mac to → Sending h moment mac to
-    by_way e peer found due (To theirs) is same =
+    by_way : (e : Entry) (due : Endpoint × Outgoing) → find (sends goes) h.sockets.entries ≡ Some e → due_to goes e.role ≡ Some due → (w : Way) → way h.interface moment due.0.addr ≡ w
+        → emission_by due.0.addr w ≡ Sends mac to → Sending h moment mac to
+    by_way e due found its (To theirs) leads same =
         let macs : theirs ≡ mac = cc in
-        let tos : peer.addr ≡ to = cc in
-        record { e = e; peer = peer; found = found; due = due; is_to = sym tos; leads = ap (way h.interface moment) (sym tos) ∙ (is ∙ ap To macs) }
-    by_way e peer found due (Ask hop) is same = cc
-    by_way e peer found due Waits is same = cc
+        let tos : due.0.addr ≡ to = cc in
+        record { e = e; due = due; found = found; is = its; is_to = sym tos; leads = ap (way h.interface moment) (sym tos) ∙ (leads ∙ ap To macs) }
+    by_way e due found its (Ask hop) leads same = cc
+    by_way e due found its Waits leads same = cc
 
-    by_peer : (e : Entry) → find test h.sockets.entries ≡ Some e → (o : Option Endpoint) → due_peer e.role ≡ o → emission_to h moment o ≡ Sends mac to → Sending h moment mac to
-    by_peer e found None due same = cc
-    by_peer e found (Some peer) due same = by_way e peer found due (way h.interface moment peer.addr) refl same
-
-    by_entry : (o : Option Entry) → find test h.sockets.entries ≡ o → emission_from h moment o ≡ Sends mac to → Sending h moment mac to
-    by_entry None found same = cc
-    by_entry (Some e) found same = by_peer e found (due_peer e.role) refl same
+    by_entry : (o : Option Entry) → find (sends goes) h.sockets.entries ≡ o → table_emission h moment ≡ Sends mac to → Sending h moment mac to
+    by_entry None found same = let none = sym (none_from h moment found) ∙ same in cc
+    by_entry (Some e) found same =
+        let due = found_due h.sockets goes e found in
+        by_way e due.0 found due.1 (way h.interface moment (let d = due.0 in d.0.addr)) refl (sym (table_from h moment e due.0 found due.1) ∙ same)
 
     by_place : (o : Option ℕ) → emission_at h moment o ≡ Sends mac to → Sending h moment mac to
     by_place (Some place) same = cc
-    by_place None same = by_entry (find test h.sockets.entries) refl same
+    by_place None same = by_entry (find (sends goes) h.sockets.entries) refl same
 
--- the part of a datagram that is due first
-first_part : (socket : SocketView) (o : Outgoing) (rest : List Outgoing) → socket.outbox ≡ o ∷ rest
-    → due_part socket ≡ Some (record { identification = o.identification; fragment = fragment_of o socket.parts })
-first_part socket o rest at = rw at refl
-
--- what is told of it, and its octets
-found-emitted : (own : SocketsView) (goes : Entry → Bool) (e : Entry) → find (sends goes) own.entries ≡ Some e → emitted own goes ≡ due_emitted e.role
-found-emitted own goes e found = rw found refl
-
-found-octets : (own : SocketsView) (goes : Entry → Bool) (e : Entry) → find (sends goes) own.entries ≡ Some e → emitted_octets own goes ≡ due_octets own.addr e.role
-found-octets own goes e found = rw found
-
-first-octets : (own : Addr) (c : View) (l : Option SocketId) (due : Due) → first_due c ≡ Some due → due_octets own (Connected c l) ≡ connection_octets c due
-first-octets own c l due first = rw first
+first-octets : (own : Addr) (w : Outgoing) (c : View) (l : Option SocketId) (due : Due) → first_due c ≡ Some due → due_octets own w (Connected c l) ≡ connection_octets c due
+first-octets own w c l due first = rw first
 
 -- It is a segment in that frame, or a part of a datagram.
 pub data IsSending (h : HostView) (moment : Moment) (mac : Mac) (to : Addr) : Type 0 where
@@ -212,12 +203,12 @@ pub data IsSending (h : HostView) (moment : Moment) (mac : Mac) (to : Addr) : Ty
   SendsPart : (part : Part) (octets : List ℕ) → carried_by h moment (Sends mac to) ≡ None → octets_of h moment (Sends mac to) ≡ part_frame_to h.interface mac to part octets → length mac.0 ≡ 6 → IsSending h moment mac to
 
 -- in the frame is what the entry has due
-sent-frame : (h : HostView) (moment : Moment) (mac : Mac) (to : Addr) (e : Entry) (role : Role) → find (sends (goes_out_from h moment)) h.sockets.entries ≡ Some e → e.role ≡ role
-    → octets_of h moment (Sends mac to) ≡ emitted_frame h.interface mac to (due_emitted role) (due_octets h.sockets.addr role)
-sent-frame h moment mac to e role found is =
-    let goes : Entry → Bool = goes_out_from h moment in
-    ap (λ (o : Option Emitted). emitted_frame h.interface mac to o (emitted_octets h.sockets goes)) (found-emitted h.sockets goes e found ∙ ap due_emitted is)
-    ∙ ap (λ (l : List ℕ). emitted_frame h.interface mac to (due_emitted role) l) (found-octets h.sockets goes e found ∙ ap (due_octets h.sockets.addr) is)
+sent-frame : (h : HostView) (moment : Moment) (mac : Mac) (to : Addr) (e : Entry) (role : Role) (due : Endpoint × Outgoing) → find (sends (goes_out_from h moment)) h.sockets.entries ≡ Some e → due_to (goes_out_from h moment) e.role ≡ Some due → e.role ≡ role
+    → octets_of h moment (Sends mac to) ≡ emitted_frame h.interface mac to (due_emitted due.1 role) (due_octets h.sockets.addr due.1 role)
+sent-frame h moment mac to e role due found its is =
+    let goes : Addr → Bool = goes_out_from h moment in
+    ap (λ (o : Option Emitted). emitted_frame h.interface mac to o (emitted_octets h.sockets goes)) (emitted-found h.sockets goes e due found its ∙ ap (due_emitted due.1) is)
+    ∙ ap (λ (l : List ℕ). emitted_frame h.interface mac to (due_emitted due.1 role) l) (emitted_octets-found h.sockets goes e due found its ∙ ap (due_octets h.sockets.addr due.1) is)
 
 carried-so : (h : HostView) (moment : Moment) (mac : Mac) (to : Addr) (e : Entry) (role : Role) → find (sends (goes_out_from h moment)) h.sockets.entries ≡ Some e → e.role ≡ role
     → carried_by h moment (Sends mac to) ≡ option_map (λ segment. record { mac = mac; to = to; segment = segment }) (due_segment role)
@@ -225,10 +216,10 @@ carried-so h moment mac to e role found is =
     let made : Segment → Carried = λ s. record { mac = mac; to = to; segment = s } in
     ap (λ (o : Option Entry). option_map made (option_and_then (λ (x : Entry). due_segment x.role) o)) found ∙ ap (λ (r : Role). option_map made (due_segment r)) is
 
-of-connection : (h : HostView) (moment : Moment) (mac : Mac) (to : Addr) (e : Entry) (c : View) (l : Option SocketId) (due : Due) → IsSoundHost h → IsOrdered h.sockets
-    → find (sends (goes_out_from h moment)) h.sockets.entries ≡ Some e → e.role ≡ Connected c l → first_due c ≡ Some due → to ≡ c.peer.addr → way h.interface moment to ≡ To mac → IsSending h moment mac to
-of-connection h moment mac to e c l due sound ordered found role first is_to leads =
-    let goes : Entry → Bool = goes_out_from h moment in
+of-connection : (h : HostView) (moment : Moment) (mac : Mac) (to : Addr) (e : Entry) (c : View) (l : Option SocketId) (first : Endpoint × Outgoing) (due : Due) → IsSoundHost h → IsOrdered h.sockets
+    → find (sends (goes_out_from h moment)) h.sockets.entries ≡ Some e → due_to (goes_out_from h moment) e.role ≡ Some first → e.role ≡ Connected c l → first_due c ≡ Some due → to ≡ c.peer.addr → way h.interface moment to ≡ To mac → IsSending h moment mac to
+of-connection h moment mac to e c l out due sound ordered found its role first is_to leads =
+    let goes : Addr → Bool = goes_out_from h moment in
     let head : Head = head_of c due in
     let text : List ℕ = text_of c due in
     let table = sound.table in
@@ -244,9 +235,9 @@ of-connection h moment mac to e c l due sound ordered found role first is_to lea
     let spelled : connection_octets c due ≡ sent_octets h.interface.addr to head text =
     ap (λ (a : Addr). sent_octets a c.peer.addr head text) source ∙ ap (λ (a : Addr). sent_octets h.interface.addr a head text) (sym is_to) in
     let framed : octets_of h moment (Sends mac to) ≡ segment_frame_to h.interface mac to (connection_octets c due) =
-    sent-frame h moment mac to e (Connected c l) found role
-    ∙ ap (λ (d : Option Due). emitted_frame h.interface mac to (option_map (λ (x : Due). what.Segment (emitted_len c x)) d) (due_octets h.sockets.addr (Connected c l))) first
-    ∙ ap (segment_frame_to h.interface mac to) (first-octets h.sockets.addr c l due first) in
+    sent-frame h moment mac to e (Connected c l) out found its role
+    ∙ ap (λ (d : Option Due). emitted_frame h.interface mac to (option_map (λ (x : Due). what.Segment (emitted_len c x)) d) (due_octets h.sockets.addr out.1 (Connected c l))) first
+    ∙ ap (segment_frame_to h.interface mac to) (first-octets h.sockets.addr out.1 c l due first) in
     let can : CanBeSent h.interface.addr to head text =
     subst (λ (a : Addr). CanBeSent h.interface.addr a head text) (sym is_to) (subst (λ (a : Addr). CanBeSent a c.peer.addr head text) source (due-can c due solid may)) in
     SendsSegment own carries (record {
@@ -259,39 +250,38 @@ of-connection h moment mac to e c l due sound ordered found role first is_to lea
       fits = due-fits c due may;
     })
 
-of-datagrams : (h : HostView) (moment : Moment) (mac : Mac) (to : Addr) (e : Entry) (bound : Option Endpoint) (socket : SocketView) (part : Part) → IsSoundHost h
-    → find (sends (goes_out_from h moment)) h.sockets.entries ≡ Some e → e.role ≡ Datagrams bound socket → due_part socket ≡ Some part → way h.interface moment to ≡ To mac → IsSending h moment mac to
-of-datagrams h moment mac to e bound socket part sound found role due leads =
-    let octets : List ℕ = due_octets h.sockets.addr (Datagrams bound socket) in
+of-datagrams : (h : HostView) (moment : Moment) (mac : Mac) (to : Addr) (e : Entry) (bound : Option Endpoint) (socket : SocketView) (due : Endpoint × Outgoing) (part : Part) → IsSoundHost h
+    → find (sends (goes_out_from h moment)) h.sockets.entries ≡ Some e → due_to (goes_out_from h moment) e.role ≡ Some due → e.role ≡ Datagrams bound socket → due_part (with_first due.1 socket) ≡ Some part → way h.interface moment to ≡ To mac → IsSending h moment mac to
+of-datagrams h moment mac to e bound socket due part sound found its role told leads =
+    let octets : List ℕ = due_octets h.sockets.addr due.1 (Datagrams bound socket) in
     SendsPart part octets (carried-so h moment mac to e (Datagrams bound socket) found role)
-    (sent-frame h moment mac to e (Datagrams bound socket) found role
-    ∙ ap (λ (o : Option Part). emitted_frame h.interface mac to (option_map (λ (x : Part). what.Datagram x) o) octets) due)
+    (sent-frame h moment mac to e (Datagrams bound socket) due found its role
+    ∙ ap (λ (o : Option Part). emitted_frame h.interface mac to (option_map (λ (x : Part). what.Datagram x) o) octets) told)
     (way-mac h.interface moment to mac sound.interface leads)
 
 pub is-sending : (h : HostView) (moment : Moment) (mac : Mac) (to : Addr) → IsSoundHost h → IsOrdered h.sockets → emission h moment ≡ Sends mac to → IsSending h moment mac to
 is-sending h moment mac to sound ordered is =
     let k = sending h moment mac to is in
-    by_role k.e k.found k.peer k.is_to k.leads k.e.role refl k.due
+    by_role k.e k.found k.due k.is k.is_to k.leads k.e.role refl (due_outgoing (goes_out_from h moment) k.e.role k.due k.is)
   where
-    by_due : (e : Entry) (c : View) (l : Option SocketId) → find (sends (goes_out_from h moment)) h.sockets.entries ≡ Some e → e.role ≡ Connected c l → (peer : Endpoint) → to ≡ peer.addr → way h.interface moment to ≡ To mac
-        → (o : Option Due) → first_due c ≡ o → cond (is_some o) (Some c.peer) None ≡ Some peer → IsSending h moment mac to
-    by_due e c l found role peer is_to leads None first due = cc
-    by_due e c l found role peer is_to leads (Some d) first due =
-        let same : c.peer ≡ peer = cc in
-        of-connection h moment mac to e c l d sound ordered found role first (is_to ∙ ap (λ (x : Endpoint). x.addr) (sym same)) leads
+    goes : Addr → Bool
+    goes = goes_out_from h moment
 
-    by_outbox : (e : Entry) (bound : Option Endpoint) (socket : SocketView) → find (sends (goes_out_from h moment)) h.sockets.entries ≡ Some e → e.role ≡ Datagrams bound socket → (peer : Endpoint)
-        → way h.interface moment to ≡ To mac → (out : List Outgoing) → socket.outbox ≡ out → datagram_peer out ≡ Some peer → IsSending h moment mac to
-    by_outbox e bound socket found role peer leads [] at due = cc
-    by_outbox e bound socket found role peer leads (o ∷ rest) at due =
-        of-datagrams h moment mac to e bound socket (record { identification = o.identification; fragment = fragment_of o socket.parts }) sound found role (first_part socket o rest at) leads
+    by_part : (e : Entry) (bound : Option Endpoint) (socket : SocketView) (due : Endpoint × Outgoing) → find (sends goes) h.sockets.entries ≡ Some e → due_to goes e.role ≡ Some due → e.role ≡ Datagrams bound socket → way h.interface moment to ≡ To mac
+        → (w : Outgoing) → due.1 ≡ w → HasOutgoing (Datagrams bound socket) w → (o : Option Part) → due_part (with_first due.1 socket) ≡ o → IsSending h moment mac to
+    by_part e bound socket due found its role leads w same has (Some part) told = of-datagrams h moment mac to e bound socket due part sound found its role told leads
+    by_part e bound socket due found its role leads (outgoing.Segment d) same has None told = absurd has
+    by_part e bound socket due found its role leads (outgoing.Datagram place) same has None told = absurd (part-waits place socket has (ap (λ (w : Outgoing). due_part (with_first w socket)) (sym same) ∙ told))
 
-    by_role : (e : Entry) → find (sends (goes_out_from h moment)) h.sockets.entries ≡ Some e → (peer : Endpoint) → to ≡ peer.addr → way h.interface moment to ≡ To mac → (r : Role) → e.role ≡ r → due_peer r ≡ Some peer
+    by_role : (e : Entry) → find (sends goes) h.sockets.entries ≡ Some e → (due : Endpoint × Outgoing) → due_to goes e.role ≡ Some due → to ≡ due.0.addr → way h.interface moment to ≡ To mac → (r : Role) → e.role ≡ r → HasOutgoing e.role due.1
         → IsSending h moment mac to
-    by_role e found peer is_to leads (Connected c l) role due = by_due e c l found role peer is_to leads (first_due c) refl due
-    by_role e found peer is_to leads (Datagrams bound socket) role due = by_outbox e bound socket found role peer leads socket.outbox refl due
-    by_role e found peer is_to leads (Listener local backlog) role due = cc
-    by_role e found peer is_to leads (Idle buffers bound) role due = cc
+    by_role e found due its is_to leads (Connected c l) role has =
+        let first = first_segment goes c l due (ap (due_to goes) (sym role) ∙ its) in
+        of-connection h moment mac to e c l due first.segment sound ordered found its role first.first (is_to ∙ ap (λ (d : Endpoint × Outgoing). d.0.addr) (sym first.is)) leads
+    by_role e found due its is_to leads (Datagrams bound socket) role has =
+        by_part e bound socket due found its role leads due.1 refl (subst (λ (r : Role). HasOutgoing r due.1) role has) (due_part (with_first due.1 socket)) refl
+    by_role e found due its is_to leads (Listener local backlog) role has = absurd (subst (λ (r : Role). HasOutgoing r due.1) role has)
+    by_role e found due its is_to leads (Idle buffers bound) role has = absurd (subst (λ (r : Role). HasOutgoing r due.1) role has)
 
 sends-go : (h : HostView) (moment : Moment) (mac : Mac) (to : Addr) → IsSoundHost h → IsOrdered h.sockets → emission h moment ≡ Sends mac to
     → Carry h.interface (octets_of h moment (Sends mac to)) (carried_by h moment (Sends mac to))

@@ -1,7 +1,13 @@
 -- What is due comes up: a frame can go out for it, or the host is woken when its hop may be asked for again.
+<<<<<<< HEAD
 use Rattle.std.proofs.Common.{◌≡◌, ◌⊎◌, inl, inr, ℕ, zero, suc, ◌<◌, ◌≤◌, ◌||◌, not, Bool, true, false, cond, List, [], ◌∷◌, Contains, slice_index_or, filter, length, map, Option, Some, None, IsTrue, is_some, option_map, refl, sym, ◌∙◌, ap, subst, arith}
 use Rattle.std.specs.List.{find, list_any}
+=======
+use Rattle.std.proofs.Common.{◌≡◌, ◌⊎◌, inl, inr, ℕ, zero, suc, ◌<◌, ◌≤◌, ◌||◌, Bool, true, false, cond, List, [], ◌∷◌, ◌++◌, Contains, slice_index_or, length, map, Option, Some, None, IsTrue, is_some, option_map, refl, sym, ◌∙◌, ap, subst, arith}
+use Rattle.std.specs.List.{find, flat_map, list_any, slice_get}
+>>>>>>> 717e2c4d (Each datagram that waits is a place among what is due at a host: its own hop is asked for, and it holds none back)
 use Rattle.std.proofs.lemmas.Bool.Decides.{nat_tests}
+use Rattle.std.proofs.lemmas.List.Concat.{flat_map-cons}
 use Rattle.std.proofs.lemmas.List.Elements.{Contains-append_cases, Contains-append_left, Contains-append_right}
 use Rattle.ether.specs.declared.mac.Mac.{Mac}
 use Rattle.ipv4.specs.declared.addr.Addr.{Addr}
@@ -21,14 +27,16 @@ use Rattle.interface.specs.InterfaceView.{InterfaceView}
 use Rattle.interface.specs.Replies.{goes_out, way_of}
 use Rattle.interface.specs.Routing.{next_hop}
 use Rattle.interface.specs.Timing.{asked_until, asked_until_over, deadline_for, deadline_of, end_of as reply_end, sought, least_deadline as reply_deadline}
-use Rattle.interface.proofs.Waits.{kept}
 use Rattle.interface.specs.Ways.{is_routed, knows_hop, mac_of, way, way_by_mac, way_over}
 use Rattle.reassembly.specs.Places.{next_deadline as pool_deadline}
 use Rattle.sockets.specs.declared.entry.Entry.{Entry}
 use Rattle.sockets.specs.declared.entry.SocketId.{SocketId}
 use Rattle.sockets.specs.declared.role.Role.{Role}
-use Rattle.sockets.specs.declared.role.Role.TheVariants.{Idle, Listener, Connected, Datagrams}
-use Rattle.sockets.specs.Entries.{deadline_of as timer_of, due_peer, has_due, is_due}
+use Rattle.sockets.specs.declared.role.Role.TheVariants.{Connected, Datagrams}
+use Rattle.sockets.specs.declared.emission.Outgoing.{Outgoing}
+use Rattle.sockets.specs.declared.emission.Outgoing.TheVariants.{Segment, Datagram}
+use Rattle.sockets.specs.Entries.{deadline_of as timer_of, dues_of, segment_due}
+use Rattle.sockets.proofs.Emitting.{datagram_at}
 use Rattle.sockets.specs.Lost.{give_up_at}
 use Rattle.sockets.specs.Sound.{IsSoundRole}
 use Rattle.sockets.specs.Ticks.{least_deadline as timer_deadline}
@@ -39,20 +47,25 @@ use Rattle.tcp_state.specs.Positions.{HasToSend, takes_numbers}
 use Rattle.tcp_state.specs.Timing.{deadline}
 use Rattle.tcp_state.specs.View.{View}
 use Rattle.tcp_state.proofs.Waiting.{goes_out as timed_or_due}
+<<<<<<< HEAD
 use Rattle.udp_socket.specs.Emission.{due_peer as datagram_peer}
 use Rattle.udp_socket.specs.SocketView.{Outgoing, SocketView}
 use Rattle.udp_socket.specs.Waits.{deadline_of as datagram_deadline_of}
 use Rattle.host.specs.ComesUp.{address_of, is_on_route, IsAskedFrom, IsHeldAtTheEnd, IsPastAsking, IsWokenBy, IsDueSoon, IsQuiet, ComesUp, ConnectionComesUp}
 use Rattle.host.specs.Emission.{way_to}
+=======
+use Rattle.udp_socket.specs.SocketView.{Outgoing as OutDatagram, SocketView}
+use Rattle.host.specs.ComesUp.{address_of, is_on_route, IsAskedFrom, IsWokenBy, IsDueSoon, IsQuiet, ComesUp, ConnectionComesUp}
+>>>>>>> 717e2c4d (Each datagram that waits is a place among what is due at a host: its own hop is asked for, and it holds none back)
 use Rattle.host.specs.HostView.{HostView}
-use Rattle.host.specs.Places.{Place, ReplyOf, EntryOf, places, can_go_out}
+use Rattle.host.specs.Places.{Place, ReplyOf, EntryOf, places, places_of, can_go_out}
 use Rattle.host.specs.Runs.{HasRun}
 use Rattle.host.specs.Sound.{IsSoundHost}
 use Rattle.host.specs.Ticks.{hop_deadline, lacks_hop, least_deadline, request_deadline}
 use Rattle.host.proofs.FrameSide.{KeepsSide, run-side}
 use Rattle.host.proofs.Tables.{run-timed}
 use Rattle.host.proofs.Waiting.{deadline-come, fold-come}
-use Rattle.host.proofs.AskedAgain.{or-left, or-right, same-comes, any-of, all-of, mapped-in, in-mapped, filtered-in, asked-from}
+use Rattle.host.proofs.AskedAgain.{or-left, or-right, same-comes, any-of, all-of, mapped-in, in-mapped, asked-from}
 
 -- What can't go out now.
 
@@ -128,6 +141,7 @@ reply-wakes h w to hop m at seeks held next =
     (or-left (has_come (timer_deadline h.sockets) m || has_come (reply_deadline i kept) m) (has_come (pool_deadline h.pool) m)
     (or-right (has_come (timer_deadline h.sockets) m) (has_come (reply_deadline i kept) m) replies)))
 
+<<<<<<< HEAD
 -- at the end of its own wait
 reply-ends : (h : HostView) (w : Waiting) (to hop : Addr) → Contains h.interface.replies w → sought w.reply ≡ Some to → IsHeld h h.sockets.kept to hop → IsWokenBy h (reply_end w)
 reply-ends h w to hop at seeks held =
@@ -146,12 +160,17 @@ reply-ends h w to hop at seeks held =
 
 -- for an entry
 entry-wakes : (h : HostView) (e : Entry) (peer : Endpoint) (hop : Addr) (m : Moment) → Contains h.sockets.entries e → due_peer e.role ≡ Some peer → IsHeld h h.sockets.kept peer.addr hop → next_ask hop h.interface.cache.asked ≡ Some m
+=======
+-- for something that an entry has due
+entry-wakes : (h : HostView) (e : Entry) (due : Endpoint × Outgoing) (hop : Addr) (m : Moment) → Contains h.sockets.entries e → Contains (dues_of e.role) due → IsHeld h h.sockets.kept due.0.addr hop → next_ask hop h.interface.cache.asked ≡ Some m
+>>>>>>> 717e2c4d (Each datagram that waits is a place among what is due at a host: its own hop is asked for, and it holds none back)
     → IsWokenBy h m
-entry-wakes h e peer hop m at is held next =
+entry-wakes h e due hop m at among held next =
     let gives_up : Option Moment = give_up_at (lacks_hop h h.sockets.kept) e.role in
-    let own : request_deadline h (due_peer e.role) ≡ Some m = ap (request_deadline h) is ∙ until-is h h.sockets.kept peer.addr hop held ∙ next in
-    let come : has_come (hop_deadline h e) m ≡ true =
-    ap (λ (o : Option Moment). has_come (sooner gives_up o) m) own ∙ sooner-has_come gives_up (Some m) m ∙ or-right (has_come gives_up m) (has_come (Some m) m) (same-comes m) in
+    let until : Endpoint × Outgoing → Option Moment = λ d. asked_until h.interface h.sockets.kept d.0.addr in
+    let its : has_come (until due) m ≡ true = ap (λ (o : Option Moment). has_come o m) (until-is h h.sockets.kept due.0.addr hop held ∙ next) ∙ same-comes m in
+    let own : has_come (request_deadline h (dues_of e.role)) m ≡ true = fold-come until None (dues_of e.role) m ∙ any-of (λ (d : Endpoint × Outgoing). has_come (until d) m) (dues_of e.role) due among its in
+    let come : has_come (hop_deadline h e) m ≡ true = sooner-has_come gives_up (request_deadline h (dues_of e.role)) m ∙ or-right (has_come gives_up m) (has_come (request_deadline h (dues_of e.role)) m) own in
     woken h m (deadline-come h m
     ∙ or-right (has_come (timer_deadline h.sockets) m || has_come (reply_deadline h.interface h.sockets.kept) m || has_come (pool_deadline h.pool) m) (list_any (λ x. has_come (hop_deadline h x) m) h.sockets.entries)
     (any-of (λ (x : Entry). has_come (hop_deadline h x) m) h.sockets.entries e at come))
@@ -187,32 +206,56 @@ unsought-goes i now (Reset x head) e = cc
 unsought-goes i now (Echo x identifier number octets) e = cc
 unsought-goes i now (Error x reason quoted) e = cc
 
+-- what lists were joined of others has
+
+flattened-in : {X Y : Type 0} (f : X → List Y) (xs : List X) (y : Y) → Contains (flat_map f xs) y → (x : X) × Contains xs x × Contains (f x) y
+flattened-in f [] y at = absurd (omega (arith, at.1))
+flattened-in {X} {Y} f (x ∷ xs) y at = by_side (flattened-in f xs y) (Contains-append_cases (f x) (flat_map f xs) y (subst (λ (ys : List Y). Contains ys y) (flat_map-cons f x xs) at))
+  where
+    by_side : (Contains (flat_map f xs) y → (z : X) × Contains xs z × Contains (f z) y) → Contains (f x) y ⊎ Contains (flat_map f xs) y → (z : X) × Contains (x ∷ xs) z × Contains (f z) y
+    by_side further (inl here) = (x, (0, omega arith, refl), here)
+    by_side further (inr there) = let found = further there in (found.0, (let k = found.1 in (suc k.0, omega (arith, k.1), k.2)), found.2)
+
+in-flattened : {X Y : Type 0} (f : X → List Y) (xs : List X) (x : X) (y : Y) → Contains xs x → Contains (f x) y → Contains (flat_map f xs) y
+in-flattened f [] x y at among = absurd (omega (arith, at.1))
+in-flattened {X} {Y} f (z ∷ xs) x y at among = subst (λ (ys : List Y). Contains ys y) (sym (flat_map-cons f z xs)) (by_place (λ there. in-flattened f xs x y there among) at.0 at.1 at.2)
+  where
+    by_place : (Contains xs x → Contains (flat_map f xs) y) → (k : ℕ) → k < length (z ∷ xs) → slice_index_or (z ∷ xs) k x ≡ x → Contains (f z ++ flat_map f xs) y
+    by_place further zero within is = Contains-append_left (f z) (flat_map f xs) y (subst (λ (w : X). Contains (f w) y) (sym is) among)
+    by_place further (suc k) within is = Contains-append_right (f z) (flat_map f xs) y (further (k, omega (arith, within), is))
+
+got-in : {X : Type 0} (xs : List X) (n : ℕ) (x : X) → slice_get xs n ≡ Some x → Contains xs x
+got-in [] n x at = cc
+got-in (y ∷ ys) zero x at = (0, omega arith, (let same : y ≡ x = cc in same))
+got-in (y ∷ ys) (suc n) x at = let k = got-in ys n x at in (suc k.0, omega (arith, k.1), k.2)
+
 reply-at : (h : HostView) (w : Waiting) → Contains (places h) (ReplyOf w) → Contains h.interface.replies w
-reply-at h w at = by_side (Contains-append_cases (map ReplyOf h.interface.replies) (map EntryOf (filter is_due h.sockets.entries)) (ReplyOf w) at)
+reply-at h w at = by_side (Contains-append_cases (map ReplyOf h.interface.replies) (flat_map places_of h.sockets.entries) (ReplyOf w) at)
   where
-    by_side : Contains (map ReplyOf h.interface.replies) (ReplyOf w) ⊎ Contains (map EntryOf (filter is_due h.sockets.entries)) (ReplyOf w) → Contains h.interface.replies w
+    by_side : Contains (map ReplyOf h.interface.replies) (ReplyOf w) ⊎ Contains (flat_map places_of h.sockets.entries) (ReplyOf w) → Contains h.interface.replies w
     by_side (inl here) = let found = mapped-in ReplyOf h.interface.replies (ReplyOf w) here in let same : found.0 ≡ w = let e = found.2 in cc in subst (Contains h.interface.replies) same found.1
-    by_side (inr there) = let found = mapped-in EntryOf (filter is_due h.sockets.entries) (ReplyOf w) there in let no = found.2 in cc
-
-entry-at : (h : HostView) (e : Entry) → Contains (places h) (EntryOf e) → Contains h.sockets.entries e × (is_due e ≡ true)
-entry-at h e at = by_side (Contains-append_cases (map ReplyOf h.interface.replies) (map EntryOf (filter is_due h.sockets.entries)) (EntryOf e) at)
-  where
-    by_side : Contains (map ReplyOf h.interface.replies) (EntryOf e) ⊎ Contains (map EntryOf (filter is_due h.sockets.entries)) (EntryOf e) → Contains h.sockets.entries e × (is_due e ≡ true)
-    by_side (inl here) = let found = mapped-in ReplyOf h.interface.replies (EntryOf e) here in let no = found.2 in cc
     by_side (inr there) =
-        let found = mapped-in EntryOf (filter is_due h.sockets.entries) (EntryOf e) there in
-        let same : found.0 ≡ e = let is = found.2 in cc in
-        filtered-in is_due h.sockets.entries e (subst (Contains (filter is_due h.sockets.entries)) same found.1)
+        let entry = flattened-in places_of h.sockets.entries (ReplyOf w) there in
+        let found = mapped-in (λ (due : Endpoint × Outgoing). EntryOf entry.0 due.0 due.1) (let x = entry.0 in dues_of x.role) (ReplyOf w) entry.2 in
+        let no = found.2 in cc
 
-due-somebody : (role : Role) → has_due role ≡ true → (peer : Endpoint) × (due_peer role ≡ Some peer)
-due-somebody (Idle buffers bound) e = cc
-due-somebody (Listener local backlog) e = cc
-due-somebody (Connected c l) e = (c.peer, ap (λ (b : Bool). cond b (Some c.peer) None) e)
-due-somebody (Datagrams bound socket) e = by_peer (datagram_peer socket.outbox) refl e
+entry-at : (h : HostView) (e : Entry) (peer : Endpoint) (what : Outgoing) → Contains (places h) (EntryOf e peer what) → Contains h.sockets.entries e × Contains (dues_of e.role) (peer, what)
+entry-at h e peer what at = by_side (Contains-append_cases (map ReplyOf h.interface.replies) (flat_map places_of h.sockets.entries) (EntryOf e peer what) at)
   where
-    by_peer : (o : Option Endpoint) → datagram_peer socket.outbox ≡ o → is_some o ≡ true → (peer : Endpoint) × (datagram_peer socket.outbox ≡ Some peer)
-    by_peer None is some = cc
-    by_peer (Some peer) is some = (peer, is)
+    of_due : (x : Entry) → Contains h.sockets.entries x → (due : Endpoint × Outgoing) → Contains (dues_of x.role) due → EntryOf x due.0 due.1 ≡ EntryOf e peer what → Contains h.sockets.entries e × Contains (dues_of e.role) (peer, what)
+    of_due x here due among is =
+        let entries : x ≡ e = cc in
+        let peers : due.0 ≡ peer = cc in
+        let whats : due.1 ≡ what = cc in
+        let pair : due ≡ (peer, what) = ap (λ (p : Endpoint). let d : Endpoint × Outgoing = (p, due.1) in d) peers ∙ ap (λ (w : Outgoing). let d : Endpoint × Outgoing = (peer, w) in d) whats in
+        subst (λ (y : Entry). Contains h.sockets.entries y × Contains (dues_of y.role) (peer, what)) entries (here, subst (Contains (dues_of x.role)) pair among)
+
+    by_side : Contains (map ReplyOf h.interface.replies) (EntryOf e peer what) ⊎ Contains (flat_map places_of h.sockets.entries) (EntryOf e peer what) → Contains h.sockets.entries e × Contains (dues_of e.role) (peer, what)
+    by_side (inl here) = let found = mapped-in ReplyOf h.interface.replies (EntryOf e peer what) here in let no = found.2 in cc
+    by_side (inr there) =
+        let entry = flattened-in places_of h.sockets.entries (EntryOf e peer what) there in
+        let found = mapped-in (λ (due : Endpoint × Outgoing). EntryOf entry.0 due.0 due.1) (let x = entry.0 in dues_of x.role) (EntryOf e peer what) entry.2 in
+        of_due entry.0 entry.1 found.0 found.1 found.2
 
 -- what to do for an address that a route leads to
 record IsHeldUp (h : HostView) (to : Addr) : Type 0 where
@@ -243,9 +286,11 @@ reply-comes h w few at routed = by_test (can_go_out h h.sockets.kept (ReplyOf w)
     by_test true goes = inl goes
     by_test false held = by_address (sought w.reply) refl routed held
 
-entry-comes : (h : HostView) (e : Entry) → length h.interface.cache.asked ≤ 64 → Contains h.sockets.entries e → is_due e ≡ true → is_on_route h.interface.routes (address_of (EntryOf e)) ≡ true → ComesUp h (EntryOf e)
-entry-comes h e few at due routed = by_test (can_go_out h h.sockets.kept (EntryOf e)) refl
+entry-comes : (h : HostView) (e : Entry) (peer : Endpoint) (what : Outgoing) → length h.interface.cache.asked ≤ 64 → Contains h.sockets.entries e → Contains (dues_of e.role) (peer, what)
+    → is_on_route h.interface.routes (Some peer.addr) ≡ true → ComesUp h (EntryOf e peer what)
+entry-comes h e peer what few at among routed = by_test (goes_out (way h.interface h.sockets.kept peer.addr)) refl
   where
+<<<<<<< HEAD
     by_next : (peer : Endpoint) (hop : Addr) → due_peer e.role ≡ Some peer → IsHeld h h.sockets.kept peer.addr hop
         → ((moment : Moment) × (next_ask hop h.interface.cache.asked ≡ Some moment) × IsAskedFrom h peer.addr moment) ⊎ IsPastAsking h peer.addr → ComesUp h (EntryOf e)
     by_next peer hop is held (inl next) =
@@ -259,42 +304,42 @@ entry-comes h e few at due routed = by_test (can_go_out h h.sockets.kept (EntryO
         by_next peer waits.hop is waits.held waits.next
 
     by_test : (b : Bool) → can_go_out h h.sockets.kept (EntryOf e) ≡ b → ComesUp h (EntryOf e)
+=======
+    by_test : (b : Bool) → goes_out (way h.interface h.sockets.kept peer.addr) ≡ b → ComesUp h (EntryOf e peer what)
+>>>>>>> 717e2c4d (Each datagram that waits is a place among what is due at a host: its own hop is asked for, and it holds none back)
     by_test true goes = inl goes
-    by_test false held = let some = due-somebody e.role due in by_peer some.0 some.1 held
+    by_test false held =
+        let waits = held-up h peer.addr few routed held in
+        inr (peer.addr, waits.1, refl, waits.4, entry-wakes h e (peer, what) waits.0 waits.1 at among waits.2 waits.3)
 
 pub place-comes : (h : HostView) (place : Place) → length h.interface.cache.asked ≤ 64 → Contains (places h) place → is_on_route h.interface.routes (address_of place) ≡ true → ComesUp h place
 place-comes h (ReplyOf w) few at routed = reply-comes h w few (reply-at h w at) routed
-place-comes h (EntryOf e) few at routed = let found = entry-at h e at in entry-comes h e few found.0 found.1 routed
+place-comes h (EntryOf e peer what) few at routed = let found = entry-at h e peer what at in entry-comes h e peer what few found.0 found.1 routed
 
 -- What waits is due.
 
 reply-due : (h : HostView) (w : Waiting) → Contains h.interface.replies w → Contains (places h) (ReplyOf w)
-reply-due h w at = Contains-append_left (map ReplyOf h.interface.replies) (map EntryOf (filter is_due h.sockets.entries)) (ReplyOf w) (in-mapped ReplyOf h.interface.replies w at)
+reply-due h w at = Contains-append_left (map ReplyOf h.interface.replies) (flat_map places_of h.sockets.entries) (ReplyOf w) (in-mapped ReplyOf h.interface.replies w at)
 
-entry-due : (h : HostView) (e : Entry) → Contains h.sockets.entries e → is_due e ≡ true → Contains (places h) (EntryOf e)
-entry-due h e at due =
-    Contains-append_right (map ReplyOf h.interface.replies) (map EntryOf (filter is_due h.sockets.entries)) (EntryOf e)
-    (in-mapped EntryOf (filter is_due h.sockets.entries) e (kept is_due h.sockets.entries e due at))
+entry-due : (h : HostView) (e : Entry) (peer : Endpoint) (what : Outgoing) → Contains h.sockets.entries e → Contains (dues_of e.role) (peer, what) → Contains (places h) (EntryOf e peer what)
+entry-due h e peer what at among =
+    Contains-append_right (map ReplyOf h.interface.replies) (flat_map places_of h.sockets.entries) (EntryOf e peer what)
+    (in-flattened places_of h.sockets.entries e (EntryOf e peer what) at (in-mapped (λ (due : Endpoint × Outgoing). EntryOf e due.0 due.1) (dues_of e.role) (peer, what) among))
 
--- the first datagram of a UDP socket
+-- a datagram of a UDP socket
 
-datagram-comes : (h : HostView) (e : Entry) (bound : Option Endpoint) (socket : SocketView) (first : Outgoing) (others : List Outgoing) → length h.interface.cache.asked ≤ 64 → Contains h.sockets.entries e → e.role ≡ Datagrams bound socket
-    → socket.outbox ≡ first ∷ others → is_some (next_hop h.interface.routes first.peer.addr) ≡ true → IsDueSoon h (EntryOf e)
-datagram-comes h e bound socket first others few at is waits routed =
-    let peer : due_peer e.role ≡ Some first.peer = ap due_peer is ∙ ap datagram_peer waits in
-    let due : is_due e ≡ true = ap has_due is ∙ ap (λ (os : List Outgoing). is_some (datagram_peer os)) waits in
-    let fine : is_on_route h.interface.routes (address_of (EntryOf e)) ≡ true = ap (λ (o : Option Endpoint). is_on_route h.interface.routes (option_map (λ (x : Endpoint). x.addr) o)) peer ∙ routed in
-    (entry-due h e at due, entry-comes h e few at due fine)
+datagram-comes : (h : HostView) (e : Entry) (bound : Option Endpoint) (socket : SocketView) (place : ℕ) (o : OutDatagram) → length h.interface.cache.asked ≤ 64 → Contains h.sockets.entries e → e.role ≡ Datagrams bound socket
+    → slice_get socket.outbox place ≡ Some o → is_some (next_hop h.interface.routes o.peer.addr) ≡ true → IsDueSoon h (EntryOf e o.peer (Datagram place))
+datagram-comes h e bound socket place o few at is waits routed =
+    let here : slice_get (dues_of (Datagrams bound socket)) place ≡ Some (o.peer, Datagram place) = datagram_at bound socket place (Some o.peer) (ap (option_map (λ (x : OutDatagram). x.peer)) waits) in
+    let among : Contains (dues_of e.role) (o.peer, Datagram place) = subst (λ (r : Role). Contains (dues_of r) (o.peer, Datagram place)) (sym is) (got-in (dues_of (Datagrams bound socket)) place (o.peer, Datagram place) here) in
+    (entry-due h e o.peer (Datagram place) at among, entry-comes h e o.peer (Datagram place) few at among routed)
 
 -- A connection.
 
-numbers-due : (o : Option Due) → takes_numbers o ≡ true → is_some o ≡ true
-numbers-due None e = cc
-numbers-due (Some due) e = refl
-
 pub connection-comes : (h : HostView) (e : Entry) (c : View) (l : Option SocketId) → length h.interface.cache.asked ≤ 64 → IsSoundHost h → EachKeepsTime h.sockets → Contains h.sockets.entries e → e.role ≡ Connected c l
     → is_some (next_hop h.interface.routes c.peer.addr) ≡ true → HasToSend c → ConnectionComesUp h e c
-connection-comes h e c l few sound timed at is routed waits = by_due (takes_numbers (first_due c)) refl
+connection-comes h e c l few sound timed at is routed waits = by_due (first_due c) refl either
   where
     solid : IsSoundRole (Connected c l)
     solid = subst IsSoundRole is (all-of (λ (x : Entry). IsSoundRole x.role) h.sockets.entries e sound.table.entries at)
@@ -309,15 +354,12 @@ connection-comes h e c l few sound timed at is routed waits = by_due (takes_numb
     by_deadline None none some = cc
     by_deadline (Some m) ends some = inr (m, ends, timer-wakes h e m at (ap timer_of is ∙ ends))
 
-    by_due : (b : Bool) → takes_numbers (first_due c) ≡ b → ConnectionComesUp h e c
-    by_due true takes =
-        let some : is_some (first_due c) ≡ true = numbers-due (first_due c) takes in
-        let due : is_due e ≡ true = ap has_due is ∙ some in
-        let to : address_of (EntryOf e) ≡ Some c.peer.addr =
-        ap (λ (r : Role). option_map (λ (x : Endpoint). x.addr) (due_peer r)) is ∙ ap (λ (b : Bool). option_map (λ (x : Endpoint). x.addr) (cond b (Some c.peer) None)) some in
-        let fine : is_on_route h.interface.routes (address_of (EntryOf e)) ≡ true = ap (is_on_route h.interface.routes) to ∙ routed in
-        inl (entry-due h e at due, entry-comes h e few at due fine)
-    by_due false takes = by_deadline (deadline c) refl (sym (ap (λ (b : Bool). b || is_some (deadline c)) takes) ∙ either)
+    by_due : (o : Option Due) → first_due c ≡ o → (takes_numbers o || is_some (deadline c)) ≡ true → ConnectionComesUp h e c
+    by_due None first some = by_deadline (deadline c) refl some
+    by_due (Some due) first some =
+        let here : dues_of e.role ≡ (c.peer, Segment due) ∷ [] = ap dues_of is ∙ ap (segment_due c.peer) first in
+        let among : Contains (dues_of e.role) (c.peer, Segment due) = subst (λ (ds : List (Endpoint × Outgoing)). Contains ds (c.peer, Segment due)) (sym here) (0, omega arith, refl) in
+        inl (due, (entry-due h e c.peer (Segment due) at among, entry-comes h e c.peer (Segment due) few at among routed))
 
 -- Where no frame can go out and there is no deadline, nothing waits.
 
@@ -374,10 +416,11 @@ no-reply h routes keeps none quiet = by_replies h.interface.replies refl
         absurd (by_address w (sought w.reply) here refl routed (held-place h (ReplyOf w) none (reply-due h w here)))
 
 no-datagram : (h : HostView) → length h.interface.cache.asked ≤ 64 → find (can_go_out h h.sockets.kept) (places h) ≡ None → least_deadline h ≡ None
-    → (e : Entry) (bound : Option Endpoint) (socket : SocketView) (first : Outgoing) (others : List Outgoing) → Contains h.sockets.entries e → e.role ≡ Datagrams bound socket → socket.outbox ≡ first ∷ others
-    → is_routed h.interface first.peer.addr ≡ false
-no-datagram h few none quiet e bound socket first others at is waits = by_test (is_routed h.interface first.peer.addr) refl
+    → (e : Entry) (bound : Option Endpoint) (socket : SocketView) (place : ℕ) (o : OutDatagram) → Contains h.sockets.entries e → e.role ≡ Datagrams bound socket → slice_get socket.outbox place ≡ Some o
+    → is_routed h.interface o.peer.addr ≡ false
+no-datagram h few none quiet e bound socket place o at is waits = by_test (is_routed h.interface o.peer.addr) refl
   where
+<<<<<<< HEAD
     by_test : (b : Bool) → is_routed h.interface first.peer.addr ≡ b → is_routed h.interface first.peer.addr ≡ false
     by_test true routed =
         let due = datagram-comes h e bound socket first others few at is waits routed in
@@ -387,12 +430,17 @@ no-datagram h few none quiet e bound socket first others at is waits = by_test (
         let by = held-by h h.sockets.kept first.peer.addr routed held in
         let here : Contains socket.outbox first = subst (λ (xs : List Outgoing). Contains xs first) (sym waits) (0, omega arith, refl) in
         absurd (unwoken h (after first.since HOP_WAIT) quiet (datagram-ends h e bound socket first by.0 at is here by.1))
+=======
+    by_test : (b : Bool) → is_routed h.interface o.peer.addr ≡ b → is_routed h.interface o.peer.addr ≡ false
+    by_test true routed = let due = datagram-comes h e bound socket place o few at is waits routed in absurd (comes-not h (EntryOf e o.peer (Datagram place)) none quiet due.0 due.1)
+>>>>>>> 717e2c4d (Each datagram that waits is a place among what is due at a host: its own hop is asked for, and it holds none back)
     by_test false unrouted = unrouted
 
 nothing-to-send : (h : HostView) → length h.interface.cache.asked ≤ 64 → IsSoundHost h → EachKeepsTime h.sockets → find (can_go_out h h.sockets.kept) (places h) ≡ None → least_deadline h ≡ None
     → (e : Entry) (c : View) (l : Option SocketId) → Contains h.sockets.entries e → e.role ≡ Connected c l → is_some (next_hop h.interface.routes c.peer.addr) ≡ true → HasToSend c → IsPastAsking h c.peer.addr
 nothing-to-send h few sound timed none quiet e c l at is routed waits = by_cause (connection-comes h e c l few sound timed at is routed waits)
   where
+<<<<<<< HEAD
     peer_is : (to : Addr) → address_of (EntryOf e) ≡ Some to → to ≡ c.peer.addr
     peer_is to told = by_first (is_some (first_due c)) (sym (ap (λ (r : Role). option_map (λ (x : Endpoint). x.addr) (due_peer r)) is) ∙ told)
       where
@@ -403,6 +451,11 @@ nothing-to-send h few sound timed none quiet e c l at is routed waits = by_cause
     by_cause : ConnectionComesUp h e c → IsPastAsking h c.peer.addr
     by_cause (inl due) = let past = comes-not h (EntryOf e) none quiet due.0 due.1 in subst (IsPastAsking h) (peer_is past.0 past.1) past.2
     by_cause (inr timer) = absurd (unwoken h timer.0 quiet timer.2)
+=======
+    by_cause : ConnectionComesUp h e c → ⊥
+    by_cause (inl due) = comes-not h (EntryOf e c.peer (Segment due.0)) none quiet due.1.0 due.1.1
+    by_cause (inr timer) = unwoken h timer.0 quiet timer.2
+>>>>>>> 717e2c4d (Each datagram that waits is a place among what is due at a host: its own hop is asked for, and it holds none back)
 
 -- Of every host.
 
@@ -415,9 +468,9 @@ reply-of-run h w run at =
     let routed : is_on_route h.interface.routes (sought w.reply) ≡ true = all-of (λ (x : Waiting). is_on_route h.interface.routes (sought x.reply) ≡ true) h.interface.replies w keeps.routed at in
     (reply-due h w at, reply-comes h w keeps.few at routed)
 
-pub datagram-of-run : (h : HostView) (e : Entry) (bound : Option Endpoint) (socket : SocketView) (first : Outgoing) (others : List Outgoing) → HasRun h → Contains h.sockets.entries e → e.role ≡ Datagrams bound socket
-    → socket.outbox ≡ first ∷ others → IsTrue (is_routed h.interface first.peer.addr) → IsDueSoon h (EntryOf e)
-datagram-of-run h e bound socket first others run at is waits routed = let keeps = run-side run.config run.events h run.runs in datagram-comes h e bound socket first others keeps.few at is waits routed
+pub datagram-of-run : (h : HostView) (e : Entry) (bound : Option Endpoint) (socket : SocketView) (place : ℕ) (o : OutDatagram) → HasRun h → Contains h.sockets.entries e → e.role ≡ Datagrams bound socket
+    → slice_get socket.outbox place ≡ Some o → IsTrue (is_routed h.interface o.peer.addr) → IsDueSoon h (EntryOf e o.peer (Datagram place))
+datagram-of-run h e bound socket place o run at is waits routed = let keeps = run-side run.config run.events h run.runs in datagram-comes h e bound socket place o keeps.few at is waits routed
 
 pub connection-of-run : (h : HostView) (e : Entry) (c : View) (listener : Option SocketId) → IsSoundHost h → HasRun h → Contains h.sockets.entries e → e.role ≡ Connected c listener → IsTrue (is_routed h.interface c.peer.addr)
     → HasToSend c → ConnectionComesUp h e c

@@ -1,7 +1,8 @@
 -- What goes out for the first entry for which a frame can.
-use Rattle.std.proofs.Common.{◌≡◌, ℕ, ◌+◌, ◌-◌, ◌*◌, ◌≤◌, ◌<◌, ◌&&◌, min, Bool, true, false, cond, List, [], ◌∷◌, ◌++◌, length, drop, slice_range, slice_get, get_or, Option, Some, None, is_some, option_map, IfSome, refl, sym, ◌∙◌, ap, subst, length-take}
+use Rattle.std.proofs.Common.{◌≡◌, ℕ, zero, suc, ◌+◌, ◌-◌, ◌*◌, ◌≤◌, ◌<◌, min, Bool, true, false, cond, List, [], ◌∷◌, ◌++◌, length, drop, slice_range, slice_get, get_or, Option, Some, None, is_some, option_map, IfSome, refl, sym, ◌∙◌, ap, subst, arith, length-take}
 use Rattle.std.specs.List.{find, position, AllWithin}
-use Rattle.std.proofs.lemmas.Option.{slice_get-get_or}
+use Rattle.std.proofs.Math.Seq.{drop-nil}
+use Rattle.std.proofs.lemmas.Option.{slice_get_past, slice_get-get_or}
 use Rattle.std.proofs.lemmas.List.{length-drop}
 use Rattle.ether.specs.declared.mac.Mac.{Mac}
 use Rattle.ipv4.specs.declared.addr.Addr.{Addr}
@@ -22,55 +23,33 @@ use Rattle.sockets.specs.declared.role.Role.TheVariants.{Idle, Listener, Connect
 use Rattle.sockets.specs.declared.emission.Emitted.{Emitted}
 use Rattle.sockets.specs.declared.emission.Emitted.TheVariants as emitted
 use Rattle.sockets.specs.declared.emission.Outgoing.{Outgoing}
-use Rattle.sockets.specs.Entries.{due_of, due_peer, due_emitted, has_due, is_due, sends, due_octets, due_front, len_of, source_of}
-use Rattle.sockets.specs.Emission.{emitted, emitted_octets, emitted_front}
+use Rattle.sockets.specs.Entries.{due_to, due_emitted, sends, due_octets, due_front, len_of, source_of, with_first}
+use Rattle.sockets.specs.Emission.{Next, IsNextAt, emitted, emitted_octets, emitted_front}
 use Rattle.sockets.specs.SocketsView.{SocketsView}
-use Rattle.sockets.proofs.Emitting.{peer_of_due, due_outgoing}
+use Rattle.sockets.proofs.Emitting.{due_outgoing, due_passes, found_due, next-found, next-none, emitted-found, emitted-none, emitted_front-found, emitted_octets-found}
 use Rattle.sockets.proofs.Firsts.{find-position, find-position_none, position-from_fails, position-none_passes}
 use Rattle.udp.specs.declared.cutting.Part.{Part}
 use Rattle.udp.specs.Datagram.{spelling}
 use Rattle.udp.specs.Fragments.{fragment, part_of}
 use Rattle.udp.proofs.Answering.{sent_len}
 use Rattle.udp.proofs.Covering.{part_is}
-use Rattle.udp_socket.specs.Emission.{datagram_of, fragment_of, head_of as datagram_head, octets_of as part_octets}
-use Rattle.udp_socket.specs.SocketView.{Outgoing as OutDatagram}
+use Rattle.udp_socket.specs.Emission.{datagram_of, fragment_of, head_of as datagram_head, octets_of as part_octets, due_octets as socket_octets, due_part}
+use Rattle.udp_socket.specs.SocketView.{Outgoing as OutDatagram, SocketView}
 use borrow.Rule.Slice.PartMut.{mid_of, put_mid}
 use Rattle.host.specs.HostView.{HostView}
 use Rattle.host.specs.declared.emission.Plan.{Plan}
 use Rattle.host.specs.declared.emission.Plan.TheVariants as plan
 use Rattle.host.specs.Plans.{IsFirst, plan_by, plan_to, planned, planned_or_nothing}
-use Rattle.host.specs.Emission.{Nothing, emission_by, emission_from, emission_to, emitted_frame, goes_out_from, table_emission, way_to}
+use Rattle.host.specs.Emission.{Nothing, emission_by, emission_to, emitted_frame, goes_out_from, table_emission}
 
--- where something is due to a peer, it is due
-due-peer : (role : Role) (peer : Endpoint) → due_peer role ≡ Some peer → has_due role ≡ true
-due-peer (Idle buffers bound) peer e = cc
-due-peer (Listener local backlog) peer e = cc
-due-peer (Connected c listener) peer e = by_due (has_due (Connected c listener)) e
-  where
-    by_due : (b : Bool) → cond b (Some c.peer) None ≡ Some peer → b ≡ true
-    by_due true is = refl
-    by_due false is = cc
-due-peer (Datagrams bound socket) peer e = ap (λ o. is_some o) e
-
--- whether what an entry has due goes out is what can be done for its peer's address
-pub sends_by : (h : HostView) (now : Moment) (e : Entry) (peer : Endpoint) → due_peer e.role ≡ Some peer → sends (goes_out_from h now) e ≡ goes_out (way h.interface now peer.addr)
-sends_by h now e peer is =
-    ap (λ b. b && goes_out (way_to h now (due_peer e.role))) (due-peer e.role peer is) ∙ ap (λ p. goes_out (way_to h now p)) is
-
--- what goes out for it, by its peer
-table_from : (h : HostView) (now : Moment) (e : Entry) (peer : Option Endpoint) → find (sends (goes_out_from h now)) h.sockets.entries ≡ Some e → due_peer e.role ≡ peer
-    → table_emission h now ≡ emission_to h now peer
-table_from h now e peer found is = ap (emission_from h now) found ∙ ap (emission_to h now) is
-
--- the entry in its place
-pub entry_from : (h : HostView) (now : Moment) (place : ℕ) (x : Entry) (entries : List Entry) (peer : Option Endpoint) → position (sends (goes_out_from h now)) h.sockets.entries ≡ Some place
-    → entries ≡ h.sockets.entries → x ≡ get_or entries place x → due_peer x.role ≡ peer → table_emission h now ≡ emission_to h now peer
-entry_from h now place x entries peer first same at is =
-    table_from h now x peer (find-position (sends (goes_out_from h now)) h.sockets.entries place x first (at ∙ ap (λ (l : List Entry). get_or l place x) same)) is
+-- what goes out for the table, by what the first entry of which something can has due
+pub table_from : (h : HostView) (now : Moment) (e : Entry) (due : Endpoint × Outgoing) → find (sends (goes_out_from h now)) h.sockets.entries ≡ Some e → due_to (goes_out_from h now) e.role ≡ Some due
+    → table_emission h now ≡ emission_by due.0.addr (way h.interface now due.0.addr)
+table_from h now e due found is = ap (λ (o : Option Next). emission_to h now (option_map (λ next. next.peer) o)) (next-found h.sockets (goes_out_from h now) e due found is)
 
 -- no entry sends
-pub none_from : (h : HostView) (now : Moment) → position (sends (goes_out_from h now)) h.sockets.entries ≡ None → table_emission h now ≡ Nothing
-none_from h now none = ap (emission_from h now) (find-position_none (sends (goes_out_from h now)) h.sockets.entries none)
+pub none_from : (h : HostView) (now : Moment) → find (sends (goes_out_from h now)) h.sockets.entries ≡ None → table_emission h now ≡ Nothing
+none_from h now none = ap (λ (o : Option Next). emission_to h now (option_map (λ next. next.peer) o)) (next-none h.sockets (goes_out_from h now) none)
 
 -- The octets of what goes out, as many as are said, are at the front.
 
@@ -84,57 +63,59 @@ part_len source o number =
     ∙ length-take 1480 (drop (1480 * number) payload)
     ∙ ap (λ n. min 1480 n) (length-drop (1480 * number) payload ∙ ap (λ n. n - 1480 * number) len)
 
-front_is : (own : Addr) (role : Role) (out : List ℕ) (what : Emitted) → due_emitted role ≡ Some what → due_front own role out ≡ due_octets own role ++ drop (len_of what) out
-front_is own role out what e = rw e refl
+front_is : (own : Addr) (due : Outgoing) (role : Role) (out : List ℕ) (what : Emitted) → due_emitted due role ≡ Some what → due_front own due role out ≡ due_octets own due role ++ drop (len_of what) out
+front_is own due role out what e = rw e refl
 
 -- the first entry's
-pub emitted_front_is : (h : SocketsView) (goes : Entry → Bool) (out : List ℕ) (what : Emitted) → Some what ≡ emitted h goes → emitted_front h goes out ≡ emitted_octets h goes ++ drop (len_of what) out
+pub emitted_front_is : (h : SocketsView) (goes : Addr → Bool) (out : List ℕ) (what : Emitted) → Some what ≡ emitted h goes → emitted_front h goes out ≡ emitted_octets h goes ++ drop (len_of what) out
 emitted_front_is h goes out what e = by_entry (find (sends goes) h.entries) refl
   where
     by_entry : (o : Option Entry) → find (sends goes) h.entries ≡ o → emitted_front h goes out ≡ emitted_octets h goes ++ drop (len_of what) out
-    by_entry None found = let told : emitted h goes ≡ None = rw found in let no = e ∙ told in cc
+    by_entry None found = let no = e ∙ emitted-none h goes found in cc
     by_entry (Some x) found =
-        let told : emitted h goes ≡ due_emitted x.role = rw found in
-        let front : emitted_front h goes out ≡ due_front h.addr x.role out = rw found in
-        let octets : emitted_octets h goes ≡ due_octets h.addr x.role = rw found in
-        front ∙ front_is h.addr x.role out what (sym told ∙ sym e) ∙ ap (λ l. l ++ drop (len_of what) out) (sym octets)
+        let due = found_due h goes x found in
+        emitted_front-found h goes out x due.0 found due.1
+        ∙ front_is h.addr due.0.1 x.role out what (sym (emitted-found h goes x due.0 found due.1) ∙ sym e)
+        ∙ ap (λ l. l ++ drop (len_of what) out) (sym (emitted_octets-found h goes x due.0 found due.1))
 
-role_octets_len : (own : Addr) (role : Role) (what : Emitted) → due_emitted role ≡ Some what → length (due_octets own role) ≡ len_of what
-role_octets_len own (Idle buffers bound) what e = cc
-role_octets_len own (Listener local backlog) what e = cc
-role_octets_len own (Connected c listener) what e = by_due (first_due c) refl e
+role_octets_len : (own : Addr) (first : Outgoing) (role : Role) (what : Emitted) → due_emitted first role ≡ Some what → length (due_octets own first role) ≡ len_of what
+role_octets_len own first (Idle buffers bound) what e = cc
+role_octets_len own first (Listener local backlog) what e = cc
+role_octets_len own first (Connected c listener) what e = by_due (first_due c) refl e
   where
-    by_due : (o : Option Due) → first_due c ≡ o → option_map (λ due. emitted.Segment (segment_len c due)) o ≡ Some what → length (due_octets own (Connected c listener)) ≡ len_of what
-    by_due None first e = cc
-    by_due (Some due) first e =
+    by_due : (o : Option Due) → first_due c ≡ o → option_map (λ due. emitted.Segment (segment_len c due)) o ≡ Some what → length (due_octets own first (Connected c listener)) ≡ len_of what
+    by_due None is e = cc
+    by_due (Some due) is e =
         let same : emitted.Segment (segment_len c due) ≡ what = cc in
-        let octets : due_octets own (Connected c listener) ≡ due_segment c due = rw first in
+        let octets : due_octets own first (Connected c listener) ≡ due_segment c due = rw is in
         ap length octets ∙ sent_octets_len c.local.addr c.peer.addr (head_of c due) (octets_of c due) ∙ ap len_of same
-role_octets_len own (Datagrams bound socket) what e = by_outbox socket.outbox refl
+role_octets_len own first (Datagrams bound socket) what e = by_socket (with_first first socket) e
   where
-    by_outbox : (out : List OutDatagram) → socket.outbox ≡ out → length (due_octets own (Datagrams bound socket)) ≡ len_of what
-    by_outbox [] at =
-        let none : due_emitted (Datagrams bound socket) ≡ None = rw at refl in
+    by_outbox : (s : SocketView) (out : List OutDatagram) → s.outbox ≡ out → option_map (λ (part : Part). emitted.Datagram part) (due_part s) ≡ Some what → length (socket_octets (source_of own bound) s) ≡ len_of what
+    by_outbox s [] at e =
+        let none : option_map (λ (part : Part). emitted.Datagram part) (due_part s) ≡ None = rw at refl in
         let no = sym none ∙ e in cc
-    by_outbox (o ∷ rest) at =
-        let part : Part = record { identification = o.identification; fragment = fragment_of o socket.parts } in
-        let told : due_emitted (Datagrams bound socket) ≡ Some (emitted.Datagram part) = rw at refl in
+    by_outbox s (o ∷ rest) at e =
+        let part : Part = record { identification = o.identification; fragment = fragment_of o s.parts } in
+        let told : option_map (λ (part : Part). emitted.Datagram part) (due_part s) ≡ Some (emitted.Datagram part) = rw at refl in
         let same : emitted.Datagram part ≡ what = (let both = sym told ∙ e in cc) in
-        let octets : due_octets own (Datagrams bound socket) ≡ part_octets (source_of own bound) o socket.parts = rw at refl in
-        ap length octets ∙ part_len (source_of own bound) o socket.parts ∙ ap len_of same
+        let octets : socket_octets (source_of own bound) s ≡ part_octets (source_of own bound) o s.parts = rw at refl in
+        ap length octets ∙ part_len (source_of own bound) o s.parts ∙ ap len_of same
 
-pub emitted_octets_len : (h : SocketsView) (goes : Entry → Bool) (what : Emitted) → Some what ≡ emitted h goes → length (emitted_octets h goes) ≡ len_of what
+    by_socket : (s : SocketView) → option_map (λ (part : Part). emitted.Datagram part) (due_part s) ≡ Some what → length (socket_octets (source_of own bound) s) ≡ len_of what
+    by_socket s e = by_outbox s s.outbox refl e
+
+pub emitted_octets_len : (h : SocketsView) (goes : Addr → Bool) (what : Emitted) → Some what ≡ emitted h goes → length (emitted_octets h goes) ≡ len_of what
 emitted_octets_len h goes what e = by_entry (find (sends goes) h.entries) refl
   where
     by_entry : (o : Option Entry) → find (sends goes) h.entries ≡ o → length (emitted_octets h goes) ≡ len_of what
-    by_entry None found = let told : emitted h goes ≡ None = rw found in let no = e ∙ told in cc
+    by_entry None found = let no = e ∙ emitted-none h goes found in cc
     by_entry (Some x) found =
-        let told : emitted h goes ≡ due_emitted x.role = rw found in
-        let octets : emitted_octets h goes ≡ due_octets h.addr x.role = rw found in
-        ap length octets ∙ role_octets_len h.addr x.role what (sym told ∙ sym e)
+        let due = found_due h goes x found in
+        ap length (emitted_octets-found h goes x due.0 found due.1) ∙ role_octets_len h.addr due.0.1 x.role what (sym (emitted-found h goes x due.0 found due.1) ∙ sym e)
 
 -- they stand in a frame behind its heads
-pub framed_out : (h : HostView) (goes : Entry → Bool) (mac : Mac) (to : Addr) (out written after : List ℕ) (what : Emitted) (m : ℕ) → length out ≡ 1514 → Some what ≡ emitted h.sockets goes
+pub framed_out : (h : HostView) (goes : Addr → Bool) (mac : Mac) (to : Addr) (out written after : List ℕ) (what : Emitted) (m : ℕ) → length out ≡ 1514 → Some what ≡ emitted h.sockets goes
     → written ≡ emitted_front h.sockets goes (mid_of 34 1480 out) → len_of what ≤ 1480 → 34 + len_of what ≤ m
     → after ≡ emitted_frame h.interface mac to (Some what) (slice_range (put_mid 34 1480 out written) 34 (34 + len_of what)) ++ drop m (put_mid 34 1480 out written)
     → after ≡ emitted_frame h.interface mac to (emitted h.sockets goes) (emitted_octets h.sockets goes) ++ drop m out
@@ -145,59 +126,109 @@ framed_out h goes mac to out written after what m len told front fits past is =
 
 -- What is planned for an entry.
 
--- to whom it goes
-peer_due : (e : Entry) (o : Option (Endpoint × Outgoing)) → due_of e.role ≡ o → due_peer e.role ≡ option_map (λ due. due.0) o
-peer_due e o is = peer_of_due e.role ∙ ap (λ (d : Option (Endpoint × Outgoing)). option_map (λ due. due.0) d) is
-
--- it sends where something is
-plan_sends : (h : HostView) (now : Moment) (place : ℕ) (e : Entry) → sends (goes_out_from h now) e ≡ is_some (plan_to h now place (due_of e.role))
-plan_sends h now place e = by_due (due_of e.role) refl
+-- the first of what it has due is that for which something is, ..
+passed-by : (h : HostView) (now : Moment) (place : ℕ) (due : Endpoint × Outgoing) → goes_out_from h now due.0.addr ≡ is_some (plan_by place due.1 due.0.addr (way h.interface now due.0.addr))
+passed-by h now place due = by_way (way h.interface now due.0.addr)
   where
-    no_more : (b : Bool) → (b && false) ≡ false
-    no_more true = refl
-    no_more false = refl
+    by_way : (w : Way) → goes_out w ≡ is_some (plan_by place due.1 due.0.addr w)
+    by_way (To mac) = refl
+    by_way (Ask hop) = refl
+    by_way Waits = refl
 
-    by_way : (what : Outgoing) (to : Addr) (w : Way) → goes_out w ≡ is_some (plan_by place what to w)
-    by_way what to (To mac) = refl
-    by_way what to (Ask hop) = refl
-    by_way what to Waits = refl
+-- .. of those from one on
+abbrev pub first_from : HostView → Moment → List (Endpoint × Outgoing) → Option (Endpoint × Outgoing)
+first_from h now dues = find (λ (due : Endpoint × Outgoing). goes_out_from h now due.0.addr) dues
 
-    by_due : (o : Option (Endpoint × Outgoing)) → due_of e.role ≡ o → sends (goes_out_from h now) e ≡ is_some (plan_to h now place o)
-    by_due None is = ap (λ p. is_due e && goes_out (way_to h now p)) (peer_due e None is) ∙ no_more (is_due e)
-    by_due (Some due) is = sends_by h now e due.0 (peer_due e (Some due) is) ∙ by_way due.1 due.0.addr (way h.interface now due.0.addr)
+pub plan_here : (h : HostView) (now : Moment) (place : ℕ) (due : Endpoint × Outgoing) (rest : List (Endpoint × Outgoing)) (p : Option Plan) → p ≡ plan_by place due.1 due.0.addr (way h.interface now due.0.addr) → is_some p ≡ true
+    → plan_to h now place (first_from h now (due ∷ rest)) ≡ p
+plan_here h now place due rest p is some =
+    let passes : goes_out_from h now due.0.addr ≡ true = passed-by h now place due ∙ ap (λ (o : Option Plan). is_some o) (sym is) ∙ some in
+    ap (λ (b : Bool). plan_to h now place (cond b (Some due) (first_from h now rest))) passes ∙ sym is
+
+pub plan_further : (h : HostView) (now : Moment) (place : ℕ) (due : Endpoint × Outgoing) (rest : List (Endpoint × Outgoing)) (p : Option Plan) → p ≡ plan_by place due.1 due.0.addr (way h.interface now due.0.addr) → is_some p ≡ false
+    → first_from h now (due ∷ rest) ≡ first_from h now rest
+plan_further h now place due rest p is none =
+    let fails : goes_out_from h now due.0.addr ≡ false = passed-by h now place due ∙ ap (λ (o : Option Plan). is_some o) (sym is) ∙ none in
+    ap (λ (b : Bool). cond b (Some due) (first_from h now rest)) fails
+
+-- what is behind a place begins with what is in it
+pub from-place : {X : Type 0} (xs : List X) (n : ℕ) (x : X) → slice_get xs n ≡ Some x → drop n xs ≡ x ∷ drop (n + 1) xs
+from-place [] n x at = cc
+from-place (y ∷ ys) zero x at = let same : y ≡ x = cc in ap (λ z. z ∷ ys) same
+from-place (y ∷ ys) (suc n) x at = let next : suc (n + 1) ≡ suc n + 1 = omega arith in from-place ys n x at ∙ ap (λ k. x ∷ drop k (y ∷ ys)) next
+
+pub past-place : {X : Type 0} (xs : List X) (n : ℕ) → slice_get xs n ≡ None → drop n xs ≡ []
+past-place [] n at = drop-nil n
+past-place (y ∷ ys) zero at = cc
+past-place (y ∷ ys) (suc n) at = past-place ys n at
+
+-- what the loop over them finds: something in a place, nothing there, nothing more, or the end
+
+pub plan_found : (h : HostView) (now : Moment) (place : ℕ) (dues : List (Endpoint × Outgoing)) (n : ℕ) (due : Endpoint × Outgoing) (p : Option Plan) → first_from h now dues ≡ first_from h now (drop n dues) → slice_get dues n ≡ Some due
+    → p ≡ plan_by place due.1 due.0.addr (way h.interface now due.0.addr) → is_some p ≡ true → p ≡ plan_to h now place (first_from h now dues)
+plan_found h now place dues n due p so_far at is some =
+    sym (ap (plan_to h now place) (so_far ∙ ap (first_from h now) (from-place dues n due at)) ∙ plan_here h now place due (drop (n + 1) dues) p is some)
+
+pub plan_passed : (h : HostView) (now : Moment) (place : ℕ) (dues : List (Endpoint × Outgoing)) (n : ℕ) (due : Endpoint × Outgoing) (p : Option Plan) → first_from h now dues ≡ first_from h now (drop n dues) → slice_get dues n ≡ Some due
+    → p ≡ plan_by place due.1 due.0.addr (way h.interface now due.0.addr) → is_some p ≡ false → first_from h now dues ≡ first_from h now (drop (n + 1) dues)
+plan_passed h now place dues n due p so_far at is none =
+    so_far ∙ ap (first_from h now) (from-place dues n due at) ∙ plan_further h now place due (drop (n + 1) dues) p is none
+
+pub plan_nothing : (h : HostView) (now : Moment) (place : ℕ) (dues : List (Endpoint × Outgoing)) (n : ℕ) → first_from h now dues ≡ first_from h now (drop n dues) → slice_get dues n ≡ None → None ≡ plan_to h now place (first_from h now dues)
+plan_nothing h now place dues n so_far none = sym (ap (plan_to h now place) (so_far ∙ ap (first_from h now) (past-place dues n none)))
+
+pub plan_ended : (h : HostView) (now : Moment) (place : ℕ) (dues : List (Endpoint × Outgoing)) (n : ℕ) → first_from h now dues ≡ first_from h now (drop n dues) → length dues ≤ n → None ≡ plan_to h now place (first_from h now dues)
+plan_ended h now place dues n so_far past = plan_nothing h now place dues n so_far (slice_get_past dues n past)
+
+-- it sends where something is planned
+plan_sends : (h : HostView) (now : Moment) (place : ℕ) (e : Entry) → sends (goes_out_from h now) e ≡ is_some (plan_to h now place (due_to (goes_out_from h now) e.role))
+plan_sends h now place e = by_due (due_to (goes_out_from h now) e.role) refl
+  where
+    by_due : (o : Option (Endpoint × Outgoing)) → due_to (goes_out_from h now) e.role ≡ o → is_some o ≡ is_some (plan_to h now place o)
+    by_due None is = refl
+    by_due (Some due) is = sym (due_passes (goes_out_from h now) e.role due is) ∙ passed-by h now place due
 
 -- what goes out then is what is planned, of the first entry that sends
 planned_to : (h : HostView) (now : Moment) (place : ℕ) (x : Entry) (due : Option (Endpoint × Outgoing)) (p : Plan) → plan_to h now place due ≡ Some p → position (sends (goes_out_from h now)) h.sockets.entries ≡ Some place
-    → slice_get h.sockets.entries place ≡ Some x → due_of x.role ≡ due → (emission_to h now (option_map (λ d. d.0) due) ≡ planned p) × IsFirst h now p
-planned_to h now place x None p some first there is = cc
-planned_to h now place x (Some due) p some first there is = by_way (way h.interface now due.0.addr) refl some
+    → find (sends (goes_out_from h now)) h.sockets.entries ≡ Some x → slice_get h.sockets.entries place ≡ Some x → due_to (goes_out_from h now) x.role ≡ due → (table_emission h now ≡ planned p) × IsFirst h now p
+planned_to h now place x None p some first found there is = cc
+planned_to h now place x (Some due) p some first found there is = by_way (way h.interface now due.0.addr) refl some
   where
-    by_way : (w : Way) → way h.interface now due.0.addr ≡ w → plan_by place due.1 due.0.addr w ≡ Some p → (emission_by due.0.addr w ≡ planned p) × IsFirst h now p
-    by_way (To mac) goes told =
+    goes : Addr → Bool
+    goes = goes_out_from h now
+
+    next : IsNextAt h.sockets goes place due.1
+    next = (first, ap (λ (o : Option Next). option_map (λ (n : Next). n.what) o) (next-found h.sockets goes x due found is))
+
+    out : (w : Way) → way h.interface now due.0.addr ≡ w → table_emission h now ≡ emission_by due.0.addr w
+    out w leads = table_from h now x due found is ∙ ap (emission_by due.0.addr) leads
+
+    by_way : (w : Way) → way h.interface now due.0.addr ≡ w → plan_by place due.1 due.0.addr w ≡ Some p → (table_emission h now ≡ planned p) × IsFirst h now p
+    by_way (To mac) leads told =
         let same : plan.Send place due.1 mac due.0.addr ≡ p = cc in
-        (ap planned same, subst (IsFirst h now) same (first, (x, there, due_outgoing x.role due is)))
-    by_way (Ask hop) goes told =
+        (out (To mac) leads ∙ ap planned same, subst (IsFirst h now) same (next, (x, there, due_outgoing goes x.role due is)))
+    by_way (Ask hop) leads told =
         let same : plan.Ask hop ≡ p = cc in
-        (ap planned same, subst (IsFirst h now) same (asks h.interface now due.0.addr hop goes))
-    by_way Waits goes told = cc
+        (out (Ask hop) leads ∙ ap planned same, subst (IsFirst h now) same (asks h.interface now due.0.addr hop leads))
+    by_way Waits leads told = cc
 
 -- the entry in this place is the first that sends
 pub plan_at : (h : HostView) (now : Moment) (place : ℕ) (x : Entry) (entries : List Entry) (o : Option Plan) → entries ≡ h.sockets.entries → place < length entries → AllWithin (λ (e : Entry). sends (goes_out_from h now) e ≡ false) entries 0 place → x ≡ get_or entries place x
-    → o ≡ plan_to h now place (due_of x.role) → is_some o ≡ true → (table_emission h now ≡ planned_or_nothing o) × IfSome o (IsFirst h now)
+    → o ≡ plan_to h now place (due_to (goes_out_from h now) x.role) → is_some o ≡ true → (table_emission h now ≡ planned_or_nothing o) × IfSome o (IsFirst h now)
 plan_at h now place x entries None same within fails at is some = cc
 plan_at h now place x entries (Some p) same within fails at is some =
     let goes : sends (goes_out_from h now) x ≡ true = plan_sends h now place x ∙ ap (λ (o : Option Plan). is_some o) (sym is) in
     let passes : position (sends (goes_out_from h now)) entries ≡ Some place = position-from_fails (sends (goes_out_from h now)) entries place x within fails at goes in
     let first : position (sends (goes_out_from h now)) h.sockets.entries ≡ Some place = ap (λ (l : List Entry). position (sends (goes_out_from h now)) l) (sym same) ∙ passes in
+    let found : find (sends (goes_out_from h now)) h.sockets.entries ≡ Some x = find-position (sends (goes_out_from h now)) h.sockets.entries place x first (at ∙ ap (λ (l : List Entry). get_or l place x) same) in
     let there : slice_get h.sockets.entries place ≡ Some x = ap (λ (l : List Entry). slice_get l place) (sym same) ∙ slice_get-get_or entries place x within ∙ ap Some (sym at) in
-    let planned_is = planned_to h now place x (due_of x.role) p (sym is) first there refl in
-    (entry_from h now place x entries (option_map (λ d. d.0) (due_of x.role)) first same at (peer_of_due x.role) ∙ planned_is.0, planned_is.1)
+    planned_to h now place x (due_to (goes_out_from h now) x.role) p (sym is) first found there refl
 
 -- the entry in this place doesn't send
-pub plan_missed : (h : HostView) (now : Moment) (place : ℕ) (x : Entry) (o : Option Plan) → o ≡ plan_to h now place (due_of x.role) → is_some o ≡ false → sends (goes_out_from h now) x ≡ false
+pub plan_missed : (h : HostView) (now : Moment) (place : ℕ) (x : Entry) (o : Option Plan) → o ≡ plan_to h now place (due_to (goes_out_from h now) x.role) → is_some o ≡ false → sends (goes_out_from h now) x ≡ false
 plan_missed h now place x o is missed = plan_sends h now place x ∙ ap (λ (p : Option Plan). is_some p) (sym is) ∙ missed
 
 -- no entry sends
 pub plan_past : (h : HostView) (now : Moment) (entries : List Entry) → entries ≡ h.sockets.entries → AllWithin (λ (e : Entry). sends (goes_out_from h now) e ≡ false) entries 0 (length entries) → table_emission h now ≡ Nothing
 plan_past h now entries same fails =
-    none_from h now (ap (λ (l : List Entry). position (sends (goes_out_from h now)) l) (sym same) ∙ position-none_passes (sends (goes_out_from h now)) entries fails)
+    none_from h now (find-position_none (sends (goes_out_from h now)) h.sockets.entries (ap (λ (l : List Entry). position (sends (goes_out_from h now)) l) (sym same) ∙ position-none_passes (sends (goes_out_from h now)) entries fails))

@@ -1,8 +1,9 @@
 -- The deadline, and that a tick before it changes nothing where no neighbour is forgotten.
-use Rattle.std.proofs.Common.{◌≡◌, ℕ, ◌<◌, ◌≤◌, ◌&&◌, ◌||◌, not, nat_lt, Bool, true, false, cond, List, [], ◌∷◌, filter, fold, length, Option, Some, None, IfSome, is_some, option_map, refl, sym, ◌∙◌, ap, arith}
-use Rattle.std.specs.List.{find, list_any, AllByRecursion}
+use Rattle.std.proofs.Common.{◌≡◌, ℕ, ◌+◌, drop, ◌<◌, ◌≤◌, ◌&&◌, ◌||◌, not, nat_lt, Bool, true, false, cond, List, [], ◌∷◌, filter, fold, length, Option, Some, None, IfSome, is_some, option_map, refl, sym, ◌∙◌, ap, arith}
+use Rattle.std.specs.List.{find, list_any, slice_get, AllByRecursion}
 use Rattle.std.proofs.lemmas.Bool.Decides.{nat_tests}
 use Rattle.ipv4.specs.declared.addr.Addr.{Addr}
+use Rattle.ipv4.specs.declared.addr.Endpoint.{Endpoint}
 use Rattle.clock.specs.declared.moment.Moment.{Moment}
 use Rattle.clock.specs.Moments.{after, has_come, sooner}
 use Rattle.clock.proofs.Comings.{sooner-has_come}
@@ -22,17 +23,24 @@ use Rattle.sockets.specs.declared.entry.SocketId.{SocketId}
 use Rattle.sockets.specs.declared.role.Role.{Role}
 use Rattle.sockets.specs.declared.role.Role.TheVariants.{Idle, Listener, Connected, Datagrams}
 use Rattle.clock.specs.declared.moment.TheConstants.{HOP_WAIT}
+<<<<<<< HEAD
 use Rattle.sockets.specs.Entries.{due_peer, entries_after_steps, is_kept, with_role}
 use Rattle.sockets.specs.Lost.{after_giving_up, give_up_at, give_up_fate_of, role_after_giving_up, waits_until}
 use Rattle.sockets.proofs.Followed.{by_test as by_either}
 use Rattle.tcp_state.specs.Hop.{unheard_until}
+=======
+use Rattle.sockets.specs.declared.emission.Outgoing.{Outgoing}
+use Rattle.sockets.specs.Entries.{dues_of, entries_after_steps, is_kept, with_role}
+use Rattle.sockets.specs.Lost.{after_giving_up, give_up_at, give_up_fate_of, is_given_up, role_after_giving_up}
+>>>>>>> 717e2c4d (Each datagram that waits is a place among what is due at a host: its own hop is asked for, and it holds none back)
 use Rattle.sockets.specs.SocketsView.{SocketsView, later_moment}
 use Rattle.sockets.specs.Ticks.{after_tick as sockets_after_tick, least_deadline as timer_deadline}
 use Rattle.sockets.proofs.Deadlines.{tick_waits}
 use Rattle.tcp_state.specs.View.{View}
-use Rattle.udp_socket.specs.SocketView.{Outgoing, SocketView}
+use Rattle.udp_socket.specs.SocketView.{Outgoing as OutDatagram, SocketView}
 use Rattle.udp_socket.specs.Waits.{after_giving_up as datagrams_after, deadline, deadline_of as datagram_deadline, is_given_up as is_datagram_given_up, parts_left}
 use Rattle.host.specs.HostView.{HostView, with_sockets}
+use Rattle.host.proofs.Emitting.{from-place, past-place}
 use Rattle.host.specs.Ticks.{after_tick, all_reported, hop_deadline, lacks_hop, least_deadline, request_deadline, table_after_tick}
 
 -- Tests and lists.
@@ -83,6 +91,21 @@ deadline-come h now =
     fold-come (hop_deadline h) (sooner sides (pool_deadline h.pool)) h.sockets.entries now
     ∙ ap (λ b. b || hops) (sooner-has_come sides (pool_deadline h.pool) now)
     ∙ ap (λ b. (b || has_come (pool_deadline h.pool) now) || hops) (sooner-has_come (timer_deadline h.sockets) (reply_deadline h.interface h.sockets.kept) now)
+
+-- the least moment of the requests for these, from a first one on
+abbrev pub requests_from : HostView → Option Moment → List (Endpoint × Outgoing) → Option Moment
+requests_from h first dues = fold (λ least due. sooner least (asked_until h.interface h.sockets.kept due.0.addr)) first dues
+
+pub requests_here : (h : HostView) (least : Option Moment) (dues : List (Endpoint × Outgoing)) (n : ℕ) (due : Endpoint × Outgoing) → requests_from h None dues ≡ requests_from h least (drop n dues) → slice_get dues n ≡ Some due
+    → requests_from h None dues ≡ requests_from h (sooner least (asked_until h.interface h.sockets.kept due.0.addr)) (drop (n + 1) dues)
+requests_here h least dues n due so_far at = so_far ∙ ap (requests_from h least) (from-place dues n due at)
+
+pub requests_past : (h : HostView) (least : Option Moment) (dues : List (Endpoint × Outgoing)) (n : ℕ) → requests_from h None dues ≡ requests_from h least (drop n dues) → slice_get dues n ≡ None → requests_from h None dues ≡ least
+requests_past h least dues n so_far none = so_far ∙ ap (requests_from h least) (past-place dues n none)
+
+pub none-left : {X : Type 0} (o : Option X) → ((x : X) → o ≡ Some x → ⊥) → o ≡ None
+none-left None never = refl
+none-left (Some x) never = absurd (never x refl)
 
 -- Moments.
 
@@ -188,16 +211,16 @@ connected-stays h moment order aged c l early =
     (λ other. let numbers : has_come (unheard_until c) moment ≡ false = rw other at waits in rw (other, unknown, numbers) (refl, refl)))
 
 -- the datagrams of a UDP socket
-datagrams-stay : (h : HostView) (moment : Moment) → h.sockets.kept.0 ≤ moment.0 → after_age moment h.interface.cache ≡ h.interface.cache → (os : List Outgoing)
-    → AllByRecursion (λ (o : Outgoing). has_come (datagram_deadline (lacks_hop h h.sockets.kept) o) moment ≡ false) os
-    → AllByRecursion (λ (o : Outgoing). not (is_datagram_given_up (lacks_hop h moment) moment o) ≡ true) os
+datagrams-stay : (h : HostView) (moment : Moment) → h.sockets.kept.0 ≤ moment.0 → after_age moment h.interface.cache ≡ h.interface.cache → (os : List OutDatagram)
+    → AllByRecursion (λ (o : OutDatagram). has_come (datagram_deadline (lacks_hop h h.sockets.kept) o) moment ≡ false) os
+    → AllByRecursion (λ (o : OutDatagram). not (is_datagram_given_up (lacks_hop h moment) moment o) ≡ true) os
 datagrams-stay h moment order aged [] all = tt
 datagrams-stay h moment order aged (o ∷ os) all =
     let here = goes-on (after o.since HOP_WAIT) moment (knows_hop h.interface moment o.peer.addr) (knows_hop h.interface h.sockets.kept o.peer.addr)
     (known-alike h.interface h.sockets.kept moment o.peer.addr order aged) all.0 in
     (ap not here, datagrams-stay h moment order aged os all.1)
 
-parts-stay : (lost : Addr → Bool) (moment : Moment) (os : List Outgoing) (parts : ℕ) → AllByRecursion (λ (o : Outgoing). not (is_datagram_given_up lost moment o) ≡ true) os → parts_left lost moment os parts ≡ parts
+parts-stay : (lost : Addr → Bool) (moment : Moment) (os : List OutDatagram) (parts : ℕ) → AllByRecursion (λ (o : OutDatagram). not (is_datagram_given_up lost moment o) ≡ true) os → parts_left lost moment os parts ≡ parts
 parts-stay lost moment [] parts all = refl
 parts-stay lost moment (o ∷ os) parts all = by_test (is_datagram_given_up lost moment o) all.0
   where
@@ -210,8 +233,8 @@ socket-stays : (h : HostView) (moment : Moment) → h.sockets.kept.0 ≤ moment.
 socket-stays h moment order aged s early =
     let waiting = none-of (λ o. has_come (datagram_deadline (lacks_hop h h.sockets.kept) o) moment) s.outbox (sym (fold-come (datagram_deadline (lacks_hop h h.sockets.kept)) None s.outbox moment) ∙ early) in
     let all = datagrams-stay h moment order aged s.outbox waiting in
-    let kept : filter (λ (o : Outgoing). not (is_datagram_given_up (lacks_hop h moment) moment o)) s.outbox ≡ s.outbox =
-    all-kept (λ (o : Outgoing). not (is_datagram_given_up (lacks_hop h moment) moment o)) s.outbox all in
+    let kept : filter (λ (o : OutDatagram). not (is_datagram_given_up (lacks_hop h moment) moment o)) s.outbox ≡ s.outbox =
+    all-kept (λ (o : OutDatagram). not (is_datagram_given_up (lacks_hop h moment) moment o)) s.outbox all in
     let parts : parts_left (lacks_hop h moment) moment s.outbox s.parts ≡ s.parts = parts-stay (lacks_hop h moment) moment s.outbox s.parts all in
     λ k. record s { outbox = kept k; parts = parts k }
 
@@ -229,8 +252,8 @@ entries-stay : (h : HostView) (moment : Moment) → h.sockets.kept.0 ≤ moment.
     → entries_after_steps (give_up_fate_of (lacks_hop h moment) moment) (role_after_giving_up (lacks_hop h moment) moment) entries ≡ entries
 entries-stay h moment order aged [] all = refl
 entries-stay h moment order aged (e ∷ es) all =
-    let two = neither (has_come (give_up_at (lacks_hop h h.sockets.kept) e.role) moment) (has_come (request_deadline h (due_peer e.role)) moment)
-    (sym (sooner-has_come (give_up_at (lacks_hop h h.sockets.kept) e.role) (request_deadline h (due_peer e.role)) moment) ∙ all.0) in
+    let two = neither (has_come (give_up_at (lacks_hop h h.sockets.kept) e.role) moment) (has_come (request_deadline h (dues_of e.role)) moment)
+    (sym (sooner-has_come (give_up_at (lacks_hop h h.sockets.kept) e.role) (request_deadline h (dues_of e.role)) moment) ∙ all.0) in
     let here = role-stays h moment order aged e.role two.0 in
     let test = here.0 in
     let same : with_role (role_after_giving_up (lacks_hop h moment) moment) e ≡ e = ap (λ (r : Role). let x : Entry = record e { role = r } in x) here.1 in

@@ -1,6 +1,6 @@
 -- When what waits to go out is looked at next: it can go out, or the host has a deadline for it (RFC 1122 sections 2.3.2.1 and 2.3.2.2, RFC 9293
 -- section 3.8). `laws::what_is_due_comes_up` says that one of both is so, as long as the clock goes on.
-use Rattle.std.specs.Prelude.{◌≡◌, ◌⊎◌, ◌≤◌, ◌<◌, ◌+◌, ◌-◌, ◌^◌, Bool, false, true, IsTrue, List, [], ◌∷◌, Contains, Option, Some, None, option_map, is_some}
+use Rattle.std.specs.Prelude.{◌≡◌, ◌⊎◌, ◌≤◌, ◌<◌, ◌+◌, ◌-◌, ◌^◌, Bool, false, true, IsTrue, ℕ, List, [], Contains, slice_get, Option, Some, None, is_some}
 use Rattle.ipv4.specs.declared.addr.Addr.{Addr}
 use Rattle.ipv4.specs.declared.addr.Endpoint.{Endpoint}
 use Rattle.clock.specs.declared.moment.Moment.{Moment}
@@ -10,14 +10,15 @@ use Rattle.routes.specs.declared.route.Route.{Route}
 use Rattle.interface.specs.Routing.{next_hop}
 use Rattle.interface.specs.Timing.{sought}
 use Rattle.interface.specs.Ways.{is_routed}
+use Rattle.tcp_state.specs.declared.emission.Due.{Due}
 use Rattle.tcp_state.specs.Positions.{HasToSend}
 use Rattle.tcp_state.specs.View.{View}
 use Rattle.tcp_state.specs.Timing.{deadline}
 use Rattle.udp_socket.specs.SocketView.{Outgoing, SocketView}
+use Rattle.sockets.specs.declared.emission.Outgoing.TheVariants.{Segment}
 use Rattle.sockets.specs.declared.entry.Entry.{Entry}
 use Rattle.sockets.specs.declared.entry.SocketId.{SocketId}
 use Rattle.sockets.specs.declared.role.Role.TheVariants.{Connected, Datagrams}
-use Rattle.sockets.specs.Entries.{due_peer}
 use Rattle.host.specs.HostView.{HostView}
 use Rattle.host.specs.Places.{Place, ReplyOf, EntryOf, places, can_go_out}
 use Rattle.host.specs.Ticks.{least_deadline}
@@ -25,7 +26,7 @@ use Rattle.host.specs.Ticks.{least_deadline}
 -- the address to which what is due in a place goes; an ARP reply names its MAC, and needs none
 abbrev pub address_of : Place → Option Addr
 address_of (ReplyOf waiting) = sought waiting.reply
-address_of (EntryOf e) = option_map (λ peer. peer.addr) (due_peer e.role)
+address_of (EntryOf e peer what) = Some peer.addr
 
 -- a route leads to an address, where one is needed
 abbrev pub is_on_route : List Route → Option Addr → Bool
@@ -72,13 +73,13 @@ IsDueSoon h place = Contains (places h) place × ComesUp h place
 
 -- a connection is due and comes up, or the host is woken by the deadline of its own timers
 abbrev pub ConnectionComesUp : HostView → Entry → View → Type 0
-ConnectionComesUp h e c = IsDueSoon h (EntryOf e) ⊎ ((moment : Moment) × (deadline c ≡ Some moment) × IsWokenBy h moment)
+ConnectionComesUp h e c = ((due : Due) × IsDueSoon h (EntryOf e c.peer (Segment due))) ⊎ ((moment : Moment) × (deadline c ≡ Some moment) × IsWokenBy h moment)
 
--- Nothing waits that could be sent: no control reply; and no route leads to where a place's frame goes, the first datagram of a UDP socket, or what a
+-- Nothing waits that could be sent: no control reply; and no route leads to where a place's frame goes, any datagram of a UDP socket, or what a
 -- connection has to send, but for what is held at the end of the clock.
 pub record IsQuiet (h : HostView) : Type 0 where
   pub replies : h.interface.replies ≡ []
   pub due : (place : Place) → Contains (places h) place → (is_on_route h.interface.routes (address_of place) ≡ false) ⊎ IsHeldAtTheEnd h place
-  pub datagrams : (e : Entry) (bound : Option Endpoint) (socket : SocketView) (first : Outgoing) (others : List Outgoing) → Contains h.sockets.entries e → e.role ≡ Datagrams bound socket → socket.outbox ≡ first ∷ others
-      → is_routed h.interface first.peer.addr ≡ false
+  pub datagrams : (e : Entry) (bound : Option Endpoint) (socket : SocketView) (place : ℕ) (o : Outgoing) → Contains h.sockets.entries e → e.role ≡ Datagrams bound socket → slice_get socket.outbox place ≡ Some o
+      → is_routed h.interface o.peer.addr ≡ false
   pub connections : (e : Entry) (c : View) (listener : Option SocketId) → Contains h.sockets.entries e → e.role ≡ Connected c listener → IsTrue (is_routed h.interface c.peer.addr) → HasToSend c → IsPastAsking h c.peer.addr

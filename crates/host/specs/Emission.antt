@@ -1,6 +1,7 @@
--- What goes out: for the first control reply for which a frame can, and where there is none for the first entry, in order of id, with a
--- segment or a datagram due for which one can. Where the MAC of the next hop isn't known, the request for it goes out in that place (RFC 1122 section 2.3.2.2).
-use Rattle.std.specs.Prelude.{ℕ, ◌+◌, max, Bool, List, [], ◌++◌, drop, position, find, Option, Some, None, option_map}
+-- What goes out: for the first control reply for which a frame can, and where there is none for the first of what the entries have due, in order of
+-- id, segments and datagrams, for which one can. Where the MAC of the next hop isn't known, the request for it goes out in that place (RFC 1122 section
+-- 2.3.2.2).
+use Rattle.std.specs.Prelude.{ℕ, ◌+◌, max, Bool, List, [], ◌++◌, drop, position, Option, Some, None, option_map}
 use Rattle.ether.specs.declared.mac.Mac.{Mac}
 use Rattle.ipv4.specs.declared.addr.Addr.{Addr}
 use Rattle.ipv4.specs.declared.addr.Endpoint.{Endpoint}
@@ -13,23 +14,16 @@ use Rattle.interface.specs.InterfaceView.{InterfaceView}
 use Rattle.interface.specs.Emission.{segment_frame_to, part_frame_to, request_frame, asked, len_at, frame_at, after_emission as after_reply}
 use Rattle.sockets.specs.declared.emission.Emitted.{Emitted}
 use Rattle.sockets.specs.declared.emission.Emitted.TheVariants.{Segment, Datagram}
-use Rattle.sockets.specs.declared.entry.Entry.{Entry}
-use Rattle.sockets.specs.Entries.{due_peer, sends}
 use Rattle.sockets.specs.SocketsView.{later_moment}
-use Rattle.sockets.specs.Emission.{emitted, emitted_octets, after_segment_sent}
+use Rattle.sockets.specs.Emission.{next_out, emitted, emitted_octets, after_segment_sent}
 use Rattle.host.specs.HostView.{HostView, with_interface, with_sockets}
 
--- what can be done at a moment for a segment or a datagram that is due to this peer, where one is due
-abbrev pub way_to : HostView → Moment → Option Endpoint → Way
-way_to h moment None = Waits
-way_to h moment (Some peer) = way h.interface moment peer.addr
+-- a frame can go out for what is due to this address: it, or the request for its hop
+abbrev pub goes_out_from : HostView → Moment → Addr → Bool
+goes_out_from h moment to = goes_out (way h.interface moment to)
 
--- a frame can go out for what an entry has due: it, or the request for its hop
-abbrev pub goes_out_from : HostView → Moment → Entry → Bool
-goes_out_from h moment e = goes_out (way_to h moment (due_peer e.role))
-
--- What goes out: the frame for the reply in this place, that is the reply or the request for its hop; what is due first of the first entry for
--- which a frame can, in one to this MAC and for this address; in its place the request for this hop; or nothing.
+-- What goes out: the frame for the reply in this place, that is the reply or the request for its hop; the first of what is due for which a frame can,
+-- in one to this MAC and for this address; in its place the request for this hop; or nothing.
 pub data Emission : Type 0 where
   Replies : ℕ → Emission
   Sends : Mac → Addr → Emission
@@ -47,14 +41,9 @@ abbrev pub emission_to : HostView → Moment → Option Endpoint → Emission
 emission_to h moment None = Nothing
 emission_to h moment (Some peer) = emission_by peer.addr (way h.interface moment peer.addr)
 
--- for an entry
-abbrev pub emission_from : HostView → Moment → Option Entry → Emission
-emission_from h moment None = Nothing
-emission_from h moment (Some e) = emission_to h moment (due_peer e.role)
-
--- for the first entry
+-- for the first of what the entries have due
 abbrev pub table_emission : HostView → Moment → Emission
-table_emission h moment = emission_from h moment (find (sends (goes_out_from h moment)) h.sockets.entries)
+table_emission h moment = emission_to h moment (option_map (λ next. next.peer) (next_out h.sockets (goes_out_from h moment)))
 
 -- for the first reply, where there is one
 abbrev pub emission_at : HostView → Moment → Option ℕ → Emission

@@ -1,5 +1,5 @@
--- What is planned to go out for the table: for the first entry, in order of id, for which a frame can.
-use Rattle.std.specs.Prelude.{ℕ, ◌≡◌, position, true, Option, Some, None}
+-- What is planned to go out for the table: for the first of what the entries have due, in order of id, for which a frame can.
+use Rattle.std.specs.Prelude.{ℕ, ◌≡◌, true, Option, Some, None}
 use Rattle.ipv4.specs.declared.addr.Addr.{Addr}
 use Rattle.ipv4.specs.declared.addr.Endpoint.{Endpoint}
 use Rattle.clock.specs.declared.moment.Moment.{Moment}
@@ -7,7 +7,8 @@ use Rattle.arp.specs.Cache.{may_ask}
 use Rattle.interface.specs.declared.way.Way.{Way}
 use Rattle.interface.specs.declared.way.Way.TheVariants.{To, Ask, Waits}
 use Rattle.interface.specs.Ways.{way}
-use Rattle.sockets.specs.Entries.{sends, IsDueAt}
+use Rattle.sockets.specs.Emission.{IsNextAt}
+use Rattle.sockets.specs.Entries.{IsDueAt}
 use Rattle.sockets.specs.declared.emission.Outgoing.{Outgoing}
 use Rattle.host.specs.HostView.{HostView}
 use Rattle.host.specs.Emission.{Emission, Sends, Asks, Nothing, goes_out_from}
@@ -23,18 +24,18 @@ abbrev pub planned_or_nothing : Option Plan → Emission
 planned_or_nothing None = Nothing
 planned_or_nothing (Some p) = planned p
 
--- what can go out for the entry in this place, which has this to send to this address
+-- what can go out for the entry in this place, which has this due to this address
 abbrev pub plan_by : ℕ → Outgoing → Addr → Way → Option Plan
 plan_by place outgoing to (To mac) = Some (plan.Send place outgoing mac to)
 plan_by place outgoing to (Ask hop) = Some (plan.Ask hop)
 plan_by place outgoing to Waits = None
 
--- or which has this due, where something is
+-- or which has this due and to this peer, where something is
 abbrev pub plan_to : HostView → Moment → ℕ → Option (Endpoint × Outgoing) → Option Plan
 plan_to h moment place None = None
 plan_to h moment place (Some due) = plan_by place due.1 due.0.addr (way h.interface moment due.0.addr)
 
--- an entry in whose place something goes out is the first for which a frame can, and has just that to send; and a request may go out that does
+-- an entry in whose place something goes out is the first for which a frame can, and has just that to send first; and a request may go out that does
 abbrev pub IsFirst : HostView → Moment → Plan → Type 0
-IsFirst h moment (plan.Send place outgoing mac to) = (position (sends (goes_out_from h moment)) h.sockets.entries ≡ Some place) × IsDueAt h.sockets.entries place outgoing
+IsFirst h moment (plan.Send place outgoing mac to) = IsNextAt h.sockets (goes_out_from h moment) place outgoing × IsDueAt h.sockets.entries place outgoing
 IsFirst h moment (plan.Ask hop) = may_ask moment hop h.interface.cache.asked ≡ true

@@ -1,6 +1,6 @@
 -- What a tick makes of a host, and the moment from which one may do something again. That what waits for its hop is given up after 3,000
 -- milliseconds, where it is a control reply, the reset of an abort or a datagram, is this stack's own.
-use Rattle.std.specs.Prelude.{Bool, not, List, take, fold, Option, Some, None}
+use Rattle.std.specs.Prelude.{Bool, not, List, take, fold, Option, None}
 use Rattle.ipv4.specs.declared.addr.Addr.{Addr}
 use Rattle.ipv4.specs.declared.addr.Endpoint.{Endpoint}
 use Rattle.clock.specs.declared.moment.Moment.{Moment}
@@ -13,7 +13,8 @@ use Rattle.interface.specs.Timing.{asked_until, after_tick as interface_after_ti
 use Rattle.reassembly.specs.declared.expired.Expired.{Expired}
 use Rattle.reassembly.specs.Places.{after_age, expired, next_deadline as pool_deadline}
 use Rattle.sockets.specs.declared.entry.Entry.{Entry}
-use Rattle.sockets.specs.Entries.{due_peer}
+use Rattle.sockets.specs.declared.emission.Outgoing.{Outgoing}
+use Rattle.sockets.specs.Entries.{dues_of}
 use Rattle.sockets.specs.Lost.{after_giving_up, give_up_at}
 use Rattle.sockets.specs.SocketsView.{SocketsView, later_moment}
 use Rattle.sockets.specs.Ticks.{after_tick as sockets_after_tick, least_deadline as timer_deadline}
@@ -44,14 +45,13 @@ after_tick h now = let moment = later_moment h.sockets now in record {
   pool = after_age moment h.pool;
 }
 
--- What is due is looked at again when a request for its hop may go out.
-abbrev pub request_deadline : HostView → Option Endpoint → Option Moment
-request_deadline h None = None
-request_deadline h (Some peer) = asked_until h.interface h.sockets.kept peer.addr
+-- What is due is looked at again when a request for the hop of one of it may go out.
+abbrev pub request_deadline : HostView → List (Endpoint × Outgoing) → Option Moment
+request_deadline h dues = fold (λ least due. sooner least (asked_until h.interface h.sockets.kept due.0.addr)) None dues
 
--- what an entry waits for at its hop: the end of the wait of what is given up while that isn't known, and the next request for it
+-- what an entry waits for at the hops of what it has due: the end of the wait of what is given up while its hop isn't known, and the next request for one
 abbrev pub hop_deadline : HostView → Entry → Option Moment
-hop_deadline h e = sooner (give_up_at (lacks_hop h h.sockets.kept) e.role) (request_deadline h (due_peer e.role))
+hop_deadline h e = sooner (give_up_at (lacks_hop h h.sockets.kept) e.role) (request_deadline h (dues_of e.role))
 
 -- the least of the timers, of the control replies, of the pool and of the entries that wait for their hops
 abbrev pub least_deadline : HostView → Option Moment

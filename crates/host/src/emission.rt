@@ -1,7 +1,9 @@
 //! The frames that go out.
 
-ghost use Rattle.std.specs.Prelude.{◌≡◌, ◌≤◌, ◌++◌, drop, position, IfSome, Some};
-ghost use Rattle.sockets.specs.Entries.{due_of, sends, IsDueAt};
+ghost use Rattle.std.specs.Prelude.{◌≡◌, ◌≤◌, ◌++◌, drop, IfSome, Some};
+ghost use Rattle.interface.specs.Ways.{way};
+ghost use Rattle.sockets.specs.Emission.{IsNextAt};
+ghost use Rattle.sockets.specs.Entries.{due_to, IsDueAt};
 ghost use Rattle.host.specs.Emission.{Sends};
 
 use crate::layers::Layers;
@@ -12,7 +14,7 @@ use interface::Way;
 use ipv4::Addr;
 use sockets::{Emitted, Entry, Outgoing};
 
-/// What goes out for the first entry for which a frame can.
+/// What goes out for the first of what the entries have due for which a frame can.
 #[derive(Clone, Copy)]
 pub(crate) enum Plan {
     /// This, of the entry in this place, to this MAC and for this address.
@@ -30,7 +32,7 @@ pub(crate) enum Plan {
 
 impl Layers {
     ghost use Rattle.host.specs.Emission.{emission_len, after_emission, emission_front, goes_out_from, len_of, octets_of, left_by, front_of, table_emission};
-    ghost use Rattle.host.specs.Plans.{planned, planned_or_nothing, plan_to, IsFirst};
+    ghost use Rattle.host.specs.Plans.{planned, planned_or_nothing, plan_by, plan_to, IsFirst};
 
     /// Writes the frame that goes out first, as `Host::next_frame`.
     pub(crate) fn next_frame(&mut self, now: Moment, out: &mut [u8; FRAME_MAX]) -> Option<usize>
@@ -46,7 +48,7 @@ impl Layers {
         }
     }
 
-    /// Writes the frame for the first entry, in order of id, for which one can go out now.
+    /// Writes the frame for the first of what the entries have due, in order of id, for which one can go out now.
     fn emit_from_table(&mut self, now: Moment, out: &mut [u8; FRAME_MAX]) -> Option<usize>
         ensures answer { result ≡ len_of self.old now (table_emission self.old now) }
         ensures bounds { IfSome result (λ len. (60 ≤ len) × (len ≤ FRAME_MAX)) }
@@ -89,7 +91,7 @@ impl Layers {
         now: Moment,
         out: &mut [u8; FRAME_MAX],
     ) -> usize
-        requires first { position (sends (goes_out_from self.old now)) self.old.sockets.entries ≡ Some place }
+        requires first { IsNextAt self.old.sockets (goes_out_from self.old now) place outgoing }
         requires due { IsDueAt self.old.sockets.entries place outgoing }
         ensures len { Some result ≡ len_of self.old now (Sends mac to) }
         ensures bounds { (60 ≤ result) × (result ≤ FRAME_MAX) }
@@ -105,7 +107,7 @@ impl Layers {
         }
     }
 
-    /// What can go out for the table: for the first entry, in order of id, for which a frame can.
+    /// What can go out for the table: for the first of what its entries have due, in order of id, for which a frame can.
     fn plan(&self, now: Moment) -> Option<Plan>
         ensures what { table_emission self.now now ≡ planned_or_nothing result }
         ensures first { IfSome result (λ plan. IsFirst self.now now plan) }
@@ -120,17 +122,30 @@ impl Layers {
         None
     }
 
-    /// What can go out for the entry in this place.
+    /// What can go out for the entry in this place: for the first of what it has due for which a frame can.
     fn plan_for(&self, now: Moment, place: usize, entry: &Entry) -> Option<Plan>
-        ensures { result ≡ plan_to self.now now place (due_of entry.now.role) }
+        ensures { result ≡ plan_to self.now now place (due_to (goes_out_from self.now now) entry.now.role) }
     {
-        let (peer, outgoing) = entry.due()?;
-        match self.interface.way(now, peer.addr) {
+        for number in 0..entry.due_places() {
+            let (peer, outgoing) = entry.due_at(number)?;
+            let plan = self.plan_by(now, place, outgoing, peer.addr);
+            if plan.is_some() {
+                return plan;
+            }
+        }
+        None
+    }
+
+    /// What can go out for the entry in this place, which has this due to this address.
+    fn plan_by(&self, now: Moment, place: usize, outgoing: Outgoing, to: Addr) -> Option<Plan>
+        ensures { result ≡ plan_by place outgoing to (way self.now.interface now to) }
+    {
+        match self.interface.way(now, to) {
             Way::To(mac) => Some(Plan::Send {
                 place,
                 outgoing,
                 mac,
-                to: peer.addr,
+                to,
             }),
             Way::Ask(hop) => Some(Plan::Ask { hop }),
             Way::Waits => None,

@@ -1,6 +1,6 @@
 //! Laws of the definitions that the contracts of this crate cite: each is the contract of a function that does nothing.
 
-ghost use Rattle.std.specs.Prelude.{◌≡◌, ◌≢◌, ℕ, ◌+◌, ◌≤◌, ◌||◌, false, true, IsTrue, List, [], ◌∷◌, ◌++◌, Contains, find, slice_get, take, Option, Some, None, option_map, Result, Ok, Err};
+ghost use Rattle.std.specs.Prelude.{◌≡◌, ◌≢◌, ℕ, ◌+◌, ◌<◌, ◌≤◌, ◌||◌, false, true, IsTrue, List, [], ◌∷◌, ◌++◌, Contains, find, slice_get, take, Option, Some, None, option_map, Result, Ok, Err};
 ghost use Rattle.std.specs.List.{list_any, AllByRecursion};
 ghost use Rattle.ether.specs.declared.mac.Mac.{Mac};
 ghost use Rattle.ether.specs.Frame.{Frame};
@@ -34,13 +34,16 @@ ghost use Rattle.reassembly.specs.Places.{next_deadline as pool_deadline};
 ghost use Rattle.tcp_state.specs.declared.calls.Refusal.{Refusal as SocketError};
 ghost use Rattle.tcp_state.specs.Positions.{HasToSend};
 ghost use Rattle.tcp_state.specs.View.{View};
+ghost use Rattle.udp_socket.specs.Emission.{first_that};
 ghost use Rattle.udp_socket.specs.SocketView.{Outgoing, SocketView};
+ghost use Rattle.sockets.specs.declared.emission.Outgoing.{Outgoing as Due};
+ghost use Rattle.sockets.specs.declared.emission.Outgoing.TheVariants as due;
 ghost use Rattle.sockets.specs.declared.entry.Entry.{Entry};
 ghost use Rattle.sockets.specs.declared.entry.SocketId.{SocketId};
 ghost use Rattle.sockets.specs.declared.role.Role.{Role};
 ghost use Rattle.sockets.specs.declared.role.Role.TheVariants.{Connected, Datagrams};
 ghost use Rattle.sockets.specs.Causes.{pending_error_in, TellsStill};
-ghost use Rattle.sockets.specs.Entries.{due_peer, is_datagrams_at, sends};
+ghost use Rattle.sockets.specs.Entries.{due_to, is_datagrams_at, sends};
 ghost use Rattle.sockets.specs.Offered.{IsReached};
 ghost use Rattle.sockets.specs.Order.{IsOrdered};
 ghost use Rattle.sockets.specs.Sound.{NoneIsOver};
@@ -82,10 +85,20 @@ pub fn layers_compose()
 pub fn the_first_place_goes_out()
     ensures reply { (h : HostView) (moment : Moment) (w : Waiting) → find (can_go_out h moment) (places h) ≡ Some (ReplyOf w)
         → (place : ℕ) × (slice_get h.interface.replies place ≡ Some w) × (emission h moment ≡ Replies place) }
-    ensures entry { (h : HostView) (moment : Moment) (e : Entry) → find (can_go_out h moment) (places h) ≡ Some (EntryOf e)
-        → (find (sends (goes_out_from h moment)) h.sockets.entries ≡ Some e) × (emission h moment ≡ emission_to h moment (due_peer e.role)) }
+    ensures entry { (h : HostView) (moment : Moment) (e : Entry) (peer : Endpoint) (what : Due) → find (can_go_out h moment) (places h) ≡ Some (EntryOf e peer what)
+        → (find (sends (goes_out_from h moment)) h.sockets.entries ≡ Some e) × (due_to (goes_out_from h moment) e.role ≡ Some (peer, what)) × (emission h moment ≡ emission_to h moment (Some peer)) }
     ensures none { (h : HostView) (moment : Moment) → find (can_go_out h moment) (places h) ≡ None → emission h moment ≡ Nothing }
     ensures only { (h : HostView) (now : Moment) → emission_len h now ≡ None → find (can_go_out h (later_moment h.sockets now)) (places h) ≡ None }
+{}
+
+/// The datagrams of a UDP socket to one address go out in the order of their `sendto`, as each stands behind those that were given before it: what goes
+/// out of the socket is of the first datagram in it for whose address a frame can go out, so of none behind another to the same address, whether
+/// it goes out itself or the request for its hop. (What stands first of those that are overtaken stays first of them: `udp_socket::laws::sent_in_order`.)
+pub fn datagrams_to_one_address_go_out_in_order()
+    ensures first { (h : HostView) (moment : Moment) (e : Entry) (peer : Endpoint) (place : ℕ) (bound : Option Endpoint) (socket : SocketView) → find (can_go_out h moment) (places h) ≡ Some (EntryOf e peer (due.Datagram place))
+        → e.role ≡ Datagrams bound socket → first_that (goes_out_from h moment) socket.outbox ≡ Some place }
+    ensures others { (h : HostView) (moment : Moment) (e : Entry) (peer : Endpoint) (place before : ℕ) (bound : Option Endpoint) (socket : SocketView) (o : Outgoing) → find (can_go_out h moment) (places h) ≡ Some (EntryOf e peer (due.Datagram place))
+        → e.role ≡ Datagrams bound socket → before < place → slice_get socket.outbox before ≡ Some o → o.peer.addr ≢ peer.addr }
 {}
 
 /// Only a segment or a datagram that goes out itself changes the table: what a request goes out for waits as it is, and so does every entry while a control
@@ -113,14 +126,14 @@ pub fn deadline_is_the_least()
 
 /// What is due comes up (RFC 1122 sections 2.3.2.1 and 2.3.2.2, RFC 9293 section 3.8). For each place that is due, to whose address a route leads, a frame can go out at
 /// the kept moment, or the deadline is not after the moment from which its hop may be asked for again, which lies within a second of a request that was sent; or there is no such moment,
-/// since a request of the clock's last moment stands in the way. Each control reply that waits is such a place, and so is each UDP socket with a datagram to send. A connection with
+/// since a request of the clock's last moment stands in the way. Each control reply that waits is such a place, and so is each datagram that a UDP socket has to send. A connection with
 /// something to send is one, or the deadline is not after that of its own timers. So where no frame can go out and there is no deadline, nothing waits for which there is a way, but for
 /// a connection that is held at the end of the clock: who asks for frames until none goes out, and then sleeps until the deadline, leaves nothing behind.
 pub fn what_is_due_comes_up()
     ensures place { (h : HostView) (place : Place) → HasRun h → Contains (places h) place → is_on_route h.interface.routes (address_of place) ≡ true → ComesUp h place }
     ensures reply { (h : HostView) (w : Waiting) → HasRun h → Contains h.interface.replies w → IsDueSoon h (ReplyOf w) }
-    ensures datagram { (h : HostView) (e : Entry) (bound : Option Endpoint) (socket : SocketView) (first : Outgoing) (others : List Outgoing) → HasRun h → Contains h.sockets.entries e
-        → e.role ≡ Datagrams bound socket → socket.outbox ≡ first ∷ others → IsTrue (is_routed h.interface first.peer.addr) → IsDueSoon h (EntryOf e) }
+    ensures datagram { (h : HostView) (e : Entry) (bound : Option Endpoint) (socket : SocketView) (place : ℕ) (o : Outgoing) → HasRun h → Contains h.sockets.entries e
+        → e.role ≡ Datagrams bound socket → slice_get socket.outbox place ≡ Some o → IsTrue (is_routed h.interface o.peer.addr) → IsDueSoon h (EntryOf e o.peer (due.Datagram place)) }
     ensures connection { (h : HostView) (e : Entry) (c : View) (listener : Option SocketId) → IsSoundHost h → HasRun h → Contains h.sockets.entries e → e.role ≡ Connected c listener
         → IsTrue (is_routed h.interface c.peer.addr) → HasToSend c → ConnectionComesUp h e c }
     ensures never_silent { (h : HostView) → IsSoundHost h → HasRun h → find (can_go_out h h.sockets.kept) (places h) ≡ None → least_deadline h ≡ None → IsQuiet h }

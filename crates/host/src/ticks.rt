@@ -1,13 +1,13 @@
 //! What time does to a host.
 
 ghost use Rattle.std.specs.Prelude.{◌≡◌};
+ghost use Rattle.sockets.specs.Entries.{dues_of};
 ghost use Rattle.host.specs.Ticks.{all_reported};
 
 use crate::layers::Layers;
 use clock::{Moment, sooner};
 use icmp::Reason;
 use interface::Interface;
-use ipv4::Endpoint;
 use reassembly::Expired;
 use sockets::Entry;
 
@@ -40,23 +40,30 @@ impl Layers {
         })
     }
 
-    /// What an entry waits for at its hop.
+    /// What an entry waits for at the hops of what it has due.
     fn hop_deadline(&self, entry: &Entry) -> Option<Moment>
         ensures { result ≡ hop_deadline self.now entry.now }
     {
         let now = self.sockets.kept();
         sooner(
             entry.give_up_at(&|addr| !self.interface.knows_hop(now, addr)),
-            self.request_deadline(entry.due_peer()),
+            self.request_deadline(entry),
         )
     }
 
-    /// When a request for the next hop to a peer may go out, where none may now and its MAC isn't known.
-    fn request_deadline(&self, peer: Option<Endpoint>) -> Option<Moment>
-        ensures { result ≡ request_deadline self.now peer }
+    /// When a request for the next hop of something that an entry has due may go out, where none for it may now and its MAC isn't known.
+    fn request_deadline(&self, entry: &Entry) -> Option<Moment>
+        ensures { result ≡ request_deadline self.now (dues_of entry.now.role) }
     {
-        let peer = peer?;
-        self.interface.asked_until(self.sockets.kept(), peer.addr)
+        let now = self.sockets.kept();
+        let mut least = None;
+        for number in 0..entry.due_places() {
+            let Some((peer, _)) = entry.due_at(number) else {
+                return least;
+            };
+            least = sooner(least, self.interface.asked_until(now, peer.addr));
+        }
+        least
     }
 }
 

@@ -17,6 +17,7 @@ mod messages;
 mod names;
 mod octets;
 mod opening;
+mod queues;
 mod resets;
 mod segments;
 mod simultaneous;

@@ -1,7 +1,9 @@
 //! Two hosts on a link, what is done at each, and what that is to answer.
 
 use super::octets::{REPLIED_BACK, REPLY};
-use super::{calls, datagrams, drops, endpoints, fragments, gateways, hops, messages, segments};
+use super::{
+    calls, datagrams, drops, endpoints, fragments, gateways, hops, messages, queues, segments,
+};
 use clock::Moment;
 use ether::Mac;
 use host::{Config, DropCause, Host, Kind, Refusal, SocketId, SocketState};
@@ -447,7 +449,7 @@ const OF_DATAGRAMS: [&[Scenario]; 2] = [datagrams::SCENARIOS, drops::SCENARIOS];
 
 const OF_FRAGMENTS: [&[Scenario]; 1] = [fragments::SCENARIOS];
 
-const OF_HOPS: [&[Scenario]; 2] = [gateways::SCENARIOS, hops::SCENARIOS];
+const OF_HOPS: [&[Scenario]; 3] = [gateways::SCENARIOS, hops::SCENARIOS, queues::SCENARIOS];
 
 const OF_MESSAGES: [&[Scenario]; 1] = [messages::SCENARIOS];
 

@@ -1,11 +1,10 @@
 -- What an entry has due is behind the place of the two heads before they are written.
 use Rattle.std.proofs.Common.{◌≡◌, ◌++◌, ℕ, Bool, List, Some, drop, arith, sym, subst, ◌∙◌, ap}
-use Rattle.sockets.specs.declared.entry.Entry.{Entry}
+use Rattle.ipv4.specs.declared.addr.Addr.{Addr}
 use Rattle.sockets.specs.declared.emission.Emitted.{Emitted}
 use Rattle.sockets.specs.declared.emission.Emitted.TheVariants.{Segment, Datagram}
-use Rattle.sockets.specs.Emission.{IsWithin}
-use Rattle.sockets.specs.Entries.{sends, IsDueAt}
-use Rattle.std.specs.List.{position}
+use Rattle.sockets.specs.Emission.{IsWithin, IsNextAt}
+use Rattle.sockets.specs.Entries.{IsDueAt}
 use Rattle.host.specs.HostView.{HostView}
 use Rattle.host.specs.Emission.{Sends, goes_out_from, octets_of}
 use Rattle.host.proofs.Emitting.{framed_out}
@@ -19,9 +18,9 @@ emit_at-requires-clause-due c =
 pub returns-clause-frame : goal.returns-clause-frame
 returns-clause-frame c =
     let h : HostView = record { interface = c.self.inside.interface; sockets = c.self.inside.sockets; pool = c.self.inside.pool } in
-    let goes : Entry → Bool = goes_out_from h c.args.now in
-    let first : position (sends goes) h.sockets.entries ≡ Some c.args.place =
-    subst (λ (g : HostView). position (sends (goes_out_from g c.args.now)) g.sockets.entries ≡ Some c.args.place) (sym c.self.view_is) c.requires.first in
+    let goes : Addr → Bool = goes_out_from h c.args.now in
+    let first : IsNextAt h.sockets goes c.args.place c.args.outgoing =
+    subst (λ (g : HostView). IsNextAt g.sockets (goes_out_from g c.args.now) c.args.place c.args.outgoing) (sym c.self.view_is) c.requires.first in
     let out : List ℕ = c.args.out.now in
     let here : c.match-emit_at.out ≡ octets_of h c.args.now (Sends c.args.mac c.args.to) ++ drop c.match-emit_at.result out = elim c.match-emit_at.branch [
       | in-Segment w ↦
