@@ -8,6 +8,7 @@ import fcntl
 import os
 import random
 import re
+import select
 import signal
 import socket
 import struct
@@ -19,10 +20,13 @@ import threading
 import time
 
 import linux_pair
+from host import Host, Kind
 
 OURS = "10.0.0.2"  # the host's address
 LINUX = "10.0.0.1"  # Linux's
 FAR = "10.1.0.1"  # another of Linux's, off the link
+SILENT = [f"10.0.0.{last}" for last in range(10, 250)]  # addresses of the link that nobody has
+MAC = bytes([2, 0, 10, 0, 0, 2])  # the host's
 MEGABYTE = 1 << 20
 LONG, LONGEST = 300, 3000  # how many seconds a check may take, and one that is asked for as a long one
 NO_ABORT = (
@@ -151,6 +155,58 @@ def expect_error(error, call, *arguments):
     raise Wrong(f"no {error.__name__}")
 
 
+# ---- Frames that this program makes
+
+
+def ones_sum(octets):
+    """The checksum of RFC 1071 over an even number of octets."""
+    total = sum(struct.unpack(f">{len(octets) // 2}H", octets))
+    while total >> 16:
+        total = (total & 0xFFFF) + (total >> 16)
+    return ~total & 0xFFFF
+
+
+def syn_frame(source, port, to_port):
+    """A SYN from this address, whoever has it, to the host's port."""
+    ends = socket.inet_aton(source) + socket.inet_aton(OURS)
+    ip = struct.pack(">BBHHHBBH", 0x45, 0, 40, 0, 0, 64, 6, 0) + ends
+    ip = ip[:10] + struct.pack(">H", ones_sum(ip)) + ip[12:]
+    tcp = struct.pack(">HHIIBBHHH", port, to_port, 1000, 0, 0x50, 2, 65535, 0, 0)
+    tcp = tcp[:16] + struct.pack(">H", ones_sum(ends + struct.pack(">HH", 6, 20) + tcp)) + tcp[18:]
+    return MAC + bytes.fromhex(read_about_device("address").replace(":", "")) + b"\x08\x00" + ip + tcp
+
+
+class OwnHost:
+    """A host on the device in this process, in a `with`: its clock begins at 0, and `run` lets it go on."""
+
+    def __enter__(self):
+        self.device = os.open("/dev/net/tun", os.O_RDWR | os.O_NONBLOCK)
+        fcntl.ioctl(self.device, 0x400454CA, struct.pack("16sH", device.encode(), 0x1002))  # TUNSETIFF; IFF_TAP, IFF_NO_PI
+        await_carrier()
+        self.host, self.began = Host(MAC, OURS, {"10.0.0.0/24": None}), time.monotonic()
+        return self
+
+    def __exit__(self, *_):
+        os.close(self.device)
+        self.host.free()
+
+    def now(self):
+        return int((time.monotonic() - self.began) * 1000)
+
+    def run(self, until):
+        """Goes on until that holds, but no longer than ten seconds. Each frame that goes out is yielded."""
+        end = time.monotonic() + 10
+        while not until():
+            want(time.monotonic() < end, "it doesn't come to that in ten seconds")
+            now = self.now()
+            self.host.tick(now)
+            while frame := self.host.next_frame(now):
+                os.write(self.device, frame)
+                yield frame
+            if select.select([self.device], [], [], 0.01)[0]:
+                self.host.deliver(self.now(), 0, os.read(self.device, 2048))
+
+
 # ---- The checks
 
 
@@ -186,6 +242,48 @@ def tcp_refused():
     with Tap():
         expect_error(ConnectionRefusedError, connected, 9999)
     return "ECONNREFUSED"
+
+
+def udp_behind_silence():
+    """Two datagrams of one socket: the first is for an address that nobody has, and the second doesn't wait for it."""
+    with socket.socket(socket.AF_INET, socket.SOCK_DGRAM) as server, OwnHost() as own:
+        server.bind((LINUX, 0))
+        server.settimeout(0)
+        id = own.host.socket(Kind.UDP)
+        own.host.sendto(id, (SILENT[0], 9), b"to nobody")
+        own.host.sendto(id, server.getsockname(), b"to Linux")
+        frames = [*own.run(until=lambda: select.select([server], [], [], 0)[0])]
+        came_at = own.now()
+        want(server.recv(100) == b"to Linux", "another datagram comes")
+        frames += own.run(until=lambda: own.now() > 4000)
+    asked = sum(frame[12:14] == b"\x08\x06" and frame[38:42] == socket.inet_aton(SILENT[0]) for frame in frames)
+    sent = sum(frame[12:14] == b"\x08\x00" for frame in frames)
+    want(came_at < 1000, f"it comes after {came_at} ms")
+    want((asked, sent) == (3, 1), f"{asked} requests for the silent address, {sent} datagrams")
+    return "came at once; 3 requests for the other"
+
+
+def flood_of_openings():
+    """SYNs from addresses of the link that nobody has take all places of the listener. Each is free once its hop has kept silent for three seconds."""
+    with Tap(), socket.socket(socket.AF_PACKET, socket.SOCK_RAW) as wire:
+        wire.bind((device, 0))
+        for turn in range(1000):
+            wire.send(syn_frame(SILENT[turn % len(SILENT)], 1024 + turn, 7))
+            time.sleep(0.005)
+        began = time.monotonic()
+        while True:
+            try:
+                client = socket.create_connection((OURS, 7), timeout=0.25)
+                break
+            except TimeoutError:
+                want(time.monotonic() - began < 5, "no connection in five seconds")
+        seconds = time.monotonic() - began
+        with client:
+            client.settimeout(5)
+            client.sendall(b"hello")
+            want(client.recv(5) == b"hello", "other octets come back")
+    want(seconds > 0.3, "the flood took no place")
+    return f"a client gets in {seconds:.1f} s after its end"
 
 
 def linux_opens_and_closes():
@@ -491,6 +589,7 @@ CHECKS = [
     *[(f"ping, {size:,} octets", ping, (size,), "") for size in (0, 56, 1472)],
     *[(f"UDP echo, {size:,} octets", udp_echo, (size,), "") for size in (1, 1472, 1473, 8000, 65507)],
     ("UDP to a port without a socket", udp_refused, (), ""),
+    ("UDP behind a datagram for a silent address", udp_behind_silence, (), ""),
     ("TCP to a port without a listener", tcp_refused, (), ""),
     ("TCP: Linux opens, Linux closes first", linux_opens_and_closes, (), ""),
     ("TCP: Linux opens, the host closes first", linux_opens_host_closes, (), ""),
@@ -501,6 +600,7 @@ CHECKS = [
     ("TCP: Linux opens, Linux resets", linux_resets_what_it_opened, (), ""),
     ("TCP: the host opens, Linux resets", linux_resets_what_the_host_opened, (), ""),
     ("TCP: the host opens, the host resets", host_resets_what_it_opened, (), ""),
+    ("TCP: a flood of openings from silent addresses", flood_of_openings, (), ""),
     ("1 MB to the host", to_host, (MEGABYTE,), ""),
     ("1 MB from the host", from_host, (MEGABYTE,), ""),
     ("1 MB echoed, both ways at once", echo, (MEGABYTE,), ""),

@@ -163,6 +163,61 @@ b bind 3 80 -> ok
 a state 1 -> ESTABLISHED
 ";
 
+/// Nobody answers a's requests, one a second: after 483 seconds its connection is given up.
+const NEVER_HEARD: &str = "b socket tcp -> id 1
+b bind 1 80 -> ok
+b listen 1 1 -> ok
+a socket tcp -> id 1
+a connect 1 80 5 -> started
+a emit -> frame 0 60
+a emit -> none
+a tick 1000 -> ok
+a emit -> frame 1 60
+a tick 482999 -> ok
+a state 1 -> SYN-SENT
+a recv 1 1 -> E8 EAGAIN
+a tick 483000 -> ok
+a state 1 -> CLOSED
+a recv 1 1 -> E11 ETIMEDOUT
+a recv 1 1 -> E11 ETIMEDOUT
+a emit -> none
+";
+
+/// b has forgotten a when a's SYN takes its only place. For three seconds it asks for a, and then another SYN finds the place free.
+const CALLER_IS_SILENT: &str = "a emit -> frame 2 60
+b tick 1200000 -> ok
+b deliver 2 7 -> taken
+b emit -> frame 3 60
+b emit -> none
+a socket tcp -> id 2
+a connect 2 80 6 -> started
+a emit -> frame 4 60
+b tick 1202999 -> ok
+b deliver 4 0 -> drop F9
+b tick 1203000 -> ok
+b deliver 4 0 -> taken
+";
+
+/// a has forgotten b when its caller gives the socket back. The connection holds its port until the wait for its hop is over.
+const END_IS_NEVER_HEARD: &str = "a tick 1200000 -> ok
+a close 1 -> ok
+a emit -> frame 5 60
+a socket tcp -> id 2
+a tick 1682999 -> ok
+a bind 2 49152 -> E3 EADDRINUSE
+a tick 1683000 -> ok
+a bind 2 49152 -> ok
+a emit -> none
+";
+
+/// No moment comes after the last one of the clock, and one request goes out at it.
+const LAST_MOMENT: &str = "a socket tcp -> id 1
+a tick 18446744073709551615 -> ok
+a connect 1 80 5 -> started
+a emit -> frame 0 60
+a emit -> none
+";
+
 /// Neighbours are asked for, heard of and forgotten; what waits for one goes out, or is dropped.
 pub const TRANSCRIPTS: &[&[&str]] = &[
     &[ASKED, ONE_OPENING],
@@ -173,4 +228,8 @@ pub const TRANSCRIPTS: &[&[&str]] = &[
     &[SYN_OF_A_STRANGER, RESET_IS_DROPPED],
     &[SYN_OF_A_STRANGER, SIXTEEN_WAIT],
     &[OPENING, ACCEPTED, RESET_OF_A_CONNECTION],
+    &[NEVER_HEARD],
+    &[ASKED, CALLER_IS_SILENT],
+    &[OPENING, ACCEPTED, END_IS_NEVER_HEARD],
+    &[LAST_MOMENT],
 ];
