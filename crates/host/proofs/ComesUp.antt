@@ -1,11 +1,6 @@
 -- What is due comes up: a frame can go out for it, or the host is woken when its hop may be asked for again.
-<<<<<<< HEAD
-use Rattle.std.proofs.Common.{◌≡◌, ◌⊎◌, inl, inr, ℕ, zero, suc, ◌<◌, ◌≤◌, ◌||◌, not, Bool, true, false, cond, List, [], ◌∷◌, Contains, slice_index_or, filter, length, map, Option, Some, None, IsTrue, is_some, option_map, refl, sym, ◌∙◌, ap, subst, arith}
-use Rattle.std.specs.List.{find, list_any}
-=======
-use Rattle.std.proofs.Common.{◌≡◌, ◌⊎◌, inl, inr, ℕ, zero, suc, ◌<◌, ◌≤◌, ◌||◌, Bool, true, false, cond, List, [], ◌∷◌, ◌++◌, Contains, slice_index_or, length, map, Option, Some, None, IsTrue, is_some, option_map, refl, sym, ◌∙◌, ap, subst, arith}
+use Rattle.std.proofs.Common.{◌≡◌, ◌⊎◌, inl, inr, ℕ, zero, suc, ◌<◌, ◌≤◌, ◌||◌, not, Bool, true, false, cond, List, [], ◌∷◌, ◌++◌, Contains, slice_index_or, length, map, Option, Some, None, IsTrue, is_some, option_map, refl, sym, ◌∙◌, ap, subst, arith}
 use Rattle.std.specs.List.{find, flat_map, list_any, slice_get}
->>>>>>> 717e2c4d (Each datagram that waits is a place among what is due at a host: its own hop is asked for, and it holds none back)
 use Rattle.std.proofs.lemmas.Bool.Decides.{nat_tests}
 use Rattle.std.proofs.lemmas.List.Concat.{flat_map-cons}
 use Rattle.std.proofs.lemmas.List.Elements.{Contains-append_cases, Contains-append_left, Contains-append_right}
@@ -47,16 +42,9 @@ use Rattle.tcp_state.specs.Positions.{HasToSend, takes_numbers}
 use Rattle.tcp_state.specs.Timing.{deadline}
 use Rattle.tcp_state.specs.View.{View}
 use Rattle.tcp_state.proofs.Waiting.{goes_out as timed_or_due}
-<<<<<<< HEAD
-use Rattle.udp_socket.specs.Emission.{due_peer as datagram_peer}
-use Rattle.udp_socket.specs.SocketView.{Outgoing, SocketView}
-use Rattle.udp_socket.specs.Waits.{deadline_of as datagram_deadline_of}
-use Rattle.host.specs.ComesUp.{address_of, is_on_route, IsAskedFrom, IsHeldAtTheEnd, IsPastAsking, IsWokenBy, IsDueSoon, IsQuiet, ComesUp, ConnectionComesUp}
-use Rattle.host.specs.Emission.{way_to}
-=======
 use Rattle.udp_socket.specs.SocketView.{Outgoing as OutDatagram, SocketView}
-use Rattle.host.specs.ComesUp.{address_of, is_on_route, IsAskedFrom, IsWokenBy, IsDueSoon, IsQuiet, ComesUp, ConnectionComesUp}
->>>>>>> 717e2c4d (Each datagram that waits is a place among what is due at a host: its own hop is asked for, and it holds none back)
+use Rattle.udp_socket.specs.Waits.{deadline_of as datagram_deadline_of}
+use Rattle.host.specs.ComesUp.{address_of, is_on_route, IsAskedFrom, IsHeldAtTheEnd, IsPastAsking, IsWokenBy, IsDueSoon, ComesUp, ConnectionComesUp}
 use Rattle.host.specs.HostView.{HostView}
 use Rattle.host.specs.Places.{Place, ReplyOf, EntryOf, places, places_of, can_go_out}
 use Rattle.host.specs.Runs.{HasRun}
@@ -70,12 +58,12 @@ use Rattle.host.proofs.AskedAgain.{or-left, or-right, same-comes, any-of, all-of
 -- What can't go out now.
 
 -- its hop isn't known, and may not be asked for
-record IsHeld (h : HostView) (now : Moment) (to hop : Addr) : Type 0 where
-  leads : next_hop h.interface.routes to ≡ Some hop
-  unknown : look now hop h.interface.cache ≡ None
-  unasked : may_ask now hop h.interface.cache.asked ≡ false
+pub record IsHeld (h : HostView) (now : Moment) (to hop : Addr) : Type 0 where
+  pub leads : next_hop h.interface.routes to ≡ Some hop
+  pub unknown : look now hop h.interface.cache ≡ None
+  pub unasked : may_ask now hop h.interface.cache.asked ≡ false
 
-held-by : (h : HostView) (now : Moment) (to : Addr) → is_on_route h.interface.routes (Some to) ≡ true → goes_out (way h.interface now to) ≡ false → (hop : Addr) × IsHeld h now to hop
+pub held-by : (h : HostView) (now : Moment) (to : Addr) → is_on_route h.interface.routes (Some to) ≡ true → goes_out (way h.interface now to) ≡ false → (hop : Addr) × IsHeld h now to hop
 held-by h now to routed held = by_hop (next_hop h.interface.routes to) refl routed
   where
     by_ask : (hop : Addr) → next_hop h.interface.routes to ≡ Some hop → look now hop h.interface.cache ≡ None → (b : Bool) → may_ask now hop h.interface.cache.asked ≡ b
@@ -100,7 +88,7 @@ until-is h now to hop held =
     ∙ ap (λ (o : Option Mac). cond (is_some o || may_ask now hop h.interface.cache.asked) None (next_ask hop h.interface.cache.asked)) held.unknown
     ∙ ap (λ (b : Bool). cond b None (next_ask hop h.interface.cache.asked)) held.unasked
 
-unknown-is : (h : HostView) (now : Moment) (to hop : Addr) → IsHeld h now to hop → knows_hop h.interface now to ≡ false
+pub unknown-is : (h : HostView) (now : Moment) (to hop : Addr) → IsHeld h now to hop → knows_hop h.interface now to ≡ false
 unknown-is h now to hop held = ap (λ (o : Option Addr). is_some (mac_of now h.interface.cache o)) held.leads ∙ ap (λ (o : Option Mac). is_some o) held.unknown
 
 -- The host is woken.
@@ -113,7 +101,7 @@ woken h m come = by_deadline (least_deadline h) refl come
     by_deadline (Some d) is e = let order : d.0 ≤ m.0 = grind (arith, nat_tests, e) in (d, is, order)
 
 -- by a timer
-timer-wakes : (h : HostView) (e : Entry) (m : Moment) → Contains h.sockets.entries e → timer_of e.role ≡ Some m → IsWokenBy h m
+pub timer-wakes : (h : HostView) (e : Entry) (m : Moment) → Contains h.sockets.entries e → timer_of e.role ≡ Some m → IsWokenBy h m
 timer-wakes h e m at is =
     let own : has_come (timer_of e.role) m ≡ true = ap (λ (o : Option Moment). has_come o m) is ∙ same-comes m in
     let timers : has_come (timer_deadline h.sockets) m ≡ true =
@@ -141,7 +129,6 @@ reply-wakes h w to hop m at seeks held next =
     (or-left (has_come (timer_deadline h.sockets) m || has_come (reply_deadline i kept) m) (has_come (pool_deadline h.pool) m)
     (or-right (has_come (timer_deadline h.sockets) m) (has_come (reply_deadline i kept) m) replies)))
 
-<<<<<<< HEAD
 -- at the end of its own wait
 reply-ends : (h : HostView) (w : Waiting) (to hop : Addr) → Contains h.interface.replies w → sought w.reply ≡ Some to → IsHeld h h.sockets.kept to hop → IsWokenBy h (reply_end w)
 reply-ends h w to hop at seeks held =
@@ -158,12 +145,25 @@ reply-ends h w to hop at seeks held =
     (or-left (has_come (timer_deadline h.sockets) m || has_come (reply_deadline i kept) m) (has_come (pool_deadline h.pool) m)
     (or-right (has_come (timer_deadline h.sockets) m) (has_come (reply_deadline i kept) m) replies)))
 
--- for an entry
-entry-wakes : (h : HostView) (e : Entry) (peer : Endpoint) (hop : Addr) (m : Moment) → Contains h.sockets.entries e → due_peer e.role ≡ Some peer → IsHeld h h.sockets.kept peer.addr hop → next_ask hop h.interface.cache.asked ≡ Some m
-=======
+-- at the end of the wait of a datagram
+datagram-ends : (h : HostView) (e : Entry) (bound : Option Endpoint) (socket : SocketView) (o : OutDatagram) (hop : Addr) → Contains h.sockets.entries e → e.role ≡ Datagrams bound socket → Contains socket.outbox o
+    → IsHeld h h.sockets.kept o.peer.addr hop → IsWokenBy h (after o.since HOP_WAIT)
+datagram-ends h e bound socket o hop at is waits held =
+    let lost : Addr → Bool = lacks_hop h h.sockets.kept in
+    let m : Moment = after o.since HOP_WAIT in
+    let asks : Option Moment = request_deadline h (dues_of e.role) in
+    let unknown : lost o.peer.addr ≡ true = ap not (unknown-is h h.sockets.kept o.peer.addr hop held) in
+    let own : has_come (datagram_deadline_of lost o) m ≡ true = ap (λ (b : Bool). has_come (cond b (Some m) None) m) unknown ∙ same-comes m in
+    let gives_up : has_come (give_up_at lost e.role) m ≡ true =
+    ap (λ (r : Role). has_come (give_up_at lost r) m) is ∙ fold-come (datagram_deadline_of lost) None socket.outbox m ∙ any-of (λ (x : OutDatagram). has_come (datagram_deadline_of lost x) m) socket.outbox o waits own in
+    let come : has_come (hop_deadline h e) m ≡ true =
+    sooner-has_come (give_up_at lost e.role) asks m ∙ or-left (has_come (give_up_at lost e.role) m) (has_come asks m) gives_up in
+    woken h m (deadline-come h m
+    ∙ or-right (has_come (timer_deadline h.sockets) m || has_come (reply_deadline h.interface h.sockets.kept) m || has_come (pool_deadline h.pool) m) (list_any (λ x. has_come (hop_deadline h x) m) h.sockets.entries)
+    (any-of (λ (x : Entry). has_come (hop_deadline h x) m) h.sockets.entries e at come))
+
 -- for something that an entry has due
 entry-wakes : (h : HostView) (e : Entry) (due : Endpoint × Outgoing) (hop : Addr) (m : Moment) → Contains h.sockets.entries e → Contains (dues_of e.role) due → IsHeld h h.sockets.kept due.0.addr hop → next_ask hop h.interface.cache.asked ≡ Some m
->>>>>>> 717e2c4d (Each datagram that waits is a place among what is due at a host: its own hop is asked for, and it holds none back)
     → IsWokenBy h m
 entry-wakes h e due hop m at among held next =
     let gives_up : Option Moment = give_up_at (lacks_hop h h.sockets.kept) e.role in
@@ -171,23 +171,6 @@ entry-wakes h e due hop m at among held next =
     let its : has_come (until due) m ≡ true = ap (λ (o : Option Moment). has_come o m) (until-is h h.sockets.kept due.0.addr hop held ∙ next) ∙ same-comes m in
     let own : has_come (request_deadline h (dues_of e.role)) m ≡ true = fold-come until None (dues_of e.role) m ∙ any-of (λ (d : Endpoint × Outgoing). has_come (until d) m) (dues_of e.role) due among its in
     let come : has_come (hop_deadline h e) m ≡ true = sooner-has_come gives_up (request_deadline h (dues_of e.role)) m ∙ or-right (has_come gives_up m) (has_come (request_deadline h (dues_of e.role)) m) own in
-    woken h m (deadline-come h m
-    ∙ or-right (has_come (timer_deadline h.sockets) m || has_come (reply_deadline h.interface h.sockets.kept) m || has_come (pool_deadline h.pool) m) (list_any (λ x. has_come (hop_deadline h x) m) h.sockets.entries)
-    (any-of (λ (x : Entry). has_come (hop_deadline h x) m) h.sockets.entries e at come))
-
--- at the end of the wait of a datagram
-datagram-ends : (h : HostView) (e : Entry) (bound : Option Endpoint) (socket : SocketView) (o : Outgoing) (hop : Addr) → Contains h.sockets.entries e → e.role ≡ Datagrams bound socket → Contains socket.outbox o
-    → IsHeld h h.sockets.kept o.peer.addr hop → IsWokenBy h (after o.since HOP_WAIT)
-datagram-ends h e bound socket o hop at is waits held =
-    let lost : Addr → Bool = lacks_hop h h.sockets.kept in
-    let m : Moment = after o.since HOP_WAIT in
-    let asks : Option Moment = request_deadline h (due_peer e.role) in
-    let unknown : lost o.peer.addr ≡ true = ap not (unknown-is h h.sockets.kept o.peer.addr hop held) in
-    let own : has_come (datagram_deadline_of lost o) m ≡ true = ap (λ (b : Bool). has_come (cond b (Some m) None) m) unknown ∙ same-comes m in
-    let gives_up : has_come (give_up_at lost e.role) m ≡ true =
-    ap (λ (r : Role). has_come (give_up_at lost r) m) is ∙ fold-come (datagram_deadline_of lost) None socket.outbox m ∙ any-of (λ (x : Outgoing). has_come (datagram_deadline_of lost x) m) socket.outbox o waits own in
-    let come : has_come (hop_deadline h e) m ≡ true =
-    sooner-has_come (give_up_at lost e.role) asks m ∙ or-left (has_come (give_up_at lost e.role) m) (has_come asks m) gives_up in
     woken h m (deadline-come h m
     ∙ or-right (has_come (timer_deadline h.sockets) m || has_come (reply_deadline h.interface h.sockets.kept) m || has_come (pool_deadline h.pool) m) (list_any (λ x. has_come (hop_deadline h x) m) h.sockets.entries)
     (any-of (λ (x : Entry). has_come (hop_deadline h x) m) h.sockets.entries e at come))
@@ -290,27 +273,14 @@ entry-comes : (h : HostView) (e : Entry) (peer : Endpoint) (what : Outgoing) →
     → is_on_route h.interface.routes (Some peer.addr) ≡ true → ComesUp h (EntryOf e peer what)
 entry-comes h e peer what few at among routed = by_test (goes_out (way h.interface h.sockets.kept peer.addr)) refl
   where
-<<<<<<< HEAD
-    by_next : (peer : Endpoint) (hop : Addr) → due_peer e.role ≡ Some peer → IsHeld h h.sockets.kept peer.addr hop
-        → ((moment : Moment) × (next_ask hop h.interface.cache.asked ≡ Some moment) × IsAskedFrom h peer.addr moment) ⊎ IsPastAsking h peer.addr → ComesUp h (EntryOf e)
-    by_next peer hop is held (inl next) =
-        inr (inl (peer.addr, next.0, ap (λ (o : Option Endpoint). option_map (λ (x : Endpoint). x.addr) o) is, next.2, entry-wakes h e peer hop next.0 at is held next.1))
-    by_next peer hop is held (inr past) = inr (inr (peer.addr, ap (λ (o : Option Endpoint). option_map (λ (x : Endpoint). x.addr) o) is, past))
+    by_next : (hop : Addr) → IsHeld h h.sockets.kept peer.addr hop → ((moment : Moment) × (next_ask hop h.interface.cache.asked ≡ Some moment) × IsAskedFrom h peer.addr moment) ⊎ IsPastAsking h peer.addr
+        → ComesUp h (EntryOf e peer what)
+    by_next hop held (inl next) = inr (inl (peer.addr, next.0, refl, next.2, entry-wakes h e (peer, what) hop next.0 at among held next.1))
+    by_next hop held (inr past) = inr (inr (peer.addr, refl, past))
 
-    by_peer : (peer : Endpoint) → due_peer e.role ≡ Some peer → can_go_out h h.sockets.kept (EntryOf e) ≡ false → ComesUp h (EntryOf e)
-    by_peer peer is held =
-        let fine : is_on_route h.interface.routes (Some peer.addr) ≡ true = sym (ap (λ (o : Option Endpoint). is_on_route h.interface.routes (option_map (λ (x : Endpoint). x.addr) o)) is) ∙ routed in
-        let waits = held-up h peer.addr few fine (sym (ap (λ (o : Option Endpoint). goes_out (way_to h h.sockets.kept o)) is) ∙ held) in
-        by_next peer waits.hop is waits.held waits.next
-
-    by_test : (b : Bool) → can_go_out h h.sockets.kept (EntryOf e) ≡ b → ComesUp h (EntryOf e)
-=======
     by_test : (b : Bool) → goes_out (way h.interface h.sockets.kept peer.addr) ≡ b → ComesUp h (EntryOf e peer what)
->>>>>>> 717e2c4d (Each datagram that waits is a place among what is due at a host: its own hop is asked for, and it holds none back)
     by_test true goes = inl goes
-    by_test false held =
-        let waits = held-up h peer.addr few routed held in
-        inr (peer.addr, waits.1, refl, waits.4, entry-wakes h e (peer, what) waits.0 waits.1 at among waits.2 waits.3)
+    by_test false held = let waits = held-up h peer.addr few routed held in by_next waits.hop waits.held waits.next
 
 pub place-comes : (h : HostView) (place : Place) → length h.interface.cache.asked ≤ 64 → Contains (places h) place → is_on_route h.interface.routes (address_of place) ≡ true → ComesUp h place
 place-comes h (ReplyOf w) few at routed = reply-comes h w few (reply-at h w at) routed
@@ -321,7 +291,7 @@ place-comes h (EntryOf e peer what) few at routed = let found = entry-at h e pee
 reply-due : (h : HostView) (w : Waiting) → Contains h.interface.replies w → Contains (places h) (ReplyOf w)
 reply-due h w at = Contains-append_left (map ReplyOf h.interface.replies) (flat_map places_of h.sockets.entries) (ReplyOf w) (in-mapped ReplyOf h.interface.replies w at)
 
-entry-due : (h : HostView) (e : Entry) (peer : Endpoint) (what : Outgoing) → Contains h.sockets.entries e → Contains (dues_of e.role) (peer, what) → Contains (places h) (EntryOf e peer what)
+pub entry-due : (h : HostView) (e : Entry) (peer : Endpoint) (what : Outgoing) → Contains h.sockets.entries e → Contains (dues_of e.role) (peer, what) → Contains (places h) (EntryOf e peer what)
 entry-due h e peer what at among =
     Contains-append_right (map ReplyOf h.interface.replies) (flat_map places_of h.sockets.entries) (EntryOf e peer what)
     (in-flattened places_of h.sockets.entries e (EntryOf e peer what) at (in-mapped (λ (due : Endpoint × Outgoing). EntryOf e due.0 due.1) (dues_of e.role) (peer, what) among))
@@ -375,7 +345,7 @@ none-can {X} p (y ∷ ys) x none at e = by_test (λ rest there. none-can p ys x 
     by_test further true passes found = cc
     by_test further false fails found = by_place further fails found at.0 at.1 at.2
 
-unwoken : (h : HostView) (m : Moment) → least_deadline h ≡ None → IsWokenBy h m → ⊥
+pub unwoken : (h : HostView) (m : Moment) → least_deadline h ≡ None → IsWokenBy h m → ⊥
 unwoken h m none wakes = let no = sym none ∙ wakes.1 in cc
 
 comes-not : (h : HostView) (place : Place) → find (can_go_out h h.sockets.kept) (places h) ≡ None → least_deadline h ≡ None → Contains (places h) place → ComesUp h place → IsHeldAtTheEnd h place
@@ -383,7 +353,7 @@ comes-not h place none quiet at (inl goes) = absurd (none-can (can_go_out h h.so
 comes-not h place none quiet at (inr (inl waits)) = absurd (unwoken h waits.1 quiet waits.4)
 comes-not h place none quiet at (inr (inr past)) = past
 
-unrouted-place : (h : HostView) → length h.interface.cache.asked ≤ 64 → find (can_go_out h h.sockets.kept) (places h) ≡ None → least_deadline h ≡ None
+pub unrouted-place : (h : HostView) → length h.interface.cache.asked ≤ 64 → find (can_go_out h h.sockets.kept) (places h) ≡ None → least_deadline h ≡ None
     → (place : Place) → Contains (places h) place → (is_on_route h.interface.routes (address_of place) ≡ false) ⊎ IsHeldAtTheEnd h place
 unrouted-place h few none quiet place at = by_test (is_on_route h.interface.routes (address_of place)) refl
   where
@@ -392,14 +362,14 @@ unrouted-place h few none quiet place at = by_test (is_on_route h.interface.rout
     by_test false unrouted = inl unrouted
 
 -- a place for which no frame can go out
-held-place : (h : HostView) (place : Place) → find (can_go_out h h.sockets.kept) (places h) ≡ None → Contains (places h) place → can_go_out h h.sockets.kept place ≡ false
+pub held-place : (h : HostView) (place : Place) → find (can_go_out h h.sockets.kept) (places h) ≡ None → Contains (places h) place → can_go_out h h.sockets.kept place ≡ false
 held-place h place none at = by_test (can_go_out h h.sockets.kept place) refl
   where
     by_test : (b : Bool) → can_go_out h h.sockets.kept place ≡ b → can_go_out h h.sockets.kept place ≡ false
     by_test true goes = absurd (none-can (can_go_out h h.sockets.kept) (places h) place none at goes)
     by_test false held = held
 
-no-reply : (h : HostView) (routes : List Route) → KeepsSide routes h.interface → find (can_go_out h h.sockets.kept) (places h) ≡ None → least_deadline h ≡ None → h.interface.replies ≡ []
+pub no-reply : (h : HostView) (routes : List Route) → KeepsSide routes h.interface → find (can_go_out h h.sockets.kept) (places h) ≡ None → least_deadline h ≡ None → h.interface.replies ≡ []
 no-reply h routes keeps none quiet = by_replies h.interface.replies refl
   where
     by_address : (w : Waiting) (o : Option Addr) → Contains h.interface.replies w → sought w.reply ≡ o → is_on_route h.interface.routes o ≡ true → can_go_out h h.sockets.kept (ReplyOf w) ≡ false → ⊥
@@ -415,47 +385,17 @@ no-reply h routes keeps none quiet = by_replies h.interface.replies refl
         let routed : is_on_route h.interface.routes (sought w.reply) ≡ true = all-of (λ (x : Waiting). is_on_route h.interface.routes (sought x.reply) ≡ true) h.interface.replies w keeps.routed here in
         absurd (by_address w (sought w.reply) here refl routed (held-place h (ReplyOf w) none (reply-due h w here)))
 
-no-datagram : (h : HostView) → length h.interface.cache.asked ≤ 64 → find (can_go_out h h.sockets.kept) (places h) ≡ None → least_deadline h ≡ None
+pub no-datagram : (h : HostView) → length h.interface.cache.asked ≤ 64 → find (can_go_out h h.sockets.kept) (places h) ≡ None → least_deadline h ≡ None
     → (e : Entry) (bound : Option Endpoint) (socket : SocketView) (place : ℕ) (o : OutDatagram) → Contains h.sockets.entries e → e.role ≡ Datagrams bound socket → slice_get socket.outbox place ≡ Some o
     → is_routed h.interface o.peer.addr ≡ false
 no-datagram h few none quiet e bound socket place o at is waits = by_test (is_routed h.interface o.peer.addr) refl
   where
-<<<<<<< HEAD
-    by_test : (b : Bool) → is_routed h.interface first.peer.addr ≡ b → is_routed h.interface first.peer.addr ≡ false
-    by_test true routed =
-        let due = datagram-comes h e bound socket first others few at is waits routed in
-        let peer : due_peer e.role ≡ Some first.peer = ap due_peer is ∙ ap datagram_peer waits in
-        let held : goes_out (way h.interface h.sockets.kept first.peer.addr) ≡ false =
-        sym (ap (λ (o : Option Endpoint). goes_out (way_to h h.sockets.kept o)) peer) ∙ held-place h (EntryOf e) none due.0 in
-        let by = held-by h h.sockets.kept first.peer.addr routed held in
-        let here : Contains socket.outbox first = subst (λ (xs : List Outgoing). Contains xs first) (sym waits) (0, omega arith, refl) in
-        absurd (unwoken h (after first.since HOP_WAIT) quiet (datagram-ends h e bound socket first by.0 at is here by.1))
-=======
     by_test : (b : Bool) → is_routed h.interface o.peer.addr ≡ b → is_routed h.interface o.peer.addr ≡ false
-    by_test true routed = let due = datagram-comes h e bound socket place o few at is waits routed in absurd (comes-not h (EntryOf e o.peer (Datagram place)) none quiet due.0 due.1)
->>>>>>> 717e2c4d (Each datagram that waits is a place among what is due at a host: its own hop is asked for, and it holds none back)
+    by_test true routed =
+        let due = datagram-comes h e bound socket place o few at is waits routed in
+        let by = held-by h h.sockets.kept o.peer.addr routed (held-place h (EntryOf e o.peer (Datagram place)) none due.0) in
+        absurd (unwoken h (after o.since HOP_WAIT) quiet (datagram-ends h e bound socket o by.0 at is (got-in socket.outbox place o waits) by.1))
     by_test false unrouted = unrouted
-
-nothing-to-send : (h : HostView) → length h.interface.cache.asked ≤ 64 → IsSoundHost h → EachKeepsTime h.sockets → find (can_go_out h h.sockets.kept) (places h) ≡ None → least_deadline h ≡ None
-    → (e : Entry) (c : View) (l : Option SocketId) → Contains h.sockets.entries e → e.role ≡ Connected c l → is_some (next_hop h.interface.routes c.peer.addr) ≡ true → HasToSend c → IsPastAsking h c.peer.addr
-nothing-to-send h few sound timed none quiet e c l at is routed waits = by_cause (connection-comes h e c l few sound timed at is routed waits)
-  where
-<<<<<<< HEAD
-    peer_is : (to : Addr) → address_of (EntryOf e) ≡ Some to → to ≡ c.peer.addr
-    peer_is to told = by_first (is_some (first_due c)) (sym (ap (λ (r : Role). option_map (λ (x : Endpoint). x.addr) (due_peer r)) is) ∙ told)
-      where
-        by_first : (d : Bool) → option_map (λ (x : Endpoint). x.addr) (cond d (Some c.peer) None) ≡ Some to → to ≡ c.peer.addr
-        by_first true some = cc
-        by_first false some = cc
-
-    by_cause : ConnectionComesUp h e c → IsPastAsking h c.peer.addr
-    by_cause (inl due) = let past = comes-not h (EntryOf e) none quiet due.0 due.1 in subst (IsPastAsking h) (peer_is past.0 past.1) past.2
-    by_cause (inr timer) = absurd (unwoken h timer.0 quiet timer.2)
-=======
-    by_cause : ConnectionComesUp h e c → ⊥
-    by_cause (inl due) = comes-not h (EntryOf e c.peer (Segment due.0)) none quiet due.1.0 due.1.1
-    by_cause (inr timer) = unwoken h timer.0 quiet timer.2
->>>>>>> 717e2c4d (Each datagram that waits is a place among what is due at a host: its own hop is asked for, and it holds none back)
 
 -- Of every host.
 
@@ -476,13 +416,3 @@ pub connection-of-run : (h : HostView) (e : Entry) (c : View) (listener : Option
     → HasToSend c → ConnectionComesUp h e c
 connection-of-run h e c l sound run at is routed waits =
     let keeps = run-side run.config run.events h run.runs in connection-comes h e c l keeps.few sound (run-timed run.config run.events h run.runs) at is routed waits
-
-pub quiet-of-run : (h : HostView) → IsSoundHost h → HasRun h → find (can_go_out h h.sockets.kept) (places h) ≡ None → least_deadline h ≡ None → IsQuiet h
-quiet-of-run h sound run none quiet =
-    let keeps = run-side run.config run.events h run.runs in
-    record {
-      replies = no-reply h run.config.routes keeps none quiet;
-      due = unrouted-place h keeps.few none quiet;
-      datagrams = no-datagram h keeps.few none quiet;
-      connections = λ e c l at is routed waits. nothing-to-send h keeps.few sound (run-timed run.config run.events h run.runs) none quiet e c l at is routed waits;
-    }

@@ -1,23 +1,21 @@
 -- How the wait of a connection for its hop ends at a host, and that the deadline names its end.
-use Rattle.std.proofs.Common.{◌≡◌, ◌≤◌, ◌<◌, ◌&&◌, ◌||◌, not, Bool, true, false, Contains, cond, Option, Some, None, refl, sym, ◌∙◌, ap, subst}
+use Rattle.std.proofs.Common.{◌≡◌, ◌≤◌, ◌<◌, ◌&&◌, ◌||◌, Bool, true, false, Contains, cond, Option, Some, None, sym, ◌∙◌, ap, subst}
 use Rattle.std.specs.List.{list_any}
 use Rattle.clock.specs.declared.moment.Moment.{Moment}
-use Rattle.clock.specs.Moments.{after, has_come, sooner}
+use Rattle.clock.specs.Moments.{after, has_come}
 use Rattle.clock.proofs.Comings.{sooner-has_come}
 use Rattle.interface.specs.Timing.{least_deadline as reply_deadline}
 use Rattle.reassembly.specs.Places.{next_deadline as pool_deadline}
 use Rattle.tcp_state.specs.declared.calls.Refusal.TheVariants.{ETIMEDOUT}
-use Rattle.tcp_state.specs.Hop.{unheard_until}
 use Rattle.tcp_state.specs.Said.{IsClosedBy}
 use Rattle.tcp_state.specs.Timing.{gives_up}
 use Rattle.tcp_state.specs.View.{View, is_syn_received}
 use Rattle.sockets.specs.declared.entry.Entry.{Entry}
 use Rattle.sockets.specs.declared.entry.SocketId.{SocketId}
-use Rattle.sockets.specs.declared.role.Role.{Role}
 use Rattle.sockets.specs.declared.role.Role.TheVariants.{Connected}
 use Rattle.sockets.specs.Causes as table
 use Rattle.sockets.specs.Closing.{entry_of}
-use Rattle.sockets.specs.Entries.{due_peer}
+use Rattle.sockets.specs.Entries.{dues_of}
 use Rattle.sockets.specs.Lost.{give_up_at, waits_until}
 use Rattle.sockets.specs.SocketsView.{later_moment}
 use Rattle.sockets.specs.Steps.{connected, connection_left}
@@ -78,7 +76,7 @@ pub hop-wakes : (h : HostView) (e : Entry) (c : View) (listener : Option SocketI
     → IsWokenBy h until
 hop-wakes h e c listener until at is unreached waits =
     let gives : Option Moment = give_up_at (lacks_hop h h.sockets.kept) e.role in
-    let asks : Option Moment = request_deadline h (due_peer e.role) in
+    let asks : Option Moment = request_deadline h (dues_of e.role) in
     let own : gives ≡ Some until =
     ap (give_up_at (lacks_hop h h.sockets.kept)) is ∙ ap (λ (b : Bool). cond b (waits_until c) None) unreached ∙ waits in
     let come : has_come (hop_deadline h e) until ≡ true =

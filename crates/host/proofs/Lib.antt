@@ -21,3 +21,4 @@ pub mod Owed
 pub mod Late
 pub mod Hopless
 pub mod RunsDry
+pub mod Quiet

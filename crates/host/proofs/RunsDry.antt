@@ -1,5 +1,5 @@
 -- A host runs dry: each frame leaves fewer that may follow it.
-use Rattle.std.proofs.Common.{◌≡◌, ◌≢◌, ℕ, ◌+◌, ◌-◌, ◌*◌, ◌/◌, max, ◌<◌, ◌≤◌, Bool, true, false, cond, nat_lt, List, [], ◌∷◌, length, Option, Some, None, is_some, refl, sym, ◌∙◌, ap, subst, arith}
+use Rattle.std.proofs.Common.{◌≡◌, ◌≢◌, ℕ, ◌+◌, ◌-◌, ◌*◌, ◌/◌, max, ◌<◌, ◌≤◌, Bool, true, false, cond, nat_lt, List, [], ◌∷◌, ◌++◌, length, Option, Some, None, is_some, option_map, refl, sym, ◌∙◌, ap, subst, arith}
 use Rattle.std.specs.List.{find, position, slice_get, sum_by, AllByRecursion}
 use Rattle.std.proofs.lemmas.Bool.Decides.{nat_tests}
 use Rattle.std.proofs.lemmas.List.Sums.{sum_by-cons}
@@ -10,19 +10,22 @@ use Rattle.clock.specs.declared.moment.Moment.{Moment}
 use Rattle.arp.specs.declared.entry.Asked.{Asked}
 use Rattle.arp.specs.Cache.{Cache, after_ask, look, may_ask}
 use Rattle.udp.specs.Fragments.{count_of}
-use Rattle.udp_socket.specs.Emission.{after_part, due_peer as datagram_peer}
+use Rattle.udp.specs.Waiting.{brought_forward}
+use Rattle.udp.proofs.Forward.{IsSplit, brought_split}
+use Rattle.udp_socket.specs.Emission.{after_part, brought}
+use Rattle.udp_socket.proofs.FirstThat.{FailAll, IsFirst, found as first-split}
 use Rattle.udp_socket.specs.SocketView.{Outgoing, SocketView}
 use Rattle.tcp_state.specs.declared.emission.Due.{Due}
-use Rattle.tcp_state.specs.Due.{first_due, after_emitted}
 use Rattle.tcp_state.specs.Edges.{after_first}
-use Rattle.tcp_state.specs.View.{View, IsSound}
+use Rattle.tcp_state.specs.Most.{most_due}
+use Rattle.tcp_state.proofs.RunsDry.{runs_dry}
 use Rattle.tcp_state.specs.declared.connection.Fate.{Fate}
 use Rattle.interface.specs.declared.reply.Waiting.{Waiting}
 use Rattle.interface.specs.declared.way.Way.{Way}
 use Rattle.interface.specs.declared.way.Way.TheVariants.{To, Ask, Waits}
 use Rattle.interface.specs.InterfaceView.{InterfaceView}
 use Rattle.interface.specs.Emission.{asked, frames_left, left_by as reply_left, len_at, len_by, len_of_one, way_at, way_of_one, after_emission as after_reply}
-use Rattle.interface.specs.Replies.{is_due as is_reply_due}
+use Rattle.interface.specs.Replies.{goes_out, is_due as is_reply_due}
 use Rattle.interface.specs.Routing.{next_hop}
 use Rattle.interface.specs.Ways.{knows_hop, mac_of, way, way_by_mac, way_over}
 use Rattle.interface.proofs.RunsOut.{fewer as frame_fewer, one_asked}
@@ -30,14 +33,15 @@ use Rattle.interface.proofs.Waits.{first_goes}
 use Rattle.sockets.specs.declared.entry.Entry.{Entry}
 use Rattle.sockets.specs.declared.role.Role.{Role}
 use Rattle.sockets.specs.declared.role.Role.TheVariants.{Idle, Listener, Connected, Datagrams}
-use Rattle.sockets.specs.Entries.{due_peer, sends, is_kept, with_role, role_after_emission, emission_fate_of, entries_after_step}
-use Rattle.sockets.specs.Emission.{after_segment_sent}
+use Rattle.sockets.specs.declared.emission.Outgoing.{Outgoing as What}
+use Rattle.sockets.specs.Entries.{due_to, place_of, sends, is_kept, with_role, role_after_emission, emission_fate_of, entries_after_step}
+use Rattle.sockets.specs.Emission.{Next, after_segment_sent}
 use Rattle.sockets.specs.Lists.{change_first, remove_first}
 use Rattle.sockets.specs.SocketsView.{SocketsView, later_moment}
 use Rattle.sockets.specs.Sound.{IsSoundRole}
-use Rattle.sockets.proofs.Emitting.{segment_sent-found}
+use Rattle.sockets.proofs.Emitting.{IsFirstDatagram, first_datagram, first_segment, found_due, next-found, next-none, segment_sent-found, segment_sent-none}
 use Rattle.host.specs.Dry.{fragments_left, datagrams_left, most_of, most_at, most_frames, GivesOut, NoFrame, OneMore}
-use Rattle.host.specs.Emission.{Emission, Replies, Sends, Asks, Nothing, emission, emission_at, emission_by, emission_from, emission_to, goes_out_from, len_of, left_by, after_emission, emission_len}
+use Rattle.host.specs.Emission.{Emission, Replies, Sends, Asks, Nothing, emission, emission_at, emission_by, emission_to, goes_out_from, len_of, left_by, after_emission, emission_len, table_emission}
 use Rattle.host.specs.HostView.{HostView}
 use Rattle.host.specs.Sound.{IsSoundHost}
 
@@ -116,28 +120,75 @@ datagram-less known o rest s is knows = by_test (nat_lt (1480 * (s.parts + 1)) (
         let falls : Falls (after_part s) = subst Falls (sym then) (after b e) in
         subst (λ (out : List Outgoing). datagrams_left known (let t = after_part s in t.parts) (let t = after_part s in t.outbox) < datagrams_left known s.parts out) (sym is) falls
 
+-- A datagram that goes before others whose hop isn't known: of those nothing was counted.
+
+fails-on : (known goes : Addr → Bool) → ((to : Addr) → known to ≡ true → goes to ≡ true) → (os : List Outgoing) → FailAll goes os → FailAll known os
+fails-on known goes may [] none = tt
+fails-on known goes may (o ∷ os) none = (by_test (known o.peer.addr) refl, fails-on known goes may os none.1)
+  where
+    by_test : (b : Bool) → known o.peer.addr ≡ b → known o.peer.addr ≡ false
+    by_test true knows = let no : true ≡ false = sym (may o.peer.addr knows) ∙ none.0 in cc
+    by_test false unknown = unknown
+
+unknown-before : (known : Addr → Bool) (front rest : List Outgoing) → FailAll known front → datagrams_left known 0 (front ++ rest) ≡ datagrams_left known 0 rest
+unknown-before known [] rest none = refl
+unknown-before known (o ∷ front) rest none =
+    let first : datagrams_left known 0 (o ∷ (front ++ rest)) ≡ 0 + datagrams_left known 0 (front ++ rest) = ap (λ (b : Bool). cond b (fragments_left 0 o) 0 + datagrams_left known 0 (front ++ rest)) none.0 in
+    omega (arith, first, unknown-before known front rest none.1)
+
+-- the datagram that goes first then
+record IsBrought (known : Addr → Bool) (s t : SocketView) (o : Outgoing) : Type 0 where
+  others : List Outgoing
+  outbox : t.outbox ≡ o ∷ others
+  same : datagrams_left known t.parts t.outbox ≡ datagrams_left known s.parts s.outbox
+
+brought-first : (known : Addr → Bool) (s : SocketView) (front back : List Outgoing) (o : Outgoing) → s.outbox ≡ front ++ o ∷ back → FailAll known front → IsBrought known s (brought (length front) s) o
+brought-first known s [] back o is none = record { others = back; outbox = is; same = refl }
+brought-first known s (x ∷ front) back o is none =
+    let all : List Outgoing = x ∷ front in
+    let moved : brought_forward (length all) s.outbox ≡ o ∷ (all ++ back) = ap (λ (os : List Outgoing). brought_forward (length all) os) is ∙ brought_split all back o in
+    let first : datagrams_left known s.parts (x ∷ (front ++ o ∷ back)) ≡ 0 + datagrams_left known 0 (front ++ o ∷ back) =
+    ap (λ (b : Bool). cond b (fragments_left s.parts x) 0 + datagrams_left known 0 (front ++ o ∷ back)) none.0 in
+    let before : datagrams_left known s.parts s.outbox ≡ datagrams_left known 0 (o ∷ back) =
+    ap (λ (os : List Outgoing). datagrams_left known s.parts os) is ∙ omega (arith, first, unknown-before known front (o ∷ back) none.1) in
+    let after : datagrams_left known 0 (brought_forward (length all) s.outbox) ≡ datagrams_left known 0 (o ∷ back) =
+    ap (λ (os : List Outgoing). datagrams_left known 0 os) moved
+    ∙ ap (λ (n : ℕ). cond (known o.peer.addr) (fragments_left 0 o) 0 + n) (unknown-before known all back none) in
+    record { others = all ++ back; outbox = moved; same = after ∙ sym before }
+
+slice-front : {X : Type 0} (front back : List X) (x : X) → slice_get (front ++ x ∷ back) (length front) ≡ Some x
+slice-front [] back x = refl
+slice-front (y ∷ front) back x = slice-front front back x
+
 -- An entry of which something has gone out.
 
--- of a connection each segment leaves fewer
-abbrev pub EachFalls : (View → ℕ) → Type 0
-EachFalls segments = (v : View) (due : Due) (now : Moment) → IsSound v → first_due v ≡ Some due → segments (after_emitted v due now) < segments v
+role-less : (known goes : Addr → Bool) → ((to : Addr) → known to ≡ true → goes to ≡ true) → (now : Moment) (role : Role) (due : Endpoint × What) → IsSoundRole role
+    → due_to goes role ≡ Some due → known due.0.addr ≡ true → most_of known (role_after_emission now due.1 role) < most_of known role
+role-less known goes may now (Idle buffers bound) due sound is knows = cc
+role-less known goes may now (Listener local backlog) due sound is knows = cc
+role-less known goes may now (Connected c l) due sound is knows =
+    let first = first_segment goes c l due is in
+    subst (λ (o : Option Due). most_due (after_first c o now) < most_due c) (sym first.first) (runs_dry c first.segment now sound.sound first.first)
+role-less known goes may now (Datagrams bound socket) due sound is knows = by_split (first-split goes socket.outbox first.place first.first)
+  where
+    first : IsFirstDatagram goes socket.outbox 0 due
+    first = first_datagram goes bound socket due is
 
-role-less : (segments : View → ℕ) → EachFalls segments → (known : Addr → Bool) (now : Moment) (role : Role) (peer : Endpoint) → IsSoundRole role → due_peer role ≡ Some peer → known peer.addr ≡ true
-    → most_of segments known (role_after_emission now role) < most_of segments known role
-role-less segments falls known now (Idle buffers bound) peer sound is knows = cc
-role-less segments falls known now (Listener local backlog) peer sound is knows = cc
-role-less segments falls known now (Connected c l) peer sound is knows = by_due (first_due c) refl is
-  where
-    by_due : (o : Option Due) → first_due c ≡ o → cond (is_some o) (Some c.peer) None ≡ Some peer → segments (after_first c (first_due c) now) < segments c
-    by_due None first e = cc
-    by_due (Some due) first e = subst (λ (o : Option Due). segments (after_first c o now) < segments c) (sym first) (falls c due now sound.sound first)
-role-less segments falls known now (Datagrams bound socket) peer sound is knows = by_outbox socket.outbox refl is
-  where
-    by_outbox : (out : List Outgoing) → socket.outbox ≡ out → datagram_peer out ≡ Some peer → datagrams_left known (let t = after_part socket in t.parts) (let t = after_part socket in t.outbox) < datagrams_left known socket.parts socket.outbox
-    by_outbox [] at e = cc
-    by_outbox (o ∷ rest) at e =
-        let same : o.peer ≡ peer = cc in
-        datagram-less known o rest socket at (ap (λ (x : Endpoint). known x.addr) same ∙ knows)
+    Falls : SocketView → Type 0
+    Falls t = datagrams_left known (let u = after_part t in u.parts) (let u = after_part t in u.outbox) < datagrams_left known socket.parts socket.outbox
+
+    by_split : IsFirst goes socket.outbox first.place → Falls (brought (place_of due.1) socket)
+    by_split split =
+        let parts : IsSplit socket.outbox first.place split.item = split.parts in
+        let there : slice_get socket.outbox first.place ≡ Some split.item =
+        ap (λ (os : List Outgoing). slice_get os first.place) parts.is ∙ ap (slice_get (parts.front ++ split.item ∷ parts.back)) (sym parts.len) ∙ slice-front parts.front parts.back split.item in
+        let peer : split.item.peer ≡ due.0 = (let told : ◌≡◌ {A = Option Endpoint} (Some split.item.peer) (Some due.0) = ap (λ (o : Option Outgoing). option_map (λ (x : Outgoing). x.peer) o) (sym there) ∙ first.peer in cc) in
+        let place : place_of due.1 ≡ length parts.front = ap place_of first.what ∙ omega (arith, parts.len) in
+        let brings = brought-first known socket parts.front parts.back split.item parts.is (fails-on known goes may parts.front split.before) in
+        let less = datagram-less known split.item brings.others (brought (length parts.front) socket) brings.outbox (ap (λ (x : Endpoint). known x.addr) peer ∙ knows) in
+        let own : Falls (brought (length parts.front) socket) =
+        subst (λ (n : ℕ). datagrams_left known (let u = after_part (brought (length parts.front) socket) in u.parts) (let u = after_part (brought (length parts.front) socket) in u.outbox) < n) brings.same less in
+        subst (λ (n : ℕ). Falls (brought n socket)) (sym place) own
 
 -- What a known hop has to do with it.
 
@@ -146,15 +197,15 @@ datagrams-same p q same parts [] = refl
 datagrams-same p q same parts (o ∷ rest) =
     ap (λ (b : Bool). cond b (fragments_left parts o) 0 + datagrams_left p 0 rest) (same o.peer.addr) ∙ ap (λ (n : ℕ). cond (q o.peer.addr) (fragments_left parts o) 0 + n) (datagrams-same p q same 0 rest)
 
-role-same : (segments : View → ℕ) (p q : Addr → Bool) → ((to : Addr) → p to ≡ q to) → (role : Role) → most_of segments p role ≡ most_of segments q role
-role-same segments p q same (Idle buffers bound) = refl
-role-same segments p q same (Listener local backlog) = refl
-role-same segments p q same (Connected c l) = refl
-role-same segments p q same (Datagrams bound socket) = datagrams-same p q same socket.parts socket.outbox
+role-same : (p q : Addr → Bool) → ((to : Addr) → p to ≡ q to) → (role : Role) → most_of p role ≡ most_of q role
+role-same p q same (Idle buffers bound) = refl
+role-same p q same (Listener local backlog) = refl
+role-same p q same (Connected c l) = refl
+role-same p q same (Datagrams bound socket) = datagrams-same p q same socket.parts socket.outbox
 
-entries-same : (segments : View → ℕ) (p q : Addr → Bool) → ((to : Addr) → p to ≡ q to) → (entries : List Entry)
-    → sum_by (λ (e : Entry). most_of segments p e.role) entries ≡ sum_by (λ (e : Entry). most_of segments q e.role) entries
-entries-same segments p q same entries = sum-same (λ (e : Entry). most_of segments p e.role) (λ (e : Entry). most_of segments q e.role) (λ e. role-same segments p q same e.role) entries
+entries-same : (p q : Addr → Bool) → ((to : Addr) → p to ≡ q to) → (entries : List Entry)
+    → sum_by (λ (e : Entry). most_of p e.role) entries ≡ sum_by (λ (e : Entry). most_of q e.role) entries
+entries-same p q same entries = sum-same (λ (e : Entry). most_of p e.role) (λ (e : Entry). most_of q e.role) (λ e. role-same p q same e.role) entries
 
 -- the pairs of the table say which hop is known
 known-by : (now : Moment) (cache : Cache) (notes : List Asked) (hop : Option Addr) → is_some (mac_of now (record cache { asked = notes }) hop) ≡ is_some (mac_of now cache hop)
@@ -181,6 +232,17 @@ known-to i now to mac goes = by_hop (next_hop i.routes to) goes
     by_hop None e = absurd cc
     by_hop (Some hop) e = by_mac hop (look now hop i.cache) e
 
+known-goes : (i : InterfaceView) (now : Moment) (to : Addr) → knows_hop i now to ≡ true → goes_out (way i now to) ≡ true
+known-goes i now to knows = by_hop (next_hop i.routes to) knows
+  where
+    by_mac : (hop : Addr) (o : Option Mac) → is_some o ≡ true → goes_out (way_by_mac now i.cache.asked hop o) ≡ true
+    by_mac hop (Some m) e = refl
+    by_mac hop None e = absurd cc
+
+    by_hop : (o : Option Addr) → is_some (mac_of now i.cache o) ≡ true → goes_out (way_over now i.cache o) ≡ true
+    by_hop None e = absurd cc
+    by_hop (Some hop) e = by_mac hop (look now hop i.cache) e
+
 -- The first reply for which a frame can go out doesn't wait.
 
 reply-goes : (i : InterfaceView) (now : Moment) (place : ℕ) → position (is_reply_due i now) i.replies ≡ Some place → way_at i now place ≢ Waits
@@ -195,23 +257,23 @@ reply-goes i now place at waits =
 
 -- What goes out, and what is left.
 
-abbrev entry_frames : (View → ℕ) → InterfaceView → Moment → List Entry → ℕ
-entry_frames segments i moment entries = sum_by (λ (e : Entry). most_of segments (knows_hop i moment) e.role) entries
+abbrev entry_frames : InterfaceView → Moment → List Entry → ℕ
+entry_frames i moment entries = sum_by (λ (e : Entry). most_of (knows_hop i moment) e.role) entries
 
-left-less : (segments : View → ℕ) → EachFalls segments → (h : HostView) (moment : Moment) (len : ℕ) → IsSoundHost h → len_of h moment (emission h moment) ≡ Some len
-    → most_at segments (left_by h moment (emission h moment)) moment < most_at segments h moment
-left-less segments falls h moment len sound goes = by_reply (position (is_reply_due h.interface moment) h.interface.replies) refl
+left-less : (h : HostView) (moment : Moment) (len : ℕ) → IsSoundHost h → len_of h moment (emission h moment) ≡ Some len
+    → most_at (left_by h moment (emission h moment)) moment < most_at h moment
+left-less h moment len sound goes = by_reply (position (is_reply_due h.interface moment) h.interface.replies) refl
   where
     Less : Emission → Type 0
-    Less what = most_at segments (left_by h moment what) moment < most_at segments h moment
+    Less what = most_at (left_by h moment what) moment < most_at h moment
 
     reply : (place : ℕ) → position (is_reply_due h.interface moment) h.interface.replies ≡ Some place → Less (Replies place)
     reply place at =
         let i : InterfaceView = h.interface in
         let left : InterfaceView = after_reply i moment place in
         let one : frames_left left moment + 1 ≡ frames_left i moment = frame_fewer i moment place (reply-goes i moment place at) in
-        let same : entry_frames segments left moment h.sockets.entries ≡ entry_frames segments i moment h.sockets.entries =
-        entries-same segments (knows_hop left moment) (knows_hop i moment) (known-left i moment place (way_at i moment place)) h.sockets.entries in
+        let same : entry_frames left moment h.sockets.entries ≡ entry_frames i moment h.sockets.entries =
+        entries-same (knows_hop left moment) (knows_hop i moment) (known-left i moment place (way_at i moment place)) h.sockets.entries in
         omega (arith, one, same)
 
     request : (to hop : Addr) → way h.interface moment to ≡ Ask hop → Less (Asks hop)
@@ -219,58 +281,59 @@ left-less segments falls h moment len sound goes = by_reply (position (is_reply_
         let i : InterfaceView = h.interface in
         let left : InterfaceView = asked i moment hop in
         let one = one_asked i moment to hop goes in
-        let same : entry_frames segments left moment h.sockets.entries ≡ entry_frames segments i moment h.sockets.entries =
-        entries-same segments (knows_hop left moment) (knows_hop i moment) (λ to. known-by moment i.cache (let c = after_ask moment hop i.cache in c.asked) (next_hop i.routes to)) h.sockets.entries in
+        let same : entry_frames left moment h.sockets.entries ≡ entry_frames i moment h.sockets.entries =
+        entries-same (knows_hop left moment) (knows_hop i moment) (λ to. known-by moment i.cache (let c = after_ask moment hop i.cache in c.asked) (next_hop i.routes to)) h.sockets.entries in
         omega (arith, one.0, one.1, same)
 
-    sent : (e : Entry) (peer : Endpoint) (mac : Mac) → find (sends (goes_out_from h moment)) h.sockets.entries ≡ Some e → due_peer e.role ≡ Some peer → way h.interface moment peer.addr ≡ To mac
-        → Less (Sends mac peer.addr)
-    sent e peer mac found is goes =
+    goes-to : Addr → Bool
+    goes-to = goes_out_from h moment
+
+    sent : (e : Entry) (due : Endpoint × What) (mac : Mac) → find (sends goes-to) h.sockets.entries ≡ Some e → due_to goes-to e.role ≡ Some due → way h.interface moment due.0.addr ≡ To mac
+        → Less (Sends mac due.0.addr)
+    sent e due mac found is goes =
         let then : Moment = later_moment h.sockets moment in
         let known : Addr → Bool = knows_hop h.interface moment in
-        let solid : IsSoundRole e.role = all-found (λ (x : Entry). IsSoundRole x.role) (sends (goes_out_from h moment)) h.sockets.entries e sound.table.entries found in
-        let own : most_of segments known (role_after_emission then e.role) < most_of segments known e.role = role-less segments falls known then e.role peer solid is (known-to h.interface moment peer.addr mac goes) in
-        let entries : sum_by (λ (x : Entry). most_of segments known x.role) (entries_after_step (emission_fate_of (role_after_emission then e.role)) (sends (goes_out_from h moment)) (role_after_emission then) h.sockets.entries)
-        < sum_by (λ (x : Entry). most_of segments known x.role) h.sockets.entries =
-        step-less (most_of segments known) (sends (goes_out_from h moment)) (emission_fate_of (role_after_emission then e.role)) (role_after_emission then) h.sockets.entries e found own in
-        let left : (let t = after_segment_sent h.sockets (goes_out_from h moment) moment in t.entries)
-        ≡ entries_after_step (emission_fate_of (role_after_emission then e.role)) (sends (goes_out_from h moment)) (role_after_emission then) h.sockets.entries =
-        ap (λ (t : SocketsView). t.entries) (segment_sent-found h.sockets (goes_out_from h moment) moment e found) in
-        let all : sum_by (λ (x : Entry). most_of segments known x.role) (let t = after_segment_sent h.sockets (goes_out_from h moment) moment in t.entries)
-        < sum_by (λ (x : Entry). most_of segments known x.role) h.sockets.entries =
-        subst (λ (xs : List Entry). sum_by (λ (x : Entry). most_of segments known x.role) xs < sum_by (λ (x : Entry). most_of segments known x.role) h.sockets.entries) (sym left) entries in
+        let solid : IsSoundRole e.role = all-found (λ (x : Entry). IsSoundRole x.role) (sends goes-to) h.sockets.entries e sound.table.entries found in
+        let own : most_of known (role_after_emission then due.1 e.role) < most_of known e.role =
+        role-less known goes-to (known-goes h.interface moment) then e.role due solid is (known-to h.interface moment due.0.addr mac goes) in
+        let stepped : List Entry = entries_after_step (emission_fate_of (role_after_emission then due.1 e.role)) (sends goes-to) (role_after_emission then due.1) h.sockets.entries in
+        let entries : sum_by (λ (x : Entry). most_of known x.role) stepped < sum_by (λ (x : Entry). most_of known x.role) h.sockets.entries =
+        step-less (most_of known) (sends goes-to) (emission_fate_of (role_after_emission then due.1 e.role)) (role_after_emission then due.1) h.sockets.entries e found own in
+        let left : (let t = after_segment_sent h.sockets goes-to moment in t.entries) ≡ stepped = ap (λ (t : SocketsView). t.entries) (segment_sent-found h.sockets goes-to moment e due found is) in
+        let all : sum_by (λ (x : Entry). most_of known x.role) (let t = after_segment_sent h.sockets goes-to moment in t.entries)
+        < sum_by (λ (x : Entry). most_of known x.role) h.sockets.entries =
+        subst (λ (xs : List Entry). sum_by (λ (x : Entry). most_of known x.role) xs < sum_by (λ (x : Entry). most_of known x.role) h.sockets.entries) (sym left) entries in
         omega (arith, all)
 
     by_what : (what : Emission) → emission h moment ≡ what → (len_of h moment what ≡ Some len → Less what) → Less (emission h moment)
     by_what what is less = subst Less (sym is) (less (ap (len_of h moment) (sym is) ∙ goes))
 
-    by_way : (e : Entry) (peer : Endpoint) (w : Way) → find (sends (goes_out_from h moment)) h.sockets.entries ≡ Some e → due_peer e.role ≡ Some peer → way h.interface moment peer.addr ≡ w
-        → emission h moment ≡ emission_by peer.addr w → Less (emission h moment)
-    by_way e peer (To mac) found is goes so = by_what (Sends mac peer.addr) so (λ len. sent e peer mac found is goes)
-    by_way e peer (Ask hop) found is goes so = by_what (Asks hop) so (λ len. request peer.addr hop goes)
-    by_way e peer Waits found is goes so = by_what Nothing so (λ len. absurd cc)
+    by_way : (e : Entry) (due : Endpoint × What) (w : Way) → find (sends goes-to) h.sockets.entries ≡ Some e → due_to goes-to e.role ≡ Some due → way h.interface moment due.0.addr ≡ w
+        → emission h moment ≡ emission_by due.0.addr w → Less (emission h moment)
+    by_way e due (To mac) found is goes so = by_what (Sends mac due.0.addr) so (λ len. sent e due mac found is goes)
+    by_way e due (Ask hop) found is goes so = by_what (Asks hop) so (λ len. request due.0.addr hop goes)
+    by_way e due Waits found is goes so = by_what Nothing so (λ len. absurd cc)
 
-    by_peer : (e : Entry) (o : Option Endpoint) → find (sends (goes_out_from h moment)) h.sockets.entries ≡ Some e → due_peer e.role ≡ o → emission h moment ≡ emission_to h moment o → Less (emission h moment)
-    by_peer e None found is so = by_what Nothing so (λ len. absurd cc)
-    by_peer e (Some peer) found is so = by_way e peer (way h.interface moment peer.addr) found is refl so
-
-    by_entry : (o : Option Entry) → find (sends (goes_out_from h moment)) h.sockets.entries ≡ o → emission h moment ≡ emission_from h moment o → Less (emission h moment)
-    by_entry None found so = by_what Nothing so (λ len. absurd cc)
-    by_entry (Some e) found so = by_peer e (due_peer e.role) found refl so
+    by_entry : (o : Option Entry) → find (sends goes-to) h.sockets.entries ≡ o → emission h moment ≡ table_emission h moment → Less (emission h moment)
+    by_entry None found so =
+        by_what Nothing (so ∙ ap (λ (n : Option Next). emission_to h moment (option_map (λ (x : Next). x.peer) n)) (next-none h.sockets goes-to found)) (λ len. absurd cc)
+    by_entry (Some e) found so =
+        let due = found_due h.sockets goes-to e found in
+        by_way e due.0 (way h.interface moment due.0.0.addr) found due.1 refl
+        (so ∙ ap (λ (n : Option Next). emission_to h moment (option_map (λ (x : Next). x.peer) n)) (next-found h.sockets goes-to e due.0 found due.1))
 
     by_reply : (o : Option ℕ) → position (is_reply_due h.interface moment) h.interface.replies ≡ o → Less (emission h moment)
     by_reply (Some place) at = by_what (Replies place) (ap (emission_at h moment) at) (λ len. reply place at)
-    by_reply None at =
-        by_entry (find (sends (goes_out_from h moment)) h.sockets.entries) refl (ap (emission_at h moment) at)
+    by_reply None at = by_entry (find (sends goes-to) h.sockets.entries) refl (ap (emission_at h moment) at)
 
 -- the kept moment stays
 
-kept-sent : (s : SocketsView) (goes : Entry → Bool) (now : Moment) → (let t = after_segment_sent s goes now in t.kept) ≡ s.kept
+kept-sent : (s : SocketsView) (goes : Addr → Bool) (now : Moment) → (let t = after_segment_sent s goes now in t.kept) ≡ s.kept
 kept-sent s goes now = by_entry (find (sends goes) s.entries) refl
   where
     by_entry : (o : Option Entry) → find (sends goes) s.entries ≡ o → (let t = after_segment_sent s goes now in t.kept) ≡ s.kept
-    by_entry None found = rw found refl
-    by_entry (Some e) found = ap (λ (t : SocketsView). t.kept) (segment_sent-found s goes now e found)
+    by_entry None found = ap (λ (t : SocketsView). t.kept) (segment_sent-none s goes now found)
+    by_entry (Some e) found = let due = found_due s goes e found in ap (λ (t : SocketsView). t.kept) (segment_sent-found s goes now e due.0 found due.1)
 
 kept-left : (h : HostView) (moment : Moment) (what : Emission) → (let g = left_by h moment what in g.sockets.kept) ≡ h.sockets.kept
 kept-left h moment (Replies place) = refl
@@ -281,21 +344,21 @@ kept-left h moment Nothing = refl
 moment-left : (h : HostView) (now : Moment) → (let g = after_emission h now in later_moment g.sockets now) ≡ later_moment h.sockets now
 moment-left h now = ap (λ (k : Moment). cond (nat_lt k.0 now.0) now k) (let moment = later_moment h.sockets now in kept-left h moment (emission h moment))
 
-pub fewer : (segments : View → ℕ) → EachFalls segments → (h : HostView) (now : Moment) (len : ℕ) → IsSoundHost h → emission_len h now ≡ Some len → most_frames segments (after_emission h now) now < most_frames segments h now
-fewer segments falls h now len sound goes =
-    subst (λ (m : Moment). most_at segments (after_emission h now) m < most_frames segments h now) (sym (moment-left h now)) (left-less segments falls h (later_moment h.sockets now) len sound goes)
+pub fewer : (h : HostView) (now : Moment) (len : ℕ) → IsSoundHost h → emission_len h now ≡ Some len → most_frames (after_emission h now) now < most_frames h now
+fewer h now len sound goes =
+    subst (λ (m : Moment). most_at (after_emission h now) m < most_frames h now) (sym (moment-left h now)) (left-less h (later_moment h.sockets now) len sound goes)
 
-pub most : (segments : View → ℕ) → EachFalls segments → (now : Moment) (frames : ℕ) (first last : HostView) → GivesOut now frames first last → frames + most_frames segments last now ≤ most_frames segments first now
-most segments falls now frames first last (NoFrame h) = omega arith
-most segments falls now frames first last (OneMore n len f h before sound goes) =
-    omega (arith, most segments falls now n f h before, fewer segments falls h now len sound goes)
+pub most : (now : Moment) (frames : ℕ) (first last : HostView) → GivesOut now frames first last → frames + most_frames last now ≤ most_frames first now
+most now frames first last (NoFrame h) = omega arith
+most now frames first last (OneMore n len f h before sound goes) =
+    omega (arith, most now n f h before, fewer h now len sound goes)
 
-dry : (segments : View → ℕ) → EachFalls segments → (h : HostView) (now : Moment) → IsSoundHost h → most_frames segments h now ≡ 0 → emission_len h now ≡ None
-dry segments falls h now sound none = by_len (emission_len h now) refl
+dry : (h : HostView) (now : Moment) → IsSoundHost h → most_frames h now ≡ 0 → emission_len h now ≡ None
+dry h now sound none = by_len (emission_len h now) refl
   where
     by_len : (o : Option ℕ) → emission_len h now ≡ o → o ≡ None
     by_len None is = refl
-    by_len (Some len) is = absurd (omega (arith, fewer segments falls h now len sound is, none))
+    by_len (Some len) is = absurd (omega (arith, fewer h now len sound is, none))
 
-pub none-left : (segments : View → ℕ) → EachFalls segments → (now : Moment) (frames : ℕ) (first last : HostView) → GivesOut now frames first last → IsSoundHost last → most_frames segments first now ≤ frames → emission_len last now ≡ None
-none-left segments falls now frames first last gives sound all = dry segments falls last now sound (omega (arith, most segments falls now frames first last gives, all))
+pub none-left : (now : Moment) (frames : ℕ) (first last : HostView) → GivesOut now frames first last → IsSoundHost last → most_frames first now ≤ frames → emission_len last now ≡ None
+none-left now frames first last gives sound all = dry last now sound (omega (arith, most now frames first last gives, all))

@@ -23,16 +23,11 @@ use Rattle.sockets.specs.declared.entry.SocketId.{SocketId}
 use Rattle.sockets.specs.declared.role.Role.{Role}
 use Rattle.sockets.specs.declared.role.Role.TheVariants.{Idle, Listener, Connected, Datagrams}
 use Rattle.clock.specs.declared.moment.TheConstants.{HOP_WAIT}
-<<<<<<< HEAD
-use Rattle.sockets.specs.Entries.{due_peer, entries_after_steps, is_kept, with_role}
+use Rattle.sockets.specs.declared.emission.Outgoing.{Outgoing}
+use Rattle.sockets.specs.Entries.{dues_of, entries_after_steps, is_kept, with_role}
 use Rattle.sockets.specs.Lost.{after_giving_up, give_up_at, give_up_fate_of, role_after_giving_up, waits_until}
 use Rattle.sockets.proofs.Followed.{by_test as by_either}
 use Rattle.tcp_state.specs.Hop.{unheard_until}
-=======
-use Rattle.sockets.specs.declared.emission.Outgoing.{Outgoing}
-use Rattle.sockets.specs.Entries.{dues_of, entries_after_steps, is_kept, with_role}
-use Rattle.sockets.specs.Lost.{after_giving_up, give_up_at, give_up_fate_of, is_given_up, role_after_giving_up}
->>>>>>> 717e2c4d (Each datagram that waits is a place among what is due at a host: its own hop is asked for, and it holds none back)
 use Rattle.sockets.specs.SocketsView.{SocketsView, later_moment}
 use Rattle.sockets.specs.Ticks.{after_tick as sockets_after_tick, least_deadline as timer_deadline}
 use Rattle.sockets.proofs.Deadlines.{tick_waits}

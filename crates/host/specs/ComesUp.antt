@@ -76,10 +76,10 @@ abbrev pub ConnectionComesUp : HostView → Entry → View → Type 0
 ConnectionComesUp h e c = ((due : Due) × IsDueSoon h (EntryOf e c.peer (Segment due))) ⊎ ((moment : Moment) × (deadline c ≡ Some moment) × IsWokenBy h moment)
 
 -- Nothing waits that could be sent: no control reply; and no route leads to where a place's frame goes, any datagram of a UDP socket, or what a
--- connection has to send, but for what is held at the end of the clock.
+-- connection has to send. An acknowledgement alone may be held at the end of the clock.
 pub record IsQuiet (h : HostView) : Type 0 where
   pub replies : h.interface.replies ≡ []
   pub due : (place : Place) → Contains (places h) place → (is_on_route h.interface.routes (address_of place) ≡ false) ⊎ IsHeldAtTheEnd h place
   pub datagrams : (e : Entry) (bound : Option Endpoint) (socket : SocketView) (place : ℕ) (o : Outgoing) → Contains h.sockets.entries e → e.role ≡ Datagrams bound socket → slice_get socket.outbox place ≡ Some o
       → is_routed h.interface o.peer.addr ≡ false
-  pub connections : (e : Entry) (c : View) (listener : Option SocketId) → Contains h.sockets.entries e → e.role ≡ Connected c listener → IsTrue (is_routed h.interface c.peer.addr) → HasToSend c → IsPastAsking h c.peer.addr
+  pub connections : (e : Entry) (c : View) (listener : Option SocketId) → Contains h.sockets.entries e → e.role ≡ Connected c listener → IsTrue (is_routed h.interface c.peer.addr) → HasToSend c → ⊥

@@ -5,7 +5,7 @@ use Rattle.ipv4.specs.declared.addr.Addr.{Addr}
 use Rattle.clock.specs.declared.moment.Moment.{Moment}
 use Rattle.udp.specs.Fragments.{count_of}
 use Rattle.udp_socket.specs.SocketView.{Outgoing}
-use Rattle.tcp_state.specs.View.{View}
+use Rattle.tcp_state.specs.Most.{most_due}
 use Rattle.interface.specs.Emission.{frames_left}
 use Rattle.interface.specs.Ways.{knows_hop}
 use Rattle.sockets.specs.declared.role.Role.{Role}
@@ -25,20 +25,20 @@ abbrev pub datagrams_left : (Addr → Bool) → ℕ → List Outgoing → ℕ
 datagrams_left known parts [] = 0
 datagrams_left known parts (o ∷ rest) = (if known o.peer.addr then fragments_left parts o else 0) + datagrams_left known 0 rest
 
--- the frames of an entry, of a connection as many as it has segments left
-abbrev pub most_of : (View → ℕ) → (Addr → Bool) → Role → ℕ
-most_of segments known (Connected c listener) = segments c
-most_of segments known (Datagrams bound socket) = datagrams_left known socket.parts socket.outbox
-most_of segments known (Listener local backlog) = 0
-most_of segments known (Idle buffers bound) = 0
+-- the frames of an entry, of a connection at most as many as it has segments left
+abbrev pub most_of : (Addr → Bool) → Role → ℕ
+most_of known (Connected c listener) = most_due c
+most_of known (Datagrams bound socket) = datagrams_left known socket.parts socket.outbox
+most_of known (Listener local backlog) = 0
+most_of known (Idle buffers bound) = 0
 
 -- the control replies that wait, the requests that may still be sent, and the frames of each entry
-abbrev pub most_at : (View → ℕ) → HostView → Moment → ℕ
-most_at segments h moment = frames_left h.interface moment + sum_by (λ e. most_of segments (knows_hop h.interface moment) e.role) h.sockets.entries
+abbrev pub most_at : HostView → Moment → ℕ
+most_at h moment = frames_left h.interface moment + sum_by (λ e. most_of (knows_hop h.interface moment) e.role) h.sockets.entries
 
 -- at the later of the moment and the kept one
-abbrev pub most_frames : (View → ℕ) → HostView → Moment → ℕ
-most_frames segments h now = most_at segments h (later_moment h.sockets now)
+abbrev pub most_frames : HostView → Moment → ℕ
+most_frames h now = most_at h (later_moment h.sockets now)
 
 -- So many frames are asked for at a moment, one after the other with nothing between them, and go out: the first host becomes the second. Each finds the host sound, as
 -- every host is by `Host::sound`.

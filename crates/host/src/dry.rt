@@ -2,9 +2,6 @@
 
 ghost use Rattle.std.specs.Prelude.{◌≡◌, ◌<◌, ◌≤◌, ◌+◌, ℕ, Some, None};
 ghost use Rattle.clock.specs.declared.moment.Moment.{Moment};
-ghost use Rattle.tcp_state.specs.declared.emission.Due.{Due};
-ghost use Rattle.tcp_state.specs.Due.{first_due, after_emitted};
-ghost use Rattle.tcp_state.specs.View.{View, IsSound};
 ghost use Rattle.host.specs.Dry.{most_frames, GivesOut};
 ghost use Rattle.host.specs.Emission.{after_emission, emission_len};
 ghost use Rattle.host.specs.HostView.{HostView};
@@ -15,10 +12,7 @@ ghost use Rattle.host.specs.Sound.{IsSoundHost};
 /// left, and as connections have numbers left that may go out, and what they owe beside (`tcp_state::telling::what_goes_out_runs_dry`). So who asks for frames until none goes out comes to an end. Each host is
 /// found sound, as every host is by `Host::sound`.
 pub fn a_host_runs_dry()
-    ensures fewer { (segments : View → ℕ) → ((v : View) (due : Due) (now : Moment) → IsSound v → first_due v ≡ Some due → segments (after_emitted v due now) < segments v)
-        → (h : HostView) (now : Moment) (len : ℕ) → IsSoundHost h → emission_len h now ≡ Some len → most_frames segments (after_emission h now) now < most_frames segments h now }
-    ensures most { (segments : View → ℕ) → ((v : View) (due : Due) (now : Moment) → IsSound v → first_due v ≡ Some due → segments (after_emitted v due now) < segments v)
-        → (now : Moment) (frames : ℕ) (first last : HostView) → GivesOut now frames first last → frames + most_frames segments last now ≤ most_frames segments first now }
-    ensures none { (segments : View → ℕ) → ((v : View) (due : Due) (now : Moment) → IsSound v → first_due v ≡ Some due → segments (after_emitted v due now) < segments v)
-        → (now : Moment) (frames : ℕ) (first last : HostView) → GivesOut now frames first last → IsSoundHost last → most_frames segments first now ≤ frames → emission_len last now ≡ None }
+    ensures fewer { (h : HostView) (now : Moment) (len : ℕ) → IsSoundHost h → emission_len h now ≡ Some len → most_frames (after_emission h now) now < most_frames h now }
+    ensures most { (now : Moment) (frames : ℕ) (first last : HostView) → GivesOut now frames first last → frames + most_frames last now ≤ most_frames first now }
+    ensures none { (now : Moment) (frames : ℕ) (first last : HostView) → GivesOut now frames first last → IsSoundHost last → most_frames first now ≤ frames → emission_len last now ≡ None }
 {}

@@ -128,7 +128,7 @@ pub fn deadline_is_the_least()
 /// the kept moment, or the deadline is not after the moment from which its hop may be asked for again, which lies within a second of a request that was sent; or there is no such moment,
 /// since a request of the clock's last moment stands in the way. Each control reply that waits is such a place, and so is each datagram that a UDP socket has to send. A connection with
 /// something to send is one, or the deadline is not after that of its own timers. So where no frame can go out and there is no deadline, nothing waits for which there is a way, but for
-/// a connection that is held at the end of the clock: who asks for frames until none goes out, and then sleeps until the deadline, leaves nothing behind.
+/// an acknowledgement that is held at the end of the clock: who asks for frames until none goes out, and then sleeps until the deadline, leaves nothing behind.
 pub fn what_is_due_comes_up()
     ensures place { (h : HostView) (place : Place) → HasRun h → Contains (places h) place → is_on_route h.interface.routes (address_of place) ≡ true → ComesUp h place }
     ensures reply { (h : HostView) (w : Waiting) → HasRun h → Contains h.interface.replies w → IsDueSoon h (ReplyOf w) }

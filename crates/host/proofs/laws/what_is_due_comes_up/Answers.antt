@@ -1,4 +1,5 @@
-use Rattle.host.proofs.ComesUp.{place-of-run, reply-of-run, datagram-of-run, connection-of-run, quiet-of-run}
+use Rattle.host.proofs.ComesUp.{place-of-run, reply-of-run, datagram-of-run, connection-of-run}
+use Rattle.host.proofs.Quiet.{quiet-of-run}
 use Rattle.host.proofs.laws.what_is_due_comes_up.Goals as goal
 
 pub returns : goal.returns
