@@ -186,7 +186,7 @@ moved old new happens answer step side = by_side (both-sides side (side_of happe
 
 -- What was delivered once stays so.
 
-frames-stay : (happens : Event) (place : ℕ) (answer : Answer) (n m : NetworkView) → Steps happens place answer n m → (index : ℕ) (f : Frame) → slice_get n.frames index ≡ Some f → slice_get m.frames index ≡ Some f
+pub frames-stay : (happens : Event) (place : ℕ) (answer : Answer) (n m : NetworkView) → Steps happens place answer n m → (index : ℕ) (f : Frame) → slice_get n.frames index ≡ Some f → slice_get m.frames index ≡ Some f
 frames-stay happens place answer n m step index f there = elim (frames-step happens place answer n m step) [
   | inl same ↦ subst (λ (fs : List Frame). slice_get fs index ≡ Some f) (sym same) there
   | inr puts ↦ subst (λ (k : NetworkView). slice_get k.frames index ≡ Some f) (sym puts.emits.after) (got-still n.frames puts.emits.frame index f there)

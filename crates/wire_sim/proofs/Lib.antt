@@ -11,6 +11,7 @@ pub mod fairness
 pub mod runs
 pub mod datagrams
 pub mod passage
+pub mod two_ends
 pub mod RunGiven
 pub mod HostsAreSetUp
 pub mod HostsRun

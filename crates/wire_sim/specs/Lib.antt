@@ -17,3 +17,5 @@ pub mod Names
 pub mod HostRuns
 pub mod Sent
 pub mod Passage
+pub mod Handshakes
+pub mod Duties

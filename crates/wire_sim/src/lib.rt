@@ -1,6 +1,7 @@
 //! A world of two hosts, joined by a bag of frames that may be lost, repeated and reordered, and the hosts themselves.
 #![tactic(auto)]
 
+pub mod duties;
 mod event;
 mod hosts;
 pub mod laws;

@@ -55,7 +55,7 @@ configs-apart : (limit : ℕ) (w : WorldView) (run : IsReached limit w) → same
 configs-apart limit w (begins a b apart few) = (or_parts (same_addr a.addr b.addr) (same_mac a.mac b.mac) apart).0
 configs-apart limit _ (goes_on w v happens answer run step) = configs-apart limit w run
 
-addrs-apart : (limit : ℕ) (w : WorldView) (run : IsReached limit w) → addr_at w.network A ≢ addr_at w.network B
+pub addrs-apart : (limit : ℕ) (w : WorldView) (run : IsReached limit w) → addr_at w.network A ≢ addr_at w.network B
 addrs-apart limit w run same =
     let a = hosts-stay limit w run A in
     let b = hosts-stay limit w run B in

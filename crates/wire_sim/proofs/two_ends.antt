@@ -1,0 +1,5 @@
+pub mod Opens
+pub mod Closes
+pub mod UnderIds
+pub mod Travels
+pub mod Meets
