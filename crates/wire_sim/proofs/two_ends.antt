@@ -3,3 +3,4 @@ pub mod Closes
 pub mod UnderIds
 pub mod Travels
 pub mod Meets
+pub mod Calls

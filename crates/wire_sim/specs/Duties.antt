@@ -1,6 +1,7 @@
 -- What two hosts of one world come to by the segments that they give each other, whatever else their tables hold and whatever happens between: a `connect` is refused or accepted, and a
 -- connection is closed by both (RFC 9293 sections 3.5, 3.5.2, 3.6 and 3.10.7).
 use Rattle.std.specs.Prelude.{◌≡◌, ℕ, ◌+◌, ◌<◌, ◌==◌, ◌^◌, true, false, if◌then◌else◌, List, [], ◌∷◌, ◌++◌, length, count_by, find, Option, Some, None, Result, Err}
+use Rattle.ipv4.specs.declared.addr.Endpoint.{Endpoint}
 use Rattle.clock.specs.declared.moment.Moment.{Moment}
 use Rattle.tcp_segment.specs.declared.head.Head.{Head}
 use Rattle.tcp_segment.specs.declared.seq.Seq.{Seq}
@@ -33,10 +34,11 @@ use Rattle.sides.specs.declared.side.Side.{Side}
 use Rattle.sides.specs.Sides.{other_side}
 use Rattle.wire_sim.specs.declared.event.Answer.{Answer}
 use Rattle.wire_sim.specs.declared.event.Answer.TheVariants as reply
+use Rattle.wire_sim.specs.declared.event.Call.TheVariants as call
 use Rattle.wire_sim.specs.declared.event.Event.{Event}
 use Rattle.wire_sim.specs.declared.event.Event.TheVariants as event
 use Rattle.wire_sim.specs.declared.event.Unfair.{Unfair}
-use Rattle.wire_sim.specs.Handshakes.{IsOut, IsAsking, IsAnswering, IsOpen, IsAtRest, IsEnding, fin_alone}
+use Rattle.wire_sim.specs.Handshakes.{IsOut, IsAsking, IsAnswering, IsOpen, IsAtRest, IsEnding, Shuts, fin_alone}
 use Rattle.wire_sim.specs.Passage.{mac_at, addr_at}
 use Rattle.wire_sim.specs.Runs.{IsReached, IsStep, RunsTo}
 use Rattle.wire_sim.specs.WorldView.{WorldView, host_of, table_of, clock_of}
@@ -89,6 +91,11 @@ pub record TellsRefused (h : SocketsView) (id : SocketId) : Type 0 where
   pub recv : (len : ℕ) → (len == 0) ≡ false → recv_answer h id len ≡ Err ECONNREFUSED
   pub shutdown : shutdown_refusal h id ≡ Some ECONNREFUSED
 
+-- A `connect` that is started leaves its socket in SYN-SENT, and its SYN is due.
+abbrev pub EveryConnectAsks : Type 0
+EveryConnectAsks = (limit : ℕ) (side : Side) (id : SocketId) (isn : Seq) (peer : Endpoint) (w v : WorldView) → IsReached limit w → IsStep (event.Call side (call.Connect isn id peer)) reply.Started w v
+    → (c : View) × Has v side id None c × IsAsking isn.0 c × (c.peer ≡ peer) × (first_due c ≡ Some Syn)
+
 -- The SYN of a `connect` comes to a host at which nobody listens at its port: the host's table stays as it was, and a reset waits to go out that acknowledges the SYN. Wherever that comes to the
 -- connection, which is still in SYN-SENT with its SYN out, it is CLOSED, and its caller told ECONNREFUSED.
 abbrev pub EveryUnheardConnectIsRefused : Type 0
@@ -127,6 +134,12 @@ EveryAckConfirms = (limit : ℕ) (side : Side) (id waiting listener : SocketId) 
     × ((let t = table_of w3.network (other_side side) in t.offered) ≡ (let t = table_of w2.network (other_side side) in t.offered) ++ waiting ∷ [])
 
 -- Closing, where each side has nothing more to send than its FIN.
+
+-- A `shutdown` of a socket closes its side: its FIN is due, where the peer's window is open.
+abbrev pub EveryShutdownEnds : Type 0
+EveryShutdownEnds = (limit : ℕ) (side : Side) (id : SocketId) (before after : State) (ours theirs : ℕ) (c : View) (w v : WorldView) (answer : Answer)
+    → IsReached limit w → IsStep (event.Call side (call.Shutdown id)) answer w v → Has w side id None c → IsAtRest before ours theirs c → Shuts before after
+    → (answer ≡ reply.Done) × ((d : View) × Has v side id None d × IsEnding after ours theirs d × (0 < c.sending.window → first_due d ≡ Some (Text fin_alone)))
 
 -- The FIN of one end comes to the other, which is ESTABLISHED: it is in CLOSE-WAIT, and an acknowledgement is due.
 abbrev pub EveryFirstFinCloses : Type 0

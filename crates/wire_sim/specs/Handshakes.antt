@@ -1,9 +1,9 @@
 -- What two connections that open to each other, or that close, know of each other's numbers (RFC 9293 section 3.5, figure 6, and section 3.6, figure 12).
-use Rattle.std.specs.Prelude.{◌≡◌, ◌≢◌, ℕ, true, []}
+use Rattle.std.specs.Prelude.{◌≡◌, ◌≢◌, ◌⊎◌, ℕ, true, []}
 use Rattle.tcp_segment.specs.Wire.{wire}
 use Rattle.tcp_state.specs.declared.emission.Stretch.{Stretch}
 use Rattle.tcp_state.specs.declared.state.State.{State}
-use Rattle.tcp_state.specs.declared.state.State.TheVariants.{SynSent, SynReceived, Established}
+use Rattle.tcp_state.specs.declared.state.State.TheVariants.{SynSent, SynReceived, Established, FinWait1, CloseWait, LastAck}
 use Rattle.tcp_state.specs.View.{View}
 
 -- its SYN or its FIN has gone out, and is not acknowledged
@@ -46,3 +46,7 @@ pub record IsEnding (state : State) (ours theirs : ℕ) (v : View) : Type 0 wher
 -- the FIN alone
 abbrev pub fin_alone : Stretch
 fin_alone = record { offset = 0; count = 0; fin = true }
+
+-- closing our side leads from the one state to the other
+abbrev pub Shuts : State → State → Type 0
+Shuts before after = ((before ≡ Established) × (after ≡ FinWait1)) ⊎ ((before ≡ CloseWait) × (after ≡ LastAck))

@@ -1,10 +1,11 @@
 //! Laws of what two hosts come to by the segments that they give each other: functions with nothing to do, whose contracts are the laws. By `laws::every_segment_arrives` each segment arrives as it was sent.
 
-ghost use Rattle.wire_sim.specs.Duties.{EveryUnheardConnectIsRefused, EveryRefusalIsTold, EverySynOpens, EverySynAckOpens, EveryAckConfirms, EveryFirstFinCloses, EveryLastFinCloses, EveryLastAckEnds};
+ghost use Rattle.wire_sim.specs.Duties.{EveryConnectAsks, EveryUnheardConnectIsRefused, EveryRefusalIsTold, EverySynOpens, EverySynAckOpens, EveryAckConfirms, EveryShutdownEnds, EveryFirstFinCloses, EveryLastFinCloses, EveryLastAckEnds};
 
 /// A `connect` to a port at which nobody listens, whose frames are delivered both ways, is told ECONNREFUSED (RFC 9293 sections 3.5.2, 3.10.7.1 and 3.10.7.3). Its SYN leaves the other host's table as
 /// it was, and a reset waits there that acknowledges it. That reset ends the connection, where it is still in SYN-SENT, and each call of its socket is then told so.
 pub fn unheard_connects_are_refused()
+    ensures asks { EveryConnectAsks }
     ensures answered { EveryUnheardConnectIsRefused }
     ensures told { EveryRefusalIsTold }
 {}
@@ -22,6 +23,7 @@ pub fn heard_connects_open()
 /// section 3.6, figure 12). The first FIN leads the other end to CLOSE-WAIT; its own FIN, which acknowledges that, leads the first end to TIME-WAIT; and the acknowledgement that is due there ends
 /// the other one, which leaves the table where its caller closed it. Each step says by its numbers what the next one needs.
 pub fn closes_meet()
+    ensures shuts { EveryShutdownEnds }
     ensures first { EveryFirstFinCloses }
     ensures last { EveryLastFinCloses }
     ensures acknowledgement { EveryLastAckEnds }

@@ -28,7 +28,7 @@ use Rattle.wire_sim.proofs.two_ends.Opens.{one_past, one_out, new_one, ack_due_f
 
 -- An acknowledgement of what is acknowledged changes nothing.
 
-same_numbers : (n : ℕ) → n < 2 ^ 32 → past n n ≡ 0
+pub same_numbers : (n : ℕ) → n < 2 ^ 32 → past n n ≡ 0
 same_numbers n small = omega (arith, small)
 
 not_before : (n : ℕ) → n < 2 ^ 32 → is_before n n ≡ false
@@ -170,7 +170,7 @@ window_keeps : (P : Sending → Type 0) (v : View) (s : Segment) → ((t : Sendi
 window_keeps P v s all = either Sending P (updates_window v.sending s.number s.acknowledgement) _ v.sending (λ newer. all _ refl refl refl) (λ older. all v.sending refl refl refl)
 
 -- no mark stands where nothing is outstanding
-none_marked : (mark : Option ℕ) (out : ℕ) → ForSome mark (λ distance. distance < out) → out ≡ 0 → mark ≡ None
+pub none_marked : (mark : Option ℕ) (out : ℕ) → ForSome mark (λ distance. distance < out) → out ≡ 0 → mark ≡ None
 none_marked None out within none = refl
 none_marked (Some distance) out within none = absurd (omega (arith, within distance refl, none))
 

@@ -63,7 +63,7 @@ use Rattle.wire_sim.proofs.two_ends.Travels.{answer_of, Arrives, travelled, unde
 use Rattle.wire_sim.proofs.two_ends.UnderIds.{none_past, ready_under}
 
 -- a connection of a host is sound, and lies at its address
-sound_under : (h : HostView) (id : SocketId) (c : View) (l : Option SocketId) → IsSoundHost h → entry_of h.sockets id ≡ Some (connected id c l) → IsSound c
+pub sound_under : (h : HostView) (id : SocketId) (c : View) (l : Option SocketId) → IsSoundHost h → entry_of h.sockets id ≡ Some (connected id c l) → IsSound c
 sound_under h id c l sound found = let solid : IsSoundConnection c = under (λ (e : Entry). IsSoundRole e.role) h.sockets id (connected id c l) sound.table.entries found in solid.sound
 
 lies_under : (h : SocketsView) (id : SocketId) (c : View) (l : Option SocketId) → IsOrdered h → entry_of h id ≡ Some (connected id c l) → c.local.addr ≡ h.addr

@@ -21,6 +21,7 @@ use Rattle.sockets.specs.Steps.{connected, connection_left, view_left, IsOneEven
 use Rattle.sockets.proofs.ByIds.{one_id}
 use Rattle.sockets.proofs.EventsOnce.{one_event}
 use Rattle.sockets.proofs.Followed.{by_test}
+use Rattle.wire_sim.proofs.lists.FoundAfterChange.{IsSole}
 
 behind : (id : SocketId) (x : Entry) (xs : List Entry) (o : Option Entry) → has_id id x ≡ false → find (has_id id) (x ∷ xs) ≡ o → find (has_id id) xs ≡ o
 behind id x xs o fails found = ap (λ b. cond b (Some x) (find (has_id id) xs)) (sym fails) ∙ found
@@ -51,6 +52,11 @@ found_within id before last (y ∷ ys) x ids found =
     by_test (has_id id y)
     (λ yes. omega (arith, eqb-true y.id.0 id.0 yes, last_above y.id.0 last ys ids.1))
     (λ no. found_within id y.id.0 last ys x ids.1 (behind id y ys (Some x) no found))
+
+-- one that stands under an id stands there alone
+pub sole_id : (id : SocketId) (before last : ℕ) (xs : List Entry) → AreAscending before last xs → IsSole (has_id id) xs
+sole_id id before last [] ids = tt
+sole_id id before last (x ∷ xs) ids = (λ yes. none_below id x.id.0 last xs (omega (arith, eqb-true x.id.0 id.0 yes)) ids.1, sole_id id x.id.0 last xs ids.1)
 
 -- Of the entries that an event leaves the one under an id is what is left of the one that was, where none is added under it.
 module _ (Step : Entry → Option Entry → Type 0) (ids : (x y : Entry) → Step x (Some y) → y.id ≡ x.id) (Added : List Entry → Type 0) (id : SocketId) (apart : (zs : List Entry) → Added zs → find (has_id id) zs ≡ None) where
