@@ -4,3 +4,4 @@ pub mod RunsAreReached
 pub mod CopyIsSame
 pub mod RoomLasts
 pub mod RoomyRunsLast
+pub mod ClocksGoOn

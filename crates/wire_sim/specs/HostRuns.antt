@@ -1,10 +1,12 @@
 -- Each of the two hosts of a world is one that events of its own lead to, and keeps what such a host keeps.
-use Rattle.std.specs.Prelude.{◌≡◌, ◌≢◌, ◌⊎◌, ℕ, List, Contains, slice_get, Some, Ok}
+use Rattle.std.specs.Prelude.{◌≡◌, ◌≢◌, ◌⊎◌, ◌≤◌, ◌+◌, ℕ, List, Contains, slice_get, Option, Some, Result, Ok}
 use Rattle.ether.specs.declared.mac.Mac.{Mac}
 use Rattle.ipv4.specs.declared.addr.Addr.{Addr}
 use Rattle.ipv4.specs.Datagram.{Datagram, header_octets}
 use Rattle.clock.specs.declared.moment.Moment.{Moment}
 use Rattle.tcp_segment.specs.declared.seq.Seq.{Seq}
+use Rattle.tcp_state.specs.declared.calls.Refusal.{Refusal as Error}
+use Rattle.tcp_state.specs.View.{View}
 use Rattle.icmp.specs.declared.error.Reason.{Reason}
 use Rattle.icmp.specs.Message.{Message, IsEchoRequest}
 use Rattle.icmp.specs.Sent.{RepliesTo, error_for}
@@ -13,21 +15,28 @@ use Rattle.frames.specs.declared.meaning.Meaning.{Meaning}
 use Rattle.frames.specs.declared.meaning.Meaning.TheVariants.{Icmp}
 use Rattle.frames.specs.Meaning.{heard}
 use Rattle.sides.specs.declared.side.Side.{Side}
+use Rattle.sockets.specs.declared.entry.SocketId.{SocketId}
+use Rattle.sockets.specs.declared.role.Role.{Role}
+use Rattle.sockets.specs.declared.role.Role.TheVariants.{Connected}
+use Rattle.sockets.specs.Causes.{pending_error_in, TellsStill}
 use Rattle.sockets.specs.Offered as tables
 use Rattle.sockets.specs.Order.{IsOrdered}
 use Rattle.sockets.specs.Sound.{NoneIsOver}
-use Rattle.sockets.specs.SocketsView.{SocketsView}
-use Rattle.sockets.specs.Timing.{EachKeepsTime}
+use Rattle.sockets.specs.SocketsView.{SocketsView, role_of}
+use Rattle.sockets.specs.Ticks.{least_deadline}
+use Rattle.sockets.specs.Timing.{EachKeepsTime, AreNear}
 use Rattle.host.specs.Arrival.{heard_by}
 use Rattle.host.specs.Causes.{IsAbout}
 use Rattle.host.specs.ConfigView.{ConfigView}
 use Rattle.host.specs.Runs.{Event as HostEvent, Delivers, Runs}
 use Rattle.wire_sim.specs.declared.event.Answer.{Answer}
 use Rattle.wire_sim.specs.declared.event.Answer.TheVariants as reply
+use Rattle.wire_sim.specs.declared.event.Event.{Event}
 use Rattle.wire_sim.specs.declared.event.Event.TheVariants as event
+use Rattle.wire_sim.specs.declared.event.Unfair.{Unfair}
 use Rattle.wire_sim.specs.declared.world.bag.Frame.{Frame}
-use Rattle.wire_sim.specs.Runs.{IsReached, IsStep}
-use Rattle.wire_sim.specs.WorldView.{WorldView, host_of, table_of}
+use Rattle.wire_sim.specs.Runs.{IsReached, IsStep, RunsTo}
+use Rattle.wire_sim.specs.WorldView.{WorldView, host_of, table_of, clock_of}
 
 -- a frame of these octets was emitted, and delivered to this side, by what stands in the trace
 pub record WasDelivered (w : WorldView) (side : Side) (octets : List ℕ) : Type 0 where
@@ -55,15 +64,34 @@ abbrev pub EveryHostRuns : Type 0
 EveryHostRuns = (limit : ℕ) (w : WorldView) → IsReached limit w → (side : Side) → HasRun w side
 
 -- A table is one that events of its own lead to, none of them refused; it is in order, nothing of it is over, and each of its connections keeps its
--- timers and its congestion window.
-pub record IsKept (h : SocketsView) : Type 0 where
+-- timers and its congestion window. At the moment that its host's clock shows no timer runs until later than a minute past it, and no wait is counted from a later one.
+pub record IsKept (now : Moment) (h : SocketsView) : Type 0 where
   pub reached : tables.IsReached h
   pub ordered : IsOrdered h
   pub over : NoneIsOver h
   pub time : EachKeepsTime h
+  pub near : AreNear now h
 
 abbrev pub EveryTableIsKept : Type 0
-EveryTableIsKept = (limit : ℕ) (w : WorldView) → IsReached limit w → (side : Side) → IsKept (table_of w.network side)
+EveryTableIsKept = (limit : ℕ) (w : WorldView) → IsReached limit w → (side : Side) → IsKept (clock_of w.network side) (table_of w.network side)
+
+-- So a deadline of a table lies no further past its host's clock than TIME-WAIT lasts.
+abbrev pub EveryDeadlineLiesNear : Type 0
+EveryDeadlineLiesNear = (limit : ℕ) (w : WorldView) (side : Side) (moment : Moment) → IsReached limit w → least_deadline (table_of w.network side) ≡ Some moment → (let now = clock_of w.network side in moment.0 ≤ now.0 + 240000)
+
+-- whatever entry has this id, which was given, is one of a connection that tells this error
+abbrev pub IsTold : SocketsView → SocketId → Error → Type 0
+IsTold h id error = TellsStill id error h × (id.0 ≤ h.last_id)
+
+-- The error that a connection tells it tells for good, whatever happens in the world.
+abbrev pub EveryErrorStays : Type 0
+EveryErrorStays = (limit : ℕ) (events : List Event) (outcomes : List (Result Answer Unfair)) (w v : WorldView) (side : Side) (id : SocketId) (error : Error) → IsReached limit w → RunsTo events outcomes w v
+    → IsTold (table_of w.network side) id error → IsTold (table_of v.network side) id error
+
+-- So does the socket that its id names, as long as it names one.
+abbrev pub EverySocketTellsOn : Type 0
+EverySocketTellsOn = (limit : ℕ) (events : List Event) (outcomes : List (Result Answer Unfair)) (w v : WorldView) (side : Side) (id : SocketId) (c : View) (listener : Option SocketId) (error : Error) → IsReached limit w → RunsTo events outcomes w v
+    → role_of (table_of w.network side) id ≡ Some (Connected c listener) → c.pending_error ≡ Some error → (role : Role) → role_of (table_of v.network side) id ≡ Some role → pending_error_in role ≡ Some error
 
 -- What a side's host hears is this of a frame that was delivered to it.
 pub record WasHeard (w : WorldView) (side : Side) (meaning : Meaning) : Type 0 where

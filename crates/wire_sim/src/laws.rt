@@ -2,7 +2,7 @@
 
 ghost use Rattle.wire_sim.specs.Runs.{EveryRunIsLawful, EveryRunIsTallied, EveryRunIsReached, EveryMomentIsLawful, FairIsUnrefused};
 ghost use Rattle.wire_sim.specs.Coverage.{EveryConnectionIsListed, EveryOpeningIsUnique, EveryOctetIsCovered};
-ghost use Rattle.wire_sim.specs.HostRuns.{EveryHostRuns, EveryTableIsKept, EveryMessageHasItsCause};
+ghost use Rattle.wire_sim.specs.HostRuns.{EveryHostRuns, EveryTableIsKept, EveryDeadlineLiesNear, EveryErrorStays, EverySocketTellsOn, EveryMessageHasItsCause};
 ghost use Rattle.wire_sim.specs.Holding.{EveryOpeningIsBegun, EveryHoldingIsNoted};
 ghost use Rattle.wire_sim.specs.Notes.{EveryNoteIsTraced, EveryDelayIsTraced};
 ghost use Rattle.wire_sim.specs.RoomyRuns.{EveryRoomyRunIsARun, EveryStepLeavesRoom, EveryRunLeavesRoom, EveryBareRunHasRoom};
@@ -38,9 +38,21 @@ pub fn every_host_runs()
 {}
 
 /// The table of each host of a world is in order, nothing of it is over, who is offered is ready, and each of its connections keeps its timers and its
-/// congestion window: so at every moment of every run, and no law of tables or of connections has a premise that a world doesn't give.
+/// congestion window: so at every moment of every run, and no law of tables or of connections has a premise that a world doesn't give. No timer of a connection runs until later than a minute past
+/// the moment that its host's clock shows, and no wait is counted from a later one.
 pub fn every_table_is_kept()
     ensures { EveryTableIsKept }
+{}
+
+/// So no deadline of a connection lies more than 240,000 ms past the moment that its host's clock shows, the time that TIME-WAIT lasts (RFC 9293 section 3.4.2), at whatever moments the host was ticked.
+pub fn every_deadline_lies_near()
+    ensures { EveryDeadlineLiesNear }
+{}
+
+/// The error that a connection tells it tells for good, whatever happens in the world: whatever entry has its id then is one of a connection that tells it, and so does the socket that the id names.
+pub fn every_error_stays()
+    ensures entry { EveryErrorStays }
+    ensures socket { EverySocketTellsOn }
 {}
 
 /// A frame that goes out of a host of a world, and that somebody hears as an ICMP message (RFC 792), has its cause in what was delivered to that host before: an echo reply

@@ -46,9 +46,9 @@ hosts-stay limit w (begins a b apart few) A = record { mac = refl; addr = refl; 
 hosts-stay limit w (begins a b apart few) B = record { mac = refl; addr = refl; routes = refl; replies = tt }
 hosts-stay limit _ (goes_on w v happens answer run step) side = by_move (hosts-stay limit w run side) (moved w v happens answer step side)
   where
-    by_move : IsSideOf (config_of limit w run side) (side_at w.network side) → IsMoved w.network side happens (host_of w.network side) (host_of v.network side) → IsSideOf (config_of limit w run side) (side_at v.network side)
+    by_move : IsSideOf (config_of limit w run side) (side_at w.network side) → IsMoved w.network (clock_of v.network side) side happens (host_of w.network side) (host_of v.network side) → IsSideOf (config_of limit w run side) (side_at v.network side)
     by_move before (inl same) = subst (λ (h : HostView). IsSideOf (config_of limit w run side) h.interface) (sym same) before
-    by_move before (inr (e, numbered, makes, brings)) = stays-on (config_of limit w run side) e (host_of w.network side) (host_of v.network side) before makes
+    by_move before (inr (e, numbered, makes, brings, up)) = stays-on (config_of limit w run side) e (host_of w.network side) (host_of v.network side) before makes
 
 -- the two addresses differ
 configs-apart : (limit : ℕ) (w : WorldView) (run : IsReached limit w) → same_addr (let a = config_of limit w run A in a.addr) (let b = config_of limit w run B in b.addr) ≡ false
@@ -124,7 +124,7 @@ frame-out limit _ (goes_on w v happens answer run step) index f there = elim (fr
 
 -- The host from which it went out keeps its table in order, and that to what was accepted.
 pub out-ordered : (limit : ℕ) (w : WorldView) (run : IsReached limit w) (index : ℕ) (f : Frame) (o : IsOut limit w run index f) → IsOrdered (table_of o.before.network f.sender)
-out-ordered limit w run index f o = let k : IsKept (table_of o.before.network f.sender) = tables-kept limit o.before o.reached f.sender in k.ordered
+out-ordered limit w run index f o = let k : IsKept (clock_of o.before.network f.sender) (table_of o.before.network f.sender) = tables-kept limit o.before o.reached f.sender in k.ordered
 
 pub record IsOfTwo (h : HostView) : Type 0 where
   pub own : List Accepted

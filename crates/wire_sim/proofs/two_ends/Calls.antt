@@ -49,7 +49,7 @@ use Rattle.wire_sim.specs.Duties.{Has, EveryConnectAsks, EveryShutdownEnds}
 use Rattle.wire_sim.specs.Handshakes.{IsAsking, IsAtRest, IsEnding, Shuts, fin_alone}
 use Rattle.wire_sim.specs.HostRuns.{IsKept}
 use Rattle.wire_sim.specs.Steps.{Answers, HostMeetsCall}
-use Rattle.wire_sim.specs.WorldView.{host_of, table_of}
+use Rattle.wire_sim.specs.WorldView.{host_of, table_of, clock_of}
 use Rattle.wire_sim.proofs.HostsRun.{sound-at, tables-kept}
 use Rattle.wire_sim.proofs.lists.FoundAfterChange.{find-passes, found-changed}
 use Rattle.wire_sim.proofs.tables.TableById.{same_id}
@@ -130,7 +130,7 @@ unleft before after t true (inr (first, then_so)) is e = let bad : not (is_write
 
 pub shutdown_ends : EveryShutdownEnds
 shutdown_ends limit side id before after ours theirs c w v answer reached step has rests shuts =
-    let ordered = let k : IsKept h = tables-kept limit w reached side in k.ordered in
+    let ordered = let k : IsKept (clock_of w.network side) h = tables-kept limit w reached side in k.ordered in
     let sound : IsSound c = sound_under (host_of w.network side) id c None (sound-at w v step side) has in
     let ends = shut_by before after ours theirs c h.kept sound rests shuts in
     let left : c.released ≡ false = unleft before after c.state c.released shuts rests.in_state sound.release in
@@ -176,7 +176,7 @@ connect_asks limit side id isn peer w v reached step = by_port (table.port_conne
     small = step.numbered
 
     ordered : IsOrdered h
-    ordered = let k : IsKept h = tables-kept limit w reached side in k.ordered
+    ordered = let k : IsKept (clock_of w.network side) h = tables-kept limit w reached side in k.ordered
 
     Asks : Type 0
     Asks = (c : View) × Has v side id None c × IsAsking isn.0 c × (c.peer ≡ peer) × (first_due c ≡ Some Syn)

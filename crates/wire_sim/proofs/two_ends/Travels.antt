@@ -102,9 +102,9 @@ frame-comes n m side isn place answer f (Some g) there d =
 pub record Arrives (side : Side) (s : Segment) (w0 w2 w3 : WorldView) (answer : Answer) (isn : Seq) : Type 0 where
   pub sound : IsSoundHost (host_of w0.network side)
   pub there : IsSoundHost (host_of w2.network (other_side side))
-  pub kept : IsKept (table_of w0.network side)
-  pub kept_there : IsKept (table_of w2.network (other_side side))
-  pub kept_then : IsKept (table_of w3.network (other_side side))
+  pub kept : IsKept (clock_of w0.network side) (table_of w0.network side)
+  pub kept_there : IsKept (clock_of w2.network (other_side side)) (table_of w2.network (other_side side))
+  pub kept_then : IsKept (clock_of w3.network (other_side side)) (table_of w3.network (other_side side))
   pub another : addr_at w0.network side ≢ addr_at w2.network (other_side side)
   pub small : isn.0 < 2 ^ 32
   pub moment : Moment
@@ -130,7 +130,7 @@ travelled limit side s w0 w1 w2 w3 answer isn t = record {
     sound : IsSoundHost (host_of w0.network side)
     sound = sound-at w0 w1 t.goes side
 
-    kept : IsKept (table_of w0.network side)
+    kept : IsKept (clock_of w0.network side) (table_of w0.network side)
     kept = tables-kept limit w0 t.reached side
 
     sent_reached : IsReached limit w1
