@@ -1,5 +1,5 @@
 -- The clock of a host of a world never goes back.
-use Rattle.std.proofs.Common.{◌≡◌, ℕ, ◌≤◌, nat_lt, Bool, true, false, if◌then◌else◌, List, ◌∷◌, ◌++◌, [], slice_get, Option, Some, None, refl, sym, ◌∙◌, ap, subst, arith}
+use Rattle.std.proofs.Common.{◌≡◌, ℕ, ◌≤◌, nat_lt, if◌then◌else◌, ◌∷◌, ◌++◌, [], slice_get, Option, Some, None, refl, sym, ◌∙◌, ap, subst, arith}
 use Rattle.std.proofs.lemmas.Bool.Decides.{nat_tests}
 use Rattle.clock.specs.declared.moment.Moment.{Moment}
 use Rattle.host.specs.Emission.{after_emission}
