@@ -44,28 +44,28 @@ leads_to own other h now isn source s t = by_entry (find (is_between (local_end 
     replied None = t
     replied (Some head) = tt
 
-    opened : (listener : Entry) → IsTableOf own other (after_opening h isn listener source s)
+    opened : (listener : Entry) → IsTableOf own other (after_opening h (later_moment h now) isn listener source s)
     opened listener = record {
       numbered = t.numbered;
       in_turn = t.in_turn;
       sockets = All-added (λ (e : Entry). IsEntryOf own other h.addr e.role) h.entries
-          (new_waiting (record { 0 = h.last_id + 1 }) listener.id (opened_passively (local_end h s) (peer_end source s) isn s)) t.sockets tt;
+          (new_waiting (record { 0 = h.last_id + 1 }) listener.id (opened_passively (local_end h s) (peer_end source s) isn s (later_moment h now))) t.sockets tt;
     }
 
-    by_place : (listener : Entry) (b : Bool) → LeadsTo own other (cond b NoRoom (Opens (after_opening h isn listener source s)))
+    by_place : (listener : Entry) (b : Bool) → LeadsTo own other (cond b NoRoom (Opens (after_opening h (later_moment h now) isn listener source s)))
     by_place listener true = tt
     by_place listener false = opened listener
 
-    by_flags : (listener : Entry) (b : Bool) → LeadsTo own other (cond b (opening h isn source s listener) (arrival_with_reply h (answer_at_listener s)))
+    by_flags : (listener : Entry) (b : Bool) → LeadsTo own other (cond b (opening h (later_moment h now) isn source s listener) (arrival_with_reply h (answer_at_listener s)))
     by_flags listener true = by_place listener (has_no_room h listener)
     by_flags listener false = replied (answer_at_listener s)
 
-    by_listener : (o : Option Entry) → find (is_listening_at s.destination) h.entries ≡ o → LeadsTo own other (arrival_alone h isn source s)
+    by_listener : (o : Option Entry) → find (is_listening_at s.destination) h.entries ≡ o → LeadsTo own other (arrival_alone h (later_moment h now) isn source s)
     by_listener None at =
-        let same : arrival_alone h isn source s ≡ arrival_with_reply h (answer_to s) = rw at in
+        let same : arrival_alone h (later_moment h now) isn source s ≡ arrival_with_reply h (answer_to s) = rw at in
         subst (LeadsTo own other) (sym same) (replied (answer_to s))
     by_listener (Some listener) at =
-        let same : arrival_alone h isn source s ≡ arrival_at h isn source s listener = rw at in
+        let same : arrival_alone h (later_moment h now) isn source s ≡ arrival_at h (later_moment h now) isn source s listener = rw at in
         subst (LeadsTo own other) (sym same) (by_flags listener (is_opening s.flags))
 
     settled : (fate : Fate) (offered : List SocketId)
@@ -83,7 +83,7 @@ leads_to own other h now isn source s t = by_entry (find (is_between (local_end 
 
     by_entry : (o : Option Entry) → find (is_between (local_end h s) (peer_end source s)) h.entries ≡ o → LeadsTo own other (arrival h now isn source s)
     by_entry None at =
-        let same : arrival h now isn source s ≡ arrival_alone h isn source s = rw at in
+        let same : arrival h now isn source s ≡ arrival_alone h (later_moment h now) isn source s = rw at in
         subst (LeadsTo own other) (sym same) (by_listener (find (is_listening_at s.destination) h.entries) refl)
     by_entry (Some e) at =
         let same : arrival h now isn source s ≡ arrival_at_connection h now source s e (fate_of s e.role) = rw at in

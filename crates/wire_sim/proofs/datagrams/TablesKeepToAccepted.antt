@@ -60,12 +60,12 @@ keeps-listening backlog own other addr (Idle buffers None) h = tt
 keeps-listening backlog own other addr (Datagrams (Some local) s) h = h
 keeps-listening backlog own other addr (Datagrams None s) h = h
 
-pub keeps-connecting : (local peer : Endpoint) (isn : ℕ) → Keeps (role_after_connect local peer isn)
-keeps-connecting from peer isn own other addr (Connected c l) h = tt
-keeps-connecting from peer isn own other addr (Listener local b) h = tt
-keeps-connecting from peer isn own other addr (Idle buffers bound) h = tt
-keeps-connecting from peer isn own other addr (Datagrams (Some local) s) h = h
-keeps-connecting from peer isn own other addr (Datagrams None s) h = h
+pub keeps-connecting : (local peer : Endpoint) (isn : ℕ) (now : Moment) → Keeps (role_after_connect local peer isn now)
+keeps-connecting from peer isn now own other addr (Connected c l) h = tt
+keeps-connecting from peer isn now own other addr (Listener local b) h = tt
+keeps-connecting from peer isn now own other addr (Idle buffers bound) h = tt
+keeps-connecting from peer isn now own other addr (Datagrams (Some local) s) h = h
+keeps-connecting from peer isn now own other addr (Datagrams None s) h = h
 
 pub keeps-accepting : Keeps role_after_accept
 keeps-accepting own other addr (Connected c l) h = tt

@@ -96,9 +96,9 @@ kept-connect own other h isn id peer routed t = by_port (port_connected h id pee
     by_port (Ok port) is =
         let local : Endpoint = record { addr = h.addr; port = port } in
         let given : SocketsView = record h { last_port = last_port_after h (option_and_then bound_of (role_of h id)) port } in
-        let same : after_connect h isn id peer routed ≡ with_socket given id (role_after_connect local peer isn) = rw is in
+        let same : after_connect h isn id peer routed ≡ with_socket given id (role_after_connect local peer isn h.kept) = rw is in
         let there : IsTableOf own other given = record { numbered = t.numbered; in_turn = t.in_turn; sockets = t.sockets } in
-        subst (IsTableOf own other) (sym same) (kept-changed own other given id (role_after_connect local peer isn) (keeps-connecting local peer isn) there)
+        subst (IsTableOf own other) (sym same) (kept-changed own other given id (role_after_connect local peer isn h.kept) (keeps-connecting local peer isn h.kept) there)
 
 -- the port that is asked for, or a dynamic one
 port_at-below : (h : SocketsView) (is_free : ℕ → Bool) (local : Endpoint) (port : ℕ) → local.port < 2 ^ 16 → port_at h is_free local ≡ Ok port → port < 2 ^ 16

@@ -19,6 +19,7 @@ use Rattle.tcp_state.specs.Calls.{after_send, after_recv, after_shutdown, after_
 use Rattle.tcp_state.specs.Due.{first_due, after_emitted}
 use Rattle.tcp_state.specs.Arrival.{after_segment_at}
 use Rattle.tcp_state.specs.Unreachable.{after_unreachable}
+use Rattle.tcp_state.specs.Hop.{after_hopless}
 use Rattle.udp.specs.Datagram.{UserDatagram}
 use Rattle.udp_socket.specs.SocketView.{SocketView}
 use Rattle.sockets.specs.declared.entry.SocketId.{SocketId}
@@ -30,7 +31,7 @@ use Rattle.sockets.specs.declared.datagrams.Reception.{Reception}
 use Rattle.sockets.specs.declared.datagrams.Reception.TheVariants.{Queued, NoRoom, NoSocket}
 use Rattle.sockets.specs.Datagrams.{reception, after_reception}
 use Rattle.sockets.specs.Lists.{change_first, remove_first}
-use Rattle.sockets.specs.Lost.{role_after_giving_up}
+use Rattle.sockets.specs.Lost.{is_hopless, role_after_giving_up}
 use Rattle.sockets.specs.SocketsView.{SocketsView}
 use Rattle.sockets.specs.Unreachable as table_errors
 use Rattle.wire_sim.proofs.lists.FoundAfterChange.{none-removed}
@@ -175,14 +176,18 @@ pub unheld_given_up : (lost : Addr → Bool) (now : Moment) → KeepsUnheld (rol
 unheld_given_up lost now pair (Idle b bound) out = refl
 unheld_given_up lost now pair (Datagrams bound s) out = refl
 unheld_given_up lost now pair (Listener x y) out = refl
-unheld_given_up lost now pair (Connected c l) out = out
+unheld_given_up lost now pair (Connected c l) out = by_hop (is_hopless lost c)
+  where
+    by_hop : (b : Bool) → joins pair (Connected (if b then after_hopless c now else c) l) ≡ false
+    by_hop true = unjoined pair c (after_hopless c now) l l (keeps-event c (edge.LosesHop now)) out
+    by_hop false = out
 
 -- an idle socket connects, to an end of another pair
-pub unheld_connecting : (local peer : Endpoint) (isn : ℕ) (pair : Pair) → joins pair (Connected (opened_actively local peer isn) None) ≡ false → (r : Role) → joins pair r ≡ false → joins pair (role_after_connect local peer isn r) ≡ false
-unheld_connecting local peer isn pair other (Idle b bound) out = other
-unheld_connecting local peer isn pair other (Datagrams bound s) out = refl
-unheld_connecting local peer isn pair other (Listener x y) out = refl
-unheld_connecting local peer isn pair other (Connected c l) out = out
+pub unheld_connecting : (local peer : Endpoint) (isn : ℕ) (now : Moment) (pair : Pair) → joins pair (Connected (opened_actively local peer isn now) None) ≡ false → (r : Role) → joins pair r ≡ false → joins pair (role_after_connect local peer isn now r) ≡ false
+unheld_connecting local peer isn now pair other (Idle b bound) out = other
+unheld_connecting local peer isn now pair other (Datagrams bound s) out = refl
+unheld_connecting local peer isn now pair other (Listener x y) out = refl
+unheld_connecting local peer isn now pair other (Connected c l) out = out
 
 -- what joins the pair of two ends lies between them
 pub joined : (c : View) (l : Option SocketId) (x y : Endpoint) → (pair_of c.local c.peer ≡ pair_of x y) ⊎ (joins (pair_of x y) (Connected c l) ≡ false)

@@ -187,7 +187,7 @@ call-keeps routed (call.PeerName id) answer own own' other m =
       | inr x ↦ keeps-same own own' x.3
     ]
 
--- what is given up takes connections away at most
+-- what is given up takes connections away, or ends them
 given_up-keeps : (own : SocketsView) (lost : Addr → Bool) (moment : Moment) → KeepsPairs own (after_giving_up own lost moment)
 given_up-keeps own lost moment pair none =
     let now = later_moment own moment in
@@ -321,7 +321,7 @@ frame-noted limit hs ts old new index isn answer sound w fair step x y id free h
         let next : SocketsView = record own { entries = entries_after_step (fate c s) (is_between local peer) (role_after_segment at s) own.entries; offered = offered } in
         absurd (holds-none own own' pair id (keeps-next own next own' same (λ p none. unheld-heard (fate c s) local peer at s p own.entries none)) free held)
     of_arrival f note local peer s opened noted names (Began listener none opens foreseen same) becomes =
-        let c = opened_passively local peer isn.0 s in
+        let c = opened_passively local peer isn.0 s (later_moment own moment) in
         let e : Entry = record { id = record { 0 = own.last_id + 1 }; role = Connected c (Some listener.id) } in
         elim (joined c (Some listener.id) x y) [
           | inl one ↦ of_pair f note noted (names ∙ one) becomes

@@ -72,8 +72,8 @@ connecting-host limit hs ts n trace w isn id peer place may =
     let routed = is_routed (host_of n hs).interface peer.addr in
     let k = connects-on own id peer routed may in
     let local : Endpoint = record { addr = own.addr; port = k.port } in
-    let c = opened_actively local peer isn.0 in
-    let g = role_after_connect local peer isn.0 in
+    let c = opened_actively local peer isn.0 own.kept in
+    let g = role_after_connect local peer isn.0 own.kept in
     let base : SocketsView = record own { last_port = last_port_after own k.bound k.port } in
     let next : SocketsView = record base { entries = change_first (is_socket id) (with_role g) own.entries } in
     let is_next : after_connect own isn.0 id peer routed ≡ next = k.becomes isn.0 in
@@ -81,14 +81,14 @@ connecting-host limit hs ts n trace w isn id peer place may =
     let x : Entry = record { id = id; role = Idle k.b k.bound } in
     let free : find (is_of_pair pair) own.entries ≡ None =
     unheld-between local peer own.entries k.apart h.own_table.sole (table-ours hs a own.addr own.last_id own.entries n.openings (told hs trace) h.own_addr h.own_table) k.free in
-    let named : socket_pair next id ≡ Some pair = socket_pair-connected next id c None (found-connecting own.entries id k.b k.bound local peer isn.0 k.found) in
+    let named : socket_pair next id ≡ Some pair = socket_pair-connected next id c None (found-connecting own.entries id k.b k.bound local peer isn.0 own.kept k.found) in
     record {
       pair = pair;
       unheld = ap (option_map (λ (e : Entry). e.id)) free;
       held = ap (λ w. holder_id w pair) is_next ∙ ap (option_map (λ (e : Entry). e.id)) (found-made (is_socket id) (is_of_pair pair) (with_role g) own.entries x k.found free (joins_own c None refl));
       others = λ p q none. elim (joined c None p q) [
         | inl same ↦ inl same
-        | inr out ↦ inr (ap (λ (w : SocketsView). find (is_of_pair (pair_of p q)) w.entries) is_next ∙ unheld-changed_at (is_socket id) g (pair_of p q) own.entries (unheld_connecting local peer isn.0 (pair_of p q) out) none)
+        | inr out ↦ inr (ap (λ (w : SocketsView). find (is_of_pair (pair_of p q)) w.entries) is_next ∙ unheld-changed_at (is_socket id) g (pair_of p q) own.entries (unheld_connecting local peer isn.0 own.kept (pair_of p q) out) none)
       ];
       opens = ap (λ w. opened_by_connect n.openings hs id place w (table_of n (other_side hs))) is_next ∙ ap (opened_as n.openings hs id place (table_of n (other_side hs))) named;
     }

@@ -84,8 +84,8 @@ pub projects-connects : (limit : ℕ) (hs ts : Side) (a b : Addr) (own other : S
 projects-connects limit hs ts a b own other bag openings place trace isn id peer routed fits fair accepted_call h =
     let k = connects-on own id peer routed accepted_call in
     let local : Endpoint = record { addr = own.addr; port = k.port } in
-    let c = opened_actively local peer isn in
-    let g = role_after_connect local peer isn in
+    let c = opened_actively local peer isn own.kept in
+    let g = role_after_connect local peer isn own.kept in
     let ys = change_first (is_socket id) (with_role g) own.entries in
     let base : SocketsView = record own { last_port = last_port_after own k.bound k.port } in
     let next : SocketsView = record base { entries = ys } in
@@ -106,12 +106,12 @@ projects-connects limit hs ts a b own other bag openings place trace isn id peer
       next = record { by_id = h.own_table.noted id (Idle k.b k.bound) before; by_epoch = not-second openings hs pair epoch (fair pair k.foreseen); epoch = r.within };
       rises = r.own_rises o refl refl;
     } in
-    let named : socket_pair next id ≡ Some pair = socket_pair-connected next id c None (found-connecting own.entries id k.b k.bound local peer isn k.found) in
+    let named : socket_pair next id ≡ Some pair = socket_pair-connected next id c None (found-connecting own.entries id k.b k.bound local peer isn own.kept k.found) in
     let within = h.own_table.bound id (Idle k.b k.bound) before in
     let there_end = end_at ts openings other.entries (told ts trace) pair epoch in
     let made : Projects limit hs ts a b next other bag (openings ++ o ∷ []) trace =
     projects-made limit hs ts a b own next other bag openings trace o c None refl (omega arith) within m (inr (Idle k.b k.bound, before)) (r.other_rises o refl refl) h
-    (connects (pairing nothing_yet there_end (bag.out pair epoch) (bag.arrived pair epoch)) local peer isn refl fits) in
+    (connects (pairing nothing_yet there_end (bag.out pair epoch) (bag.arrived pair epoch)) local peer isn own.kept refl fits) in
     record {
       opening = o;
       opens = ap (λ w. opened_by_connect openings hs id place w other) is_next ∙ ap (opened_as openings hs id place other) named;

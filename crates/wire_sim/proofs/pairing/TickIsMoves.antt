@@ -7,8 +7,10 @@ use Rattle.tcp_state.specs.Edges as edge
 use Rattle.tcp_state.specs.declared.connection.Fate.{Fate}
 use Rattle.tcp_state.specs.declared.connection.Fate.TheVariants.{Stays, Removed}
 use Rattle.clock.specs.declared.moment.Moment.{Moment}
+use Rattle.clock.specs.Moments.{has_come}
 use Rattle.tcp_state.specs.declared.calls.Refusal.TheVariants.{ETIMEDOUT}
 use Rattle.tcp_state.specs.View.{View, is_syn_received, is_at_end, after_stop, after_reset}
+use Rattle.tcp_state.specs.Hop.{unheard_until, after_hopless, hopless_fate}
 use Rattle.tcp_state.specs.Timing.{clocked, gives_up, after_timers, after_tick}
 use Rattle.sides.specs.declared.side.Side.{Side}
 use Rattle.wire_sim.specs.declared.event.Opening.{Opening}
@@ -16,9 +18,9 @@ use Rattle.wire_sim.specs.declared.event.Happening.{Happening}
 use Rattle.sockets.specs.declared.entry.SocketId.{SocketId}
 use Rattle.sockets.specs.declared.role.Role.{Role}
 use Rattle.sockets.specs.declared.role.Role.TheVariants.{Idle, Listener, Connected, Datagrams}
-use Rattle.sockets.specs.Entries.{is_kept, entries_after_steps, role_after_tick, tick_fate_of}
+use Rattle.sockets.specs.Entries.{in_connection, is_kept, entries_after_steps, role_after_tick, tick_fate_of}
 use Rattle.sockets.specs.Ticks as table_ticks
-use Rattle.sockets.specs.Lost.{is_given_up, give_up_fate_of, role_after_giving_up, after_giving_up}
+use Rattle.sockets.specs.Lost.{is_given_up, is_hopless, loses_hop, give_up_fate_of, role_after_giving_up, after_giving_up}
 use Rattle.sockets.specs.SocketsView.{SocketsView, later_moment}
 use Rattle.stream_law.specs.ChannelViews.{Stops}
 use Rattle.stream_law.specs.Pairing.{Pairing, Present, Departed, Meets, rests, stops, leaves}
@@ -26,7 +28,6 @@ use Rattle.stream_law.proofs.Clock.{same-acted}
 use Rattle.stream_law.proofs.PairingEndings.{stops-at_end, stops-told}
 use Rattle.wire_sim.specs.Tallies.{is_opening_of}
 use Rattle.wire_sim.proofs.tables.EntryChanges.{opened-kept}
-use Rattle.wire_sim.proofs.tables.UnseenRoles.{IsQuiet, quiet_given_up}
 use Rattle.wire_sim.proofs.pairing.EndMoves.{pairing, EndGoes, moved, end-stays}
 use Rattle.sockets.proofs.KeptEnds.{keeps-event}
 use Rattle.wire_sim.proofs.pairing.WorldAsPairings.{told, Bag, Projects, projects-turned}
@@ -83,6 +84,12 @@ projects-settled limit hs ts a b own own' other bag openings trace fate g addr l
         (each (told hs trace o.id) (role_at own.entries o.id.0) there (bag.out pair epoch) (bag.arrived pair epoch)
         (subst (λ e. Meets limit (pairing e there (bag.out pair epoch) (bag.arrived pair epoch))) (ap (end_of own.entries (told hs trace)) at) (h.meets pair epoch)))
 
+-- what is over is taken out or stays
+over_goes : (limit : ℕ) (t : Account) (c w : View) (l : Option SocketId) → Stops c w → (out_of_table : Bool)
+    → EndGoes limit (end_with (Present c) t) (end_with (presence_in (cond (is_kept (if out_of_table then Removed else Stays)) (Some (Connected w l)) None)) t)
+over_goes limit t c w l over true there out arrived = let was = pairing (end_with (Present c) t) there out arrived in moved limit was (pairing (end_with Departed t) there out arrived) (leaves was c t.closed refl (λ e. e))
+over_goes limit t c w l over false there out arrived = let was = pairing (end_with (Present c) t) there out arrived in moved limit was (pairing (end_with (Present w) t) there out arrived) (stops was c w t.closed refl over (λ e. e))
+
 -- what a tick makes of one end
 role_goes : (limit : ℕ) (now : Moment) (t : Account) (r : Role) → EndGoes limit (end_with (presence_in (Some r)) t) (end_with (presence_in (settle (tick_fate_of now r) (role_after_tick now) r)) t)
 role_goes limit now t (Connected c l) there out arrived = by_end (is_at_end c now) _ refl
@@ -90,14 +97,9 @@ role_goes limit now t (Connected c l) there out arrived = by_end (is_at_end c no
     was : Pairing
     was = pairing (end_with (Present c) t) there out arrived
 
-    leaving : Meets limit was → Meets limit (pairing (end_with Departed t) there out arrived)
-    leaving = moved limit was (pairing (end_with Departed t) there out arrived) (leaves was c t.closed refl (λ e. e))
-
-    -- it is over, and is taken out or stays
     ending : (w : View) → Stops c w → (out_of_table : Bool) → Meets limit was
         → Meets limit (pairing (end_with (presence_in (cond (is_kept (if out_of_table then Removed else Stays)) (Some (Connected w l)) None)) t) there out arrived)
-    ending w over true = leaving
-    ending w over false = moved limit was (pairing (end_with (Present w) t) there out arrived) (stops was c w t.closed refl over (λ e. e))
+    ending w over gone = over_goes limit t c w l over gone there out arrived
 
     given_up : View
     given_up = after_reset c (Some ETIMEDOUT)
@@ -133,7 +135,7 @@ projects-ticked limit hs ts a b own other bag openings trace moment h =
     noted now id (Idle b n) k = k
     noted now id (Datagrams b n) k = k
 
--- What is given up: connections whose resets can't go out are gone, and datagrams no connection sees.
+-- What is given up: connections whose resets can't go out are gone, those that waited for a hop as long as they may are over, and datagrams no connection sees.
 
 -- a connection that is gone, or none
 leaves_end : (limit : ℕ) (t : Account) (r : Role) → EndGoes limit (end_with (presence_in (Some r)) t) (end_with Departed t)
@@ -143,23 +145,48 @@ leaves_end limit t (Listener b n) there out arrived = end-stays limit (end_with 
 leaves_end limit t (Idle b n) there out arrived = end-stays limit (end_with Departed t) (end_with Departed t) refl there out arrived
 leaves_end limit t (Datagrams b n) there out arrived = end-stays limit (end_with Departed t) (end_with Departed t) refl there out arrived
 
+-- what the loss of its hop makes of one end
+hopless_goes : (limit : ℕ) (lost : Addr → Bool) (now : Moment) (t : Account) (r : Role)
+    → EndGoes limit (end_with (presence_in (Some r)) t) (end_with (presence_in (settle (if loses_hop lost r then in_connection Stays (λ c. hopless_fate c now) r else Stays) (role_after_giving_up lost now) r)) t)
+hopless_goes limit lost now t (Connected c l) = by_hop (is_hopless lost c) (has_come (unheard_until c) now)
+  where
+    over : View
+    over = after_reset c (Some ETIMEDOUT)
+
+    taken_out : Bool
+    taken_out = c.released || (c.passive && is_syn_received c.state)
+
+    by_hop : (lost ended : Bool) → EndGoes limit (end_with (Present c) t)
+        (end_with (presence_in (cond (is_kept (if lost then (if ended && taken_out then Removed else Stays) else Stays)) (Some (Connected (if lost then (if ended then over else c) else c) l)) None)) t)
+    by_hop true true = over_goes limit t c over l (stops-told c over refl refl) taken_out
+    by_hop true false = end-stays limit (end_with (Present c) t) (end_with (Present c) t) refl
+    by_hop false ended = end-stays limit (end_with (Present c) t) (end_with (Present c) t) refl
+hopless_goes limit lost now t (Listener b n) = end-stays limit (end_with Departed t) (end_with Departed t) refl
+hopless_goes limit lost now t (Idle b n) = end-stays limit (end_with Departed t) (end_with Departed t) refl
+hopless_goes limit lost now t (Datagrams b n) = end-stays limit (end_with Departed t) (end_with Departed t) refl
+
 pub projects-given_up : (limit : ℕ) (hs ts : Side) (a b : Addr) (own other : SocketsView) (bag : Bag) (openings : List Opening) (trace : List Happening) (lost : Addr → Bool) (moment : Moment)
     → Projects limit hs ts a b own other bag openings trace → Projects limit hs ts a b (after_giving_up own lost moment) other bag openings trace
 projects-given_up limit hs ts a b own other bag openings trace lost moment h =
-    projects-settled limit hs ts a b own (after_giving_up own lost moment) other bag openings trace (give_up_fate_of lost now) change refl refl refl (λ id q k. quiet.noted hs a openings id q k) goes h
+    projects-settled limit hs ts a b own (after_giving_up own lost moment) other bag openings trace (give_up_fate_of lost now) (role_after_giving_up lost now) refl refl refl noted goes h
   where
     now : Moment
     now = later_moment own moment
 
-    change : Role → Role
-    change = role_after_giving_up lost now
+    noted : (id : SocketId) (r : Role) → IsNoted hs a openings id r → IsNoted hs a openings id (role_after_giving_up lost now r)
+    noted id (Connected c l) k = by_hop (is_hopless lost c)
+      where
+        by_hop : (b : Bool) → IsNoted hs a openings id (Connected (if b then after_hopless c now else c) l)
+        by_hop true = opened-kept hs a openings id c (after_hopless c now) (keeps-event c (edge.LosesHop now)) k
+        by_hop false = k
+    noted id (Listener b n) k = k
+    noted id (Idle b n) k = k
+    noted id (Datagrams b n) k = k
 
-    quiet : IsQuiet change
-    quiet = quiet_given_up lost now
-
-    goes : (t : Account) (q : Role) → EndGoes limit (end_with (presence_in (Some q)) t) (end_with (presence_in (settle (give_up_fate_of lost now q) change q)) t)
+    goes : (t : Account) (q : Role) → EndGoes limit (end_with (presence_in (Some q)) t) (end_with (presence_in (settle (give_up_fate_of lost now q) (role_after_giving_up lost now) q)) t)
     goes t q = by_test (is_given_up lost now q)
       where
-        by_test : (b : Bool) → EndGoes limit (end_with (presence_in (Some q)) t) (end_with (presence_in (settle (if b then Removed else Stays) change q)) t)
+        by_test : (b : Bool) → EndGoes limit (end_with (presence_in (Some q)) t)
+            (end_with (presence_in (settle (if b then Removed else if loses_hop lost q then in_connection Stays (λ c. hopless_fate c now) q else Stays) (role_after_giving_up lost now) q)) t)
         by_test true = leaves_end limit t q
-        by_test false = end-stays limit (end_with (presence_in (Some q)) t) (end_with (presence_in (Some (change q))) t) (ap (λ p. end_with p t) (quiet.seen q))
+        by_test false = hopless_goes limit lost now t q

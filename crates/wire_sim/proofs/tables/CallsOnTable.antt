@@ -246,7 +246,7 @@ pub record ConnectsOn (h : SocketsView) (id : SocketId) (peer : Endpoint) (route
   pub apart : same_addr h.addr peer.addr ≡ false
   pub free : find (is_between (record { addr = h.addr; port = port }) peer) h.entries ≡ None
   pub foreseen : pair_connected h id peer routed ≡ Some (pair_of (record { addr = h.addr; port = port }) peer)
-  pub becomes : (isn : ℕ) → after_connect h isn id peer routed ≡ with_socket (record h { last_port = last_port_after h bound port }) id (role_after_connect (record { addr = h.addr; port = port }) peer isn)
+  pub becomes : (isn : ℕ) → after_connect h isn id peer routed ≡ with_socket (record h { last_port = last_port_after h bound port }) id (role_after_connect (record { addr = h.addr; port = port }) peer isn h.kept)
 
 -- no connection goes to the peer from the port that is given
 pub port_for-free : (h : SocketsView) (bound : Option Endpoint) (peer : Endpoint) (port : ℕ) → port_for h bound peer ≡ Some port
@@ -354,10 +354,10 @@ found-itself {X} t f xs x = go xs
     go (y ∷ ys) e passes = step y ys (λ e. go ys e passes) (t y) refl e passes
 
 -- the socket that a connect was for is a connection in SYN-SENT
-pub found-connecting : (xs : List Entry) (id : SocketId) (b : Buffers) (bound : Option Endpoint) (local peer : Endpoint) (isn : ℕ)
+pub found-connecting : (xs : List Entry) (id : SocketId) (b : Buffers) (bound : Option Endpoint) (local peer : Endpoint) (isn : ℕ) (now : Moment)
     → find (is_socket id) xs ≡ Some (record { id = id; role = Idle b bound })
-    → find (is_socket id) (change_first (is_socket id) (with_role (role_after_connect local peer isn)) xs) ≡ Some (record { id = id; role = Connected (opened_actively local peer isn) None })
-found-connecting xs id b bound local peer isn found = found-itself (is_socket id) (with_role (role_after_connect local peer isn)) xs x found (find-passes (is_socket id) xs x found)
+    → find (is_socket id) (change_first (is_socket id) (with_role (role_after_connect local peer isn now)) xs) ≡ Some (record { id = id; role = Connected (opened_actively local peer isn now) None })
+found-connecting xs id b bound local peer isn now found = found-itself (is_socket id) (with_role (role_after_connect local peer isn now)) xs x found (find-passes (is_socket id) xs x found)
   where
     x : Entry
     x = record { id = id; role = Idle b bound }

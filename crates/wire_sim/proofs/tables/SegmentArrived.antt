@@ -31,10 +31,10 @@ pub data Arrived (h : SocketsView) (now : Moment) (isn : ℕ) (local peer : Endp
   Heard : (c : View) (l : Option SocketId) (id : SocketId) (offered : List SocketId) → find (is_between local peer) h.entries ≡ Some (record { id = id; role = Connected c l })
       → new ≡ record h { entries = entries_after_step (fate c s) (is_between local peer) (role_after_segment (later_moment h now) s) h.entries; offered = offered } → Arrived h now isn local peer s opened new
   Began : (listener : Entry) → find (is_between local peer) h.entries ≡ None → is_opening s.flags ≡ true → opened ≡ Some (pair_of local peer)
-      → new ≡ record h { last_id = h.last_id + 1; entries = h.entries ++ new_waiting (record { 0 = h.last_id + 1 }) listener.id (opened_passively local peer isn s) ∷ [] } → Arrived h now isn local peer s opened new
+      → new ≡ record h { last_id = h.last_id + 1; entries = h.entries ++ new_waiting (record { 0 = h.last_id + 1 }) listener.id (opened_passively local peer isn s (later_moment h now)) ∷ [] } → Arrived h now isn local peer s opened new
 
 -- a segment for no connection of the table
-arrival-unfound : (h : SocketsView) (now : Moment) (isn : ℕ) (source : Addr) (s : Segment) → find (is_between (local_end h s) (peer_end source s)) h.entries ≡ None → arrival h now isn source s ≡ arrival_alone h isn source s
+arrival-unfound : (h : SocketsView) (now : Moment) (isn : ℕ) (source : Addr) (s : Segment) → find (is_between (local_end h s) (peer_end source s)) h.entries ≡ None → arrival h now isn source s ≡ arrival_alone h (later_moment h now) isn source s
 arrival-unfound h now isn source s none = rw none
 
 -- what the table says of a segment that arrived, and what it becomes; an opening was foreseen
@@ -81,26 +81,26 @@ segment-arrived h now isn source s opened said new seen = by_entry (find (is_bet
     heard e at meets (Connected c l) role = by_fate e c l e.id (at ∙ ap Some (entry_with e (Connected c l) role)) (fate c s) refl (subst (λ r. Meets (arrival_at_connection h now source s e (fate_of s r)) h said new) role meets)
 
     of_opens : (listener : Entry) → find (is_between local peer) h.entries ≡ None → is_opening s.flags ≡ true → opened ≡ Some (pair_of local peer)
-        → Meets (Opens (after_opening h isn listener source s)) h said new → Shown
+        → Meets (Opens (after_opening h (later_moment h now) isn listener source s)) h said new → Shown
     of_opens listener none opens foreseen (inl done) = Began listener none opens foreseen done.1
     of_opens listener none opens foreseen (inr refused) = Ignored refused.1
 
     by_place : (listener : Entry) → find (is_between local peer) h.entries ≡ None → is_opening s.flags ≡ true → find (is_listening_at s.destination) h.entries ≡ Some listener
-        → (full : Bool) → has_no_room h listener ≡ full → Meets (cond full NoRoom (Opens (after_opening h isn listener source s))) h said new → Shown
+        → (full : Bool) → has_no_room h listener ≡ full → Meets (cond full NoRoom (Opens (after_opening h (later_moment h now) isn listener source s))) h said new → Shown
     by_place listener none opens at true full meets = Ignored meets.1
-    by_place listener none opens at false full meets = of_opens listener none opens (seen (after_opening h isn listener source s) (rw (none, at, opens, full)) ∙ rw (none, opens, at, full)) meets
+    by_place listener none opens at false full meets = of_opens listener none opens (seen (after_opening h (later_moment h now) isn listener source s) (rw (none, at, opens, full)) ∙ rw (none, opens, at, full)) meets
 
     by_flags : (listener : Entry) → find (is_between local peer) h.entries ≡ None → find (is_listening_at s.destination) h.entries ≡ Some listener
-        → (b : Bool) → is_opening s.flags ≡ b → Meets (cond b (opening h isn source s listener) (arrival_with_reply h (answer_at_listener s))) h said new → Shown
+        → (b : Bool) → is_opening s.flags ≡ b → Meets (cond b (opening h (later_moment h now) isn source s listener) (arrival_with_reply h (answer_at_listener s))) h said new → Shown
     by_flags listener none at false is meets = by_reply (answer_at_listener s) meets
     by_flags listener none at true is meets = by_place listener none is at (has_no_room h listener) refl meets
 
-    by_listener : find (is_between local peer) h.entries ≡ None → (o : Option Entry) → find (is_listening_at s.destination) h.entries ≡ o → Meets (arrival_alone h isn source s) h said new → Shown
+    by_listener : find (is_between local peer) h.entries ≡ None → (o : Option Entry) → find (is_listening_at s.destination) h.entries ≡ o → Meets (arrival_alone h (later_moment h now) isn source s) h said new → Shown
     by_listener none None at meets =
-        let alone : arrival_alone h isn source s ≡ arrival_with_reply h (answer_to s) = rw at in
+        let alone : arrival_alone h (later_moment h now) isn source s ≡ arrival_with_reply h (answer_to s) = rw at in
         by_reply (answer_to s) (subst (λ a. Meets a h said new) alone meets)
     by_listener none (Some listener) at meets =
-        let alone : arrival_alone h isn source s ≡ arrival_at h isn source s listener = rw at in
+        let alone : arrival_alone h (later_moment h now) isn source s ≡ arrival_at h (later_moment h now) isn source s listener = rw at in
         by_flags listener none at (is_opening s.flags) refl (subst (λ a. Meets a h said new) alone meets)
 
     by_entry : (o : Option Entry) → find (is_between local peer) h.entries ≡ o → Meets (arrival h now isn source s) h said new → Shown

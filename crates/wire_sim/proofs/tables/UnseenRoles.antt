@@ -1,6 +1,5 @@
 -- Changes of an entry's role that no connection sees.
 use Rattle.std.proofs.Common.{◌≡◌, ℕ, Bool, List, Option, Some, None, refl}
-use Rattle.clock.specs.declared.moment.Moment.{Moment}
 use Rattle.ipv4.specs.declared.addr.Addr.{Addr}
 use Rattle.ipv4.specs.declared.addr.Endpoint.{Endpoint}
 use Rattle.udp_socket.specs.SocketView.{SocketView}
@@ -8,7 +7,6 @@ use Rattle.sockets.specs.declared.entry.SocketId.{SocketId}
 use Rattle.sockets.specs.declared.role.Role.{Role}
 use Rattle.sockets.specs.declared.role.Role.TheVariants.{Idle, Listener, Connected, Datagrams}
 use Rattle.sockets.specs.Entries.{on_datagrams, role_after_bind, role_after_listen, role_after_accept}
-use Rattle.sockets.specs.Lost.{role_after_giving_up}
 use Rattle.sides.specs.declared.side.Side.{Side}
 use Rattle.wire_sim.specs.declared.event.Opening.{Opening}
 use Rattle.wire_sim.proofs.tables.TableById.{presence_in, IsNoted}
@@ -76,22 +74,6 @@ quiet_datagrams bind change = record { seen = seen; noted = noted }
     seen (Datagrams at s) = refl
 
     noted : (side : Side) (own : Addr) (os : List Opening) (id : SocketId) (r : Role) → IsNoted side own os id r → IsNoted side own os id (on_datagrams bind change r)
-    noted side own os id (Connected c w) k = k
-    noted side own os id (Listener x y) k = k
-    noted side own os id (Idle b at) k = k
-    noted side own os id (Datagrams at s) k = k
-
--- nor is one that gives datagrams up
-pub quiet_given_up : (lost : Addr → Bool) (now : Moment) → IsQuiet (role_after_giving_up lost now)
-quiet_given_up lost now = record { seen = seen; noted = noted }
-  where
-    seen : (r : Role) → presence_in (Some (role_after_giving_up lost now r)) ≡ presence_in (Some r)
-    seen (Connected c w) = refl
-    seen (Listener x y) = refl
-    seen (Idle b at) = refl
-    seen (Datagrams at s) = refl
-
-    noted : (side : Side) (own : Addr) (os : List Opening) (id : SocketId) (r : Role) → IsNoted side own os id r → IsNoted side own os id (role_after_giving_up lost now r)
     noted side own os id (Connected c w) k = k
     noted side own os id (Listener x y) k = k
     noted side own os id (Idle b at) k = k

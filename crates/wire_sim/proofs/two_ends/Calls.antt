@@ -16,7 +16,8 @@ use Rattle.tcp_state.specs.declared.emission.Due.{Due}
 use Rattle.tcp_state.specs.declared.emission.Due.TheVariants.{Rst, Syn, Text, Probe}
 use Rattle.tcp_state.specs.declared.state.State.{State}
 use Rattle.tcp_state.specs.Calls.{shutdown_refusal, after_shutdown}
-use Rattle.tcp_state.specs.Due.{first_due, sends_new, sends_fin, new_octets, fin_alone as fin_alone_of, ack_due, again_from, new_due}
+use Rattle.tcp_state.specs.New.{sends_new, sends_fin}
+use Rattle.tcp_state.specs.Due.{first_due, new_octets, fin_alone as fin_alone_of, ack_due, again_from, new_due}
 use Rattle.tcp_state.specs.Duties.{IsShut}
 use Rattle.tcp_state.specs.Edges as edge
 use Rattle.tcp_state.specs.Timing.{probes}
@@ -154,14 +155,14 @@ shutdown_ends limit side id before after ours theirs c w v answer reached step h
 
 -- `connect`.
 
-opens_idle : (role : Role) (bound : Option Endpoint) (local peer : Endpoint) (isn : ℕ) → table.open_answer role ≡ Ok bound → (has_socket role ≡ true) × (role_after_connect local peer isn role ≡ Connected (opened_actively local peer isn) None)
-opens_idle (Idle buffers b) bound local peer isn e = (refl, refl)
-opens_idle (Connected c l) bound local peer isn e = absurd (none_opens c.state c.pending_error e)
+opens_idle : (role : Role) (bound : Option Endpoint) (local peer : Endpoint) (isn : ℕ) (now : Moment) → table.open_answer role ≡ Ok bound → (has_socket role ≡ true) × (role_after_connect local peer isn now role ≡ Connected (opened_actively local peer isn now) None)
+opens_idle (Idle buffers b) bound local peer isn now e = (refl, refl)
+opens_idle (Connected c l) bound local peer isn now e = absurd (none_opens c.state c.pending_error e)
   where
     none_opens : (t : State) (error : Option Refusal) → table.had_connection t error ≡ Ok bound → ⊥
     none_opens t (Some error) e = cc
     none_opens t None e = by_test (is_opening t) (λ yes. let bad : Err table_variants.EALREADY ≡ Ok bound = ap (λ b. if b then Err table_variants.EALREADY else Err table_variants.EISCONN) (sym yes) ∙ e in cc) (λ no. let bad : Err table_variants.EISCONN ≡ Ok bound = ap (λ b. if b then Err table_variants.EALREADY else Err table_variants.EISCONN) (sym no) ∙ e in cc)
-opens_idle _ bound local peer isn e = cc
+opens_idle _ bound local peer isn now e = cc
 
 pub connect_asks : EveryConnectAsks
 connect_asks limit side id isn peer w v reached step = by_port (table.port_connected h id peer routed) refl
@@ -190,10 +191,10 @@ connect_asks limit side id isn peer w v reached step = by_port (table.port_conne
     opened : (port : ℕ) → table.port_connected h id peer routed ≡ Ok port → (role : Role) → role_of h id ≡ Some role → (bound : Option Endpoint) → table.open_answer role ≡ Ok bound → table_of v.network side ≡ table.after_connect h isn.0 id peer routed → Asks
     opened port given role is bound opens new =
         let local : Endpoint = record { addr = h.addr; port = port } in
-        let change = role_after_connect local peer isn.0 in
-        let idle = opens_idle role bound local peer isn.0 opens in
+        let change = role_after_connect local peer isn.0 h.kept in
+        let idle = opens_idle role bound local peer isn.0 h.kept opens in
         let x = role_found h id role is in
-        let c : View = opened_actively local peer isn.0 in
+        let c : View = opened_actively local peer isn.0 h.kept in
         let under : find (has_id id) h.entries ≡ Some x.0 = socket_found id 0 h.last_id h.entries x.0 ordered.ids x.1 in
         let at : has_id id x.0 ≡ true = find-passes (has_id id) h.entries x.0 under in
         let entry : with_role change x.0 ≡ connected id c None =

@@ -37,7 +37,7 @@ use Rattle.sockets.specs.Ids.{has_id}
 use Rattle.sockets.specs.Offered.{is_ready_id}
 use Rattle.sockets.specs.Order.{IsOrdered, LiesAt}
 use Rattle.sockets.specs.Sound.{IsSoundConnection, IsSoundRole}
-use Rattle.sockets.specs.SocketsView.{SocketsView}
+use Rattle.sockets.specs.SocketsView.{SocketsView, later_moment}
 use Rattle.sockets.specs.Steps.{connected}
 use Rattle.sockets.specs.Strays.{IsResetOf}
 use Rattle.sockets.proofs.OneEvent.{socket_once}
@@ -236,7 +236,7 @@ ok-told (Err cause) is = cc
 
 -- where a segment opens a connection, the table is as that leaves it
 opens_so : (h : SocketsView) (now : Moment) (isn : ℕ) (source : Addr) (s : Segment) (listener : Entry) (next : SocketsView) → find (is_between (local_end h s) (peer_end source s)) h.entries ≡ None → find (is_listening_at s.destination) h.entries ≡ Some listener
-    → s.flags.rst ≡ false → s.flags.ack ≡ false → s.flags.syn ≡ true → arrival h now isn source s ≡ Opens next → arrival h now isn source s ≡ Opens (after_opening h isn listener source s)
+    → s.flags.rst ≡ false → s.flags.ack ≡ false → s.flags.syn ≡ true → arrival h now isn source s ≡ Opens next → arrival h now isn source s ≡ Opens (after_opening h (later_moment h now) isn listener source s)
 opens_so h now isn source s listener next none found rst ack syn opens =
     let opened : is_opening s.flags ≡ true = rw (syn, rst, ack) refl in
     by_test (has_no_room h listener)
@@ -251,16 +251,16 @@ syn_opened limit side id ours c listener w0 w1 w2 w3 isn t has asks unknown plac
     let source = addr_at w0.network side in
     let m = syn_comes side w0 w2 w3 isn id ours c a has asks unknown in
     let opens = syn_opens h.sockets a.moment isn.0 source s listener m.none place.listens refl m.no_ack refl place.fewer place.room place.young in
-    let next : SocketsView = after_opening h.sockets isn.0 listener source s in
+    let next : SocketsView = after_opening h.sockets (later_moment h.sockets a.moment) isn.0 listener source s in
     let is : arrival h.sockets a.moment isn.0 source s ≡ Opens next = opens_so h.sockets a.moment isn.0 source s listener opens.0 m.none place.listens refl m.no_ack refl opens.1 in
     let met = subst (λ (x : Arrival). MeetsSegment (arrival_by_route (is_routed h.interface source) x) h a.moment source a.told (host_of w3.network (other_side side))) is a.met in
     let by_route = subst (λ (b : Bool). MeetsSegment (if b then Opens next else NoRoom) h a.moment source a.told (host_of w3.network (other_side side))) m.routed met in
     let new : host_of w3.network (other_side side) ≡ with_sockets h next = subst (λ (r : Result (Unit {0}) DropCause). MeetsSegment (Opens next) h a.moment source r (host_of w3.network (other_side side))) (ok-told a.told a.answered) by_route in
     let own : SocketId = record { 0 = h.sockets.last_id + 1 } in
-    let f : View = opened_passively (local_end h.sockets s) (peer_end source s) isn.0 s in
+    let f : View = opened_passively (local_end h.sockets s) (peer_end source s) isn.0 s (later_moment h.sockets a.moment) in
     let none : find (has_id own) h.sockets.entries ≡ None = none_past own 0 h.sockets.last_id h.sockets.entries (omega arith) a.kept_there.ordered.ids in
     let there : entry_of next own ≡ Some (connected own f (Some listener.id)) = find-added (has_id own) h.sockets.entries (new_waiting own listener.id f) none (eqb-same own.0) in
-    let answers = listener_answers (local_end h.sockets s) (peer_end source s) isn.0 s a.small in (
+    let answers = listener_answers (local_end h.sockets s) (peer_end source s) isn.0 s (later_moment h.sockets a.moment) a.small in (
       f,
       ap (λ (k : HostView). entry_of k.sockets own) new ∙ there,
       record { state = refl; syn = refl; expects = ap (λ (n : ℕ). wire n 1) m.number },

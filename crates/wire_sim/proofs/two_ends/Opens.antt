@@ -12,12 +12,13 @@ use Rattle.tcp_state.specs.declared.connection.Fate.TheVariants.{Stays, Removed,
 use Rattle.tcp_state.specs.declared.emission.Due.TheVariants.{Rst, Syn, Text, Probe, Ack}
 use Rattle.tcp_state.specs.declared.state.State.{State}
 use Rattle.tcp_state.specs.declared.state.State.TheVariants.{SynSent, SynReceived}
-use Rattle.tcp_state.specs.Arrival.{fate, is_lost, is_rejected, ends_opening, ends_by_reset, ends_by_syn, is_acceptable_to, is_receiving, is_read, brings_more, is_right_syn_ack, is_simultaneous_syn, after_simultaneous_syn, after_syn_ack, after_rst_in_syn_sent, after_rst, after_acceptable_segment, owing_ack, resend_after, after_segment, after_heard, after_lost, after_ack, after_window, after_text, after_segment_at, before, timed_by}
+use Rattle.tcp_state.specs.Arrival.{octets_outstanding, fate, is_lost, is_rejected, ends_opening, ends_by_reset, ends_by_syn, is_acceptable_to, is_receiving, is_read, brings_more, is_right_syn_ack, is_simultaneous_syn, after_simultaneous_syn, after_syn_ack, after_rst_in_syn_sent, after_rst, after_acceptable_segment, owing_ack, resend_after, after_segment, after_heard, after_lost, after_ack, after_window, after_text, after_segment_at, before, timed_by}
 use Rattle.tcp_state.specs.Edges.{Hears, after_event}
 use Rattle.tcp_state.specs.Said.{segment_of, IsClosedBy}
 use Rattle.tcp_state.specs.View.{View, IsSound, is_opening, is_closed, is_over, is_syn_sent, is_syn_received, awaits_fin_ack, is_write_finished, is_write_closed}
 use Rattle.tcp_halves.specs.declared.buffers.TheConstants.{CAPACITY}
-use Rattle.tcp_state.specs.Due.{ack_number, first_due, sends_new, sends_fin, new_octets, fin_alone as fin_alone_of, ack_due, again_from, new_due}
+use Rattle.tcp_state.specs.New.{sends_new, sends_fin}
+use Rattle.tcp_state.specs.Due.{ack_number, first_due, new_octets, fin_alone as fin_alone_of, ack_due, again_from, new_due}
 use Rattle.tcp_state.specs.Timing.{has_unacknowledged, probes}
 use Rattle.tcp_halves.specs.Windows.{sendable, is_worth_sending, has_grown}
 use Rattle.tcp_state.specs.declared.emission.Due.{Due}
@@ -169,7 +170,7 @@ opened_by ours theirs f v now answers sound asks out =
     let heard : after_heard v s ≡ opened_by_syn_ack v s = ap (λ b. if b then after_lost v s else after_segment v s) kept ∙ syn_ack_heard v s asks.state refl refl ack new in
     let u = opened_by_syn_ack v s in
     let at : after_segment_at v s now ≡ timed_by (before v s) u now = comes_to v s now (ap is_closed asks.state) taken ∙ ap (λ w. timed_by (before v s) w now) heard in
-    let mark : (resend_after (before v s) u now).mark ≡ None = marks_kept (before v s) u now (ap (λ b. not b && is_read v s && nat_lt 0 (outstanding v.sending) && (length s.octets == 0) && not s.flags.fin && (s.acknowledgement == v.sending.una) && (s.window == v.sending.window)) opens) in
+    let mark : (resend_after (before v s) u now).mark ≡ None = marks_kept (before v s) u now (ap (λ b. not b && is_read v s && nat_lt 0 (octets_outstanding v) && (length s.octets == 0) && not s.flags.fin && (s.acknowledgement == v.sending.una) && (s.window == v.sending.window)) opens) in
     let w = timed_by (before v s) u now in
     let P : View → Type 0 = λ e. IsOpen ours theirs e × (first_due e ≡ Some Ack) in (
       subst P (sym at) (
