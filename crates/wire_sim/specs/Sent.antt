@@ -1,5 +1,5 @@
 -- What a frame is sent as by the host that it goes out of, and what whoever receives it hears then.
-use Rattle.std.specs.Prelude.{◌≡◌, Bool, true, not, ◌&&◌, ◌||◌, if◌then◌else◌, List, [], ◌∷◌, length, find, slice_get, Option, Some, None, is_some, option_map, option_and_then, Result, Ok, Err}
+use Rattle.std.specs.Prelude.{◌≡◌, Bool, true, not, ◌&&◌, ◌||◌, if◌then◌else◌, List, [], ◌∷◌, length, slice_get, Option, Some, None, is_some, option_map, option_and_then, Result, Ok, Err}
 use Rattle.std.specs.List.{AllByRecursion}
 use Rattle.ether.specs.declared.mac.Mac.{Mac}
 use Rattle.arp.specs.declared.packet.ArpPacket.{ArpPacket}
@@ -16,7 +16,7 @@ use Rattle.tcp_segment.specs.Sent.{sent_segment}
 use Rattle.udp.specs.declared.cutting.Part.{Part}
 use Rattle.udp.specs.Datagram.{UserDatagram}
 use Rattle.udp_socket.specs.Emission.{fragment_of, octets_of, datagram_of}
-use Rattle.udp_socket.specs.SocketView.{Outgoing, SocketView}
+use Rattle.udp_socket.specs.SocketView.{Outgoing as OutDatagram, SocketView}
 use Rattle.routes.specs.declared.route.Hop.{Hop}
 use Rattle.routes.specs.declared.route.Hop.TheVariants.{Direct, Gateway}
 use Rattle.routes.specs.declared.route.Route.{Route}
@@ -36,7 +36,9 @@ use Rattle.interface.specs.InterfaceView.{InterfaceView}
 use Rattle.interface.specs.Replies.{way_of}
 use Rattle.sockets.specs.declared.role.Role.{Role}
 use Rattle.sockets.specs.declared.role.Role.TheVariants.{Idle, Listener, Connected, Datagrams}
-use Rattle.sockets.specs.Entries.{sends, source_of}
+use Rattle.sockets.specs.declared.emission.Outgoing.{Outgoing}
+use Rattle.sockets.specs.Emission.{next_out}
+use Rattle.sockets.specs.Entries.{source_of, with_first}
 use Rattle.sockets.specs.SocketsView.{later_moment}
 use Rattle.host.specs.Carried.{Carried, due_segment}
 use Rattle.host.specs.Emission.{Emission, Replies, Sends, Asks, Nothing, emission, goes_out_from}
@@ -97,23 +99,24 @@ waiting_sent i moment (Some waiting) = reply_sent_by i waiting.reply (way_of i m
 abbrev pub outgoing_said : InterfaceView → Mac → Addr → Endpoint → SocketView → Option Meaning
 outgoing_said i mac to source s = of_outbox s.outbox
   where
-    of_outbox : List Outgoing → Option Meaning
+    of_outbox : List OutDatagram → Option Meaning
     of_outbox [] = None
     of_outbox (o ∷ rest) =
         let part : Part = record { identification = o.identification; fragment = fragment_of o s.parts } in
         Some (part_said (part_datagram (head_to i mac to) part (octets_of source o s.parts)) (datagram_of source o))
 
--- what an entry has due: the first segment of a connection, or that part
-abbrev pub due_said : HostView → Mac → Addr → Role → Option Meaning
-due_said h mac to (Connected c listener) = option_map (segment_said h.interface) (due_segment (Connected c listener))
-due_said h mac to (Datagrams bound socket) = outgoing_said h.interface mac to (source_of h.sockets.addr bound) socket
-due_said h mac to (Listener local backlog) = None
-due_said h mac to (Idle buffers bound) = None
+-- what an entry says where this of it goes out: the first segment of a connection, or the part that is due of the datagram in this place
+abbrev pub due_said : HostView → Mac → Addr → Outgoing → Role → Option Meaning
+due_said h mac to what (Connected c listener) = option_map (segment_said h.interface) (due_segment (Connected c listener))
+due_said h mac to what (Datagrams bound socket) = outgoing_said h.interface mac to (source_of h.sockets.addr bound) (with_first what socket)
+due_said h mac to what (Listener local backlog) = None
+due_said h mac to what (Idle buffers bound) = None
 
 -- what goes out of a host, at the later of a moment and the kept one
 abbrev pub sent_by : HostView → Moment → Emission → Option Sent
 sent_by h moment (Replies place) = waiting_sent h.interface moment (slice_get h.interface.replies place)
-sent_by h moment (Sends mac to) = option_map (datagram_sent h.interface mac to) (option_and_then (λ e. due_said h mac to e.role) (find (sends (goes_out_from h moment)) h.sockets.entries))
+sent_by h moment (Sends mac to) =
+    option_map (datagram_sent h.interface mac to) (option_and_then (λ next. due_said h mac to next.what next.entry.role) (next_out h.sockets (goes_out_from h moment)))
 sent_by h moment (Asks hop) = Some (request_sent h.interface hop)
 sent_by h moment Nothing = None
 

@@ -12,7 +12,7 @@ use Rattle.tcp_state.specs.declared.emission.Due.{Due}
 use Rattle.tcp_state.specs.View.{View}
 use Rattle.tcp_state.specs.Due.{first_due, flags_of, head_of, octets_of, segment_octets as connection_octets}
 use Rattle.tcp_state.proofs.GoesOut.{due-may}
-use Rattle.udp.specs.declared.cutting.Part.{Part}
+use Rattle.udp_socket.specs.Emission.{due_octets}
 use Rattle.udp_socket.specs.SocketView.{SocketView}
 use Rattle.frames.specs.declared.meaning.ReceivedSegment.{ReceivedSegment}
 use Rattle.frames.specs.declared.meaning.Meaning.TheVariants.{Tcp}
@@ -29,13 +29,14 @@ use Rattle.interface.specs.Emission.{segment_frame_to, part_frame_to, request_fr
 use Rattle.interface.specs.Replies.{way_of}
 use Rattle.interface.specs.Ways.{way}
 use Rattle.interface.specs.Sound.{IsSound, IsSoundReply}
-use Rattle.sockets.specs.declared.emission.Emitted.TheVariants.{Datagram}
+use Rattle.sockets.specs.declared.emission.Outgoing.{Outgoing}
 use Rattle.sockets.specs.declared.entry.SocketId.{SocketId}
 use Rattle.sockets.specs.declared.entry.Entry.{Entry}
 use Rattle.sockets.specs.declared.role.Role.TheVariants.{Connected, Datagrams}
-use Rattle.sockets.specs.Entries.{sends, due_emitted, with_role, role_after_emission, emission_fate_of, entries_after_step}
+use Rattle.sockets.specs.Entries.{sends, due_to, source_of, with_first, with_role, role_after_emission, emission_fate_of, entries_after_step}
 use Rattle.sockets.specs.Emission.{emitted, emitted_octets, after_segment_sent}
 use Rattle.sockets.specs.Lists.{change_first}
+use Rattle.sockets.proofs.Emitting.{segment_sent-found}
 use Rattle.sockets.specs.SocketsView.{SocketsView, later_moment}
 use Rattle.sockets.specs.Sound.{IsSoundConnection, IsSoundRole}
 use Rattle.host.specs.HostView.{HostView}
@@ -56,7 +57,7 @@ use Rattle.wire_sim.proofs.emission.SegmentsGoOut.{Emits}
 use Rattle.wire_sim.proofs.pairing.EmissionIsMove.{emission_of, bag_after, among-new, GoesReset, GoesOn, projects-emitted}
 use Rattle.wire_sim.proofs.pairing.WorldAsPairings.{Sent, Bag, Projects}
 use Rattle.wire_sim.proofs.pairing.CallsAreMoves.{projects-quiet_at}
-use Rattle.wire_sim.proofs.carried.TableSends.{OfConnection, OfSocket, sends-for, segment-framed, part-framed, part-unheard}
+use Rattle.wire_sim.proofs.carried.TableSends.{IsNext, IsDatagramDue, OfConnection, OfSocket, sends-for, segment-framed, part-framed, part-unheard}
 use Rattle.wire_sim.proofs.carried.FramesCarry.{IsTallied, at_side-noted, IsSent, Carries, Carried, carried-more}
 use Rattle.wire_sim.proofs.tables.TableById.{entry_with, IsOpened, found-role}
 
@@ -146,33 +147,34 @@ carries-reply n dst hs ts out f i moment place sound octets note = by_place (sli
 
 -- A connection's segment.
 
-segment-sent : (limit : ℕ) (hs ts : Side) (a b : Addr) (h : HostView) (other : SocketsView) (n : NetworkView) (bag : Bag) (trace : List Happening) (f : Frame) (moment : Moment) (mac : Mac) (to : Addr) (e : Entry) (c : View) (l : Option SocketId) (due : Due)
-    → find (sends (goes_out_from h moment)) h.sockets.entries ≡ Some e → e.role ≡ Connected c l → first_due c ≡ Some due → to ≡ c.peer.addr → way h.interface moment to ≡ To mac
+segment-sent : (limit : ℕ) (hs ts : Side) (a b : Addr) (h : HostView) (other : SocketsView) (n : NetworkView) (bag : Bag) (trace : List Happening) (f : Frame) (moment : Moment) (mac : Mac) (to : Addr) (e : Entry) (what : Endpoint × Outgoing) (c : View) (l : Option SocketId) (due : Due)
+    → IsNext h.sockets (goes_out_from h moment) e what → e.role ≡ Connected c l → first_due c ≡ Some due → to ≡ c.peer.addr → way h.interface moment to ≡ To mac
     → IsTallied n trace → IsSoundHost h → f.sender ≡ hs → f.octets.items ≡ emitted_frame h.interface mac to (emitted h.sockets (goes_out_from h moment)) (emitted_octets h.sockets (goes_out_from h moment))
     → f.note ≡ option_map (note_of n) (pair_in f.octets.items) → Projects limit hs ts a b h.sockets other bag n.openings trace → AllByRecursion (Carried hs ts a b bag) n.frames
     → WentOut limit hs ts a b (after_segment_sent h.sockets (goes_out_from h moment) moment) other (n.frames ++ f ∷ []) n.openings trace
-segment-sent limit hs ts a b h other n bag trace f moment mac to e c l due found is_role first is_to leads tallied sound sender octets note p carried =
+segment-sent limit hs ts a b h other n bag trace f moment mac to e what c l due chosen is_role first is_to leads tallied sound sender octets note p carried =
     let own = h.sockets in
     let goes = goes_out_from h moment in
     let test = sends goes in
+    let found = chosen.found in
     let emits : Emits own.entries test e c l due = record { found = found; role = is_role; first = first } in
     let solid : IsSoundConnection c = subst IsSoundRole is_role (All-find (λ (e : Entry). IsSoundRole e.role) test own.entries e sound.table.entries found) in
     let may = due-may c due solid.sound first in
     let now = later_moment own moment in
-    let next : SocketsView = record own { entries = entries_after_step (emission_fate_of (role_after_emission now e.role)) test (role_after_emission now) own.entries } in
-    let becomes : after_segment_sent own goes moment ≡ next = rw found in
+    let next : SocketsView = record own { entries = entries_after_step (emission_fate_of (role_after_emission now what.1 e.role)) test (role_after_emission now what.1) own.entries } in
+    let becomes : after_segment_sent own goes moment ≡ next = segment_sent-found own goes moment e what found chosen.is in
     let role = found-role test own.entries (record { id = e.id; role = Connected c l }) p.own_table.sole (found ∙ ap Some (entry_with e (Connected c l) is_role)) in
     let opened : IsOpened hs a n.openings e.id c = p.own_table.noted e.id (Connected c l) role in
     let source : h.interface.addr ≡ c.local.addr = sound.own ∙ (p.own_addr ∙ sym opened.local) in
     let frame : f.octets.items ≡ segment_frame_to h.interface mac c.peer.addr (sent_octets h.interface.addr c.peer.addr (head_of c due) (octets_of c due)) =
-    octets ∙ (segment-framed h.interface mac to own goes e c l due found is_role first ∙ (ap (λ t. segment_frame_to h.interface mac t (connection_octets c due)) is_to
+    octets ∙ (segment-framed h.interface mac to own goes e what c l due chosen is_role first ∙ (ap (λ t. segment_frame_to h.interface mac t (connection_octets c due)) is_to
     ∙ ap (λ x. segment_frame_to h.interface mac c.peer.addr (sent_octets x c.peer.addr (head_of c due) (octets_of c due))) (sym source))) in
     let can : CanBeSent h.interface.addr c.peer.addr (head_of c due) (octets_of c due) = subst (λ x. CanBeSent x c.peer.addr (head_of c due) (octets_of c due)) (sym source) (due-can c due solid may) in
     let hears : (m : Mac) (r : ReceivedSegment) → heard m b (segment_frame_to h.interface mac c.peer.addr (sent_octets h.interface.addr c.peer.addr (head_of c due) (octets_of c due))) ≡ Ok (Tcp r)
     → (b ≡ c.peer.addr) × (r ≡ record { source = h.interface.addr; segment = sent_segment (head_of c due) (octets_of c due) }) =
     λ m r e. heard-segment h.interface mac c.peer.addr (head_of c due) (octets_of c due) m b r can (way-mac h.interface moment to mac sound.interface leads) sound.interface.mac (due-fits c due may) e in
     subst (λ w. WentOut limit hs ts a b w other (n.frames ++ f ∷ []) n.openings trace) (sym becomes)
-    (elim (projects-emitted limit hs ts a b own other bag n.openings trace now test e c l due emits sound.table p) [
+    (elim (projects-emitted limit hs ts a b own other bag n.openings trace now what.1 test e c l due emits sound.table p) [
       | GoesReset is_reset q ↦
           went-aside limit hs ts a b next other bag n.frames n.openings trace f sender q carried
           (carries-reset n b hs ts bag.out f (segment_frame_to h.interface mac c.peer.addr (sent_octets h.interface.addr c.peer.addr (head_of c due) (octets_of c due))) h.interface.addr c.peer.addr (head_of c due) frame note
@@ -194,26 +196,27 @@ segment-sent limit hs ts a b h other n bag trace f moment mac to e c l due found
 
 -- A part of a UDP socket's datagram: it moves no connection, and nobody hears a segment in its frame.
 
-part-sent : (limit : ℕ) (hs ts : Side) (a b : Addr) (h : HostView) (other : SocketsView) (n : NetworkView) (bag : Bag) (trace : List Happening) (f : Frame) (moment : Moment) (mac : Mac) (to : Addr) (e : Entry) (bound : Option Endpoint) (socket : SocketView) (part : Part)
-    → find (sends (goes_out_from h moment)) h.sockets.entries ≡ Some e → e.role ≡ Datagrams bound socket → due_emitted e.role ≡ Some (Datagram part) → way h.interface moment to ≡ To mac
+part-sent : (limit : ℕ) (hs ts : Side) (a b : Addr) (h : HostView) (other : SocketsView) (n : NetworkView) (bag : Bag) (trace : List Happening) (f : Frame) (moment : Moment) (mac : Mac) (to : Addr) (e : Entry) (what : Endpoint × Outgoing) (bound : Option Endpoint) (socket : SocketView)
+    → IsNext h.sockets (goes_out_from h moment) e what → e.role ≡ Datagrams bound socket → IsDatagramDue socket what → way h.interface moment to ≡ To mac
     → IsSoundHost h → f.sender ≡ hs → f.octets.items ≡ emitted_frame h.interface mac to (emitted h.sockets (goes_out_from h moment)) (emitted_octets h.sockets (goes_out_from h moment))
     → Projects limit hs ts a b h.sockets other bag n.openings trace → AllByRecursion (Carried hs ts a b bag) n.frames
     → WentOut limit hs ts a b (after_segment_sent h.sockets (goes_out_from h moment) moment) other (n.frames ++ f ∷ []) n.openings trace
-part-sent limit hs ts a b h other n bag trace f moment mac to e bound socket part found role due leads sound sender octets p carried =
+part-sent limit hs ts a b h other n bag trace f moment mac to e what bound socket chosen role due leads sound sender octets p carried =
     let own = h.sockets in
     let goes = goes_out_from h moment in
     let test = sends goes in
     let now = later_moment own moment in
     let x : Entry = record { id = e.id; role = Datagrams bound socket } in
-    let at : find test own.entries ≡ Some x = found ∙ ap Some (entry_with e (Datagrams bound socket) role) in
-    let next : SocketsView = record own { entries = change_first test (with_role (role_after_emission now)) own.entries } in
-    let becomes : after_segment_sent own goes moment ≡ next = rw at in
+    let at : find test own.entries ≡ Some x = chosen.found ∙ ap Some (entry_with e (Datagrams bound socket) role) in
+    let next : SocketsView = record own { entries = change_first test (with_role (role_after_emission now what.1)) own.entries } in
+    let becomes : after_segment_sent own goes moment ≡ next = segment_sent-found own goes moment x what at (ap (due_to goes) (sym role) ∙ chosen.is) in
+    let parts : List ℕ = due_octets (source_of own.addr bound) (with_first what.1 socket) in
     let whole = way-mac h.interface moment to mac sound.interface leads in
     subst (λ w. WentOut limit hs ts a b w other (n.frames ++ f ∷ []) n.openings trace) (sym becomes)
     (went-aside limit hs ts a b next other bag n.frames n.openings trace f sender
-    (projects-quiet_at limit hs ts a b own other bag n.openings trace test (role_after_emission now) x at refl (λ noted. noted) p) carried
-    (carries-none b hs ts bag.out f (part_frame_to h.interface mac to part (emitted_octets own goes)) (octets ∙ part-framed h.interface mac to own goes e part found due)
-    (λ m r e. part-unheard h.interface mac to part (emitted_octets own goes) m b r whole sound.interface.mac e)))
+    (projects-quiet_at limit hs ts a b own other bag n.openings trace test (role_after_emission now what.1) x at refl (λ noted. noted) p) carried
+    (carries-none b hs ts bag.out f (part_frame_to h.interface mac to due.part parts) (octets ∙ part-framed h.interface mac to own goes e what bound socket due chosen role)
+    (λ m r e. part-unheard h.interface mac to due.part parts m b r whole sound.interface.mac e)))
 
 -- Whatever the table sends.
 frame-sent : (limit : ℕ) (hs ts : Side) (a b : Addr) (h : HostView) (other : SocketsView) (n : NetworkView) (bag : Bag) (trace : List Happening) (f : Frame) (moment : Moment) (mac : Mac) (to : Addr)
@@ -222,8 +225,8 @@ frame-sent : (limit : ℕ) (hs ts : Side) (a b : Addr) (h : HostView) (other : S
     → WentOut limit hs ts a b (after_segment_sent h.sockets (goes_out_from h moment) moment) other (n.frames ++ f ∷ []) n.openings trace
 frame-sent limit hs ts a b h other n bag trace f moment mac to tallied sound is sender octets note p carried =
     elim (sends-for h moment mac to is) [
-      | OfConnection e c l due found role first is_to leads ↦ segment-sent limit hs ts a b h other n bag trace f moment mac to e c l due found role first is_to leads tallied sound sender octets note p carried
-      | OfSocket e bound socket part found role due leads ↦ part-sent limit hs ts a b h other n bag trace f moment mac to e bound socket part found role due leads sound sender octets p carried
+      | OfConnection e what c l due chosen role first is_to leads ↦ segment-sent limit hs ts a b h other n bag trace f moment mac to e what c l due chosen role first is_to leads tallied sound sender octets note p carried
+      | OfSocket e what bound socket chosen role due is_to leads ↦ part-sent limit hs ts a b h other n bag trace f moment mac to e what bound socket chosen role due leads sound sender octets p carried
     ]
 
 -- Whatever goes out.

@@ -11,9 +11,10 @@ use Rattle.udp.specs.Datagram.{spelling}
 use Rattle.udp.specs.Fragments.{fragment, count_of, part_of}
 use Rattle.udp.specs.declared.cutting.Part.{Part}
 use Rattle.udp.proofs.Answering.{sent_len}
-use Rattle.udp_socket.specs.Emission.{due_octets, due_part, due_peer, fragment_of, octets_of, head_of, datagram_of}
+use Rattle.udp_socket.specs.Emission.{brought, peer_at, due_octets, due_part, due_peer, fragment_of, octets_of, head_of, datagram_of}
 use Rattle.udp_socket.specs.SocketView.{Outgoing, SocketView}
 use Rattle.udp_socket.proofs.Due.{placed}
+use Rattle.udp_socket.proofs.Places.{due_brought}
 use Rattle.frames.specs.declared.meaning.ReceivedDatagram.{ReceivedDatagram}
 use Rattle.frames.specs.declared.meaning.Meaning.TheVariants.{Udp, UdpFragment}
 use Rattle.frames.specs.Meaning.{heard}
@@ -24,7 +25,7 @@ use Rattle.interface.specs.Emission.{head_to, part_frame_to}
 use Rattle.datagram_law.specs.Accepted.{Accepted, AreInTurn, IsInWidths}
 use Rattle.datagram_law.specs.Carried.{Carries, IsOfOne, accepted_of}
 use Rattle.datagram_law.specs.Sockets.{IsSocketOf}
-use Rattle.datagram_law.proofs.Keeping.{due_is_of_one}
+use Rattle.datagram_law.proofs.Keeping.{due_is_of_one, is_brought}
 use Rattle.datagram_law.proofs.Reading.{widths_of}
 use Rattle.std.proofs.lemmas.List.Elements.{All-head}
 
@@ -83,13 +84,13 @@ due-part own other local peer s part turn h for is = of_outbox s.outbox s refl h
         )
 
 -- and its frame carries it
-pub part-kept : (own other : List Accepted) (i : InterfaceView) (theirs : Mac) (local peer : Endpoint) (s : SocketView) (part : Part) → AreInTurn own → IsSocketOf own other local s → due_peer s.outbox ≡ Some peer → due_part s ≡ Some part
-    → local.addr ≡ i.addr → length i.addr.0 ≡ 4 → length theirs.0 ≡ 6 → length i.mac.0 ≡ 6 → KeepsTo own (part_frame_to i theirs peer.addr part (due_octets local s))
+pub part-kept : (own other : List Accepted) (i : InterfaceView) (theirs : Mac) (local peer : Endpoint) (s : SocketView) (place : ℕ) (part : Part) → AreInTurn own → IsSocketOf own other local s → peer_at place s.outbox ≡ Some peer
+    → due_part (brought place s) ≡ Some part → local.addr ≡ i.addr → length i.addr.0 ≡ 4 → length theirs.0 ≡ 6 → length i.mac.0 ≡ 6 → KeepsTo own (part_frame_to i theirs peer.addr part (due_octets local (brought place s)))
 unfolding part_frame_to
-part-kept own other i theirs local peer s part turn h for is ours from whole mine =
-    let octets = due_octets local s in
+part-kept own other i theirs local peer s place part turn h for is ours from whole mine =
+    let octets = due_octets local (brought place s) in
     let head = head_to i theirs peer.addr in
-    let both = due-part own other local peer s part turn h for is in
+    let both = due-part own other local peer (brought place s) part turn (is_brought own other local s place h) (due_brought s place peer for) is in
     let carries : Carries local.addr peer.addr part octets (part_datagram head part octets) = record {
       source = sym ours;
       destination = refl;
@@ -99,7 +100,7 @@ part-kept own other i theirs local peer s part turn h for is ours from whole min
       offset = refl;
       payload = refl;
     } in
-    let of : IsOfOne own (part_datagram head part octets) = due_is_of_one own other local peer s part (part_datagram head part octets) h for is carries in
+    let of : IsOfOne own (part_datagram head part octets) = due_is_of_one own other local peer s place part (part_datagram head part octets) h for is carries in
     record {
       whole = λ mac addr r e.
           let told = parts_as_sent head part octets mac addr r both.0 from both.1 whole mine e in

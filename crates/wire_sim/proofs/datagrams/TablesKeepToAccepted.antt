@@ -1,19 +1,20 @@
 -- What two hosts accepted from their callers, and the table of one of them: each UDP socket in it keeps to that, whatever is done to its role.
-use Rattle.std.proofs.Common.{◌≡◌, ℕ, ◌<◌, ◌^◌, ◌%◌, Bool, true, false, cond, List, [], ◌∷◌, ◌++◌, length, Some, None, ap}
+use Rattle.std.proofs.Common.{◌≡◌, ℕ, zero, suc, ◌<◌, ◌^◌, ◌%◌, Bool, true, false, cond, List, [], ◌∷◌, ◌++◌, length, Some, None, refl, ◌∙◌, ap}
 use Rattle.std.specs.List.{AllByRecursion}
 use Rattle.clock.specs.declared.moment.Moment.{Moment}
 use Rattle.ipv4.specs.declared.addr.Addr.{Addr}
 use Rattle.ipv4.specs.declared.addr.Endpoint.{Endpoint}
 use Rattle.tcp_state.specs.View.{View}
-use Rattle.udp_socket.specs.SocketView.{new_socket, after_read}
-use Rattle.udp_socket.specs.Emission.{after_part}
+use Rattle.udp_socket.specs.SocketView.{SocketView, new_socket, after_read}
+use Rattle.udp_socket.specs.Emission.{after_part, brought}
 use Rattle.udp_socket.specs.Waits.{after_giving_up as given_up}
+use Rattle.sockets.specs.declared.emission.Outgoing.{Outgoing}
 use Rattle.sockets.specs.declared.entry.Entry.{Entry}
 use Rattle.sockets.specs.declared.entry.SocketId.{SocketId}
 use Rattle.sockets.specs.declared.role.Role.{Role}
 use Rattle.sockets.specs.declared.role.Role.TheVariants.{Idle, Listener, Connected, Datagrams}
 use Rattle.tcp_state.specs.declared.connection.Fate.{Fate}
-use Rattle.sockets.specs.Entries.{on_connection, waits_at, is_kept, with_role, role_after_abort, role_after_listen, role_after_connect, role_after_accept, role_after_listener_close, role_after_emission, role_after_recvfrom, entries_after_step, entries_after_steps}
+use Rattle.sockets.specs.Entries.{on_connection, waits_at, is_kept, with_role, role_after_abort, role_after_listen, role_after_connect, role_after_accept, role_after_listener_close, place_of, with_first, role_after_emission, role_after_recvfrom, entries_after_step, entries_after_steps}
 use Rattle.sockets.specs.Lists.{change_first, remove_first}
 use Rattle.sockets.specs.Lost.{role_after_giving_up}
 use Rattle.sockets.specs.SocketsView.{SocketsView}
@@ -81,12 +82,17 @@ keeps-forsaking now id own other addr r h = by_waiting (waits_at id r)
     by_waiting false = h
     by_waiting true = keeps-connection _ own other addr r h
 
-pub keeps-emitting : (now : Moment) → Keeps (role_after_emission now)
-keeps-emitting now own other addr (Connected c l) h = tt
-keeps-emitting now own other addr (Listener local b) h = tt
-keeps-emitting now own other addr (Idle buffers bound) h = tt
-keeps-emitting now own other addr (Datagrams (Some local) s) h = (h.0, emits own other (record { addr = addr; port = local.port }) s h.1)
-keeps-emitting now own other addr (Datagrams None s) h = ap after_part h
+-- nothing waits in a new one, in any place
+new-still : (place : ℕ) → after_part (brought place new_socket) ≡ new_socket
+new-still zero = refl
+new-still (suc place) = refl
+
+pub keeps-emitting : (now : Moment) (what : Outgoing) → Keeps (role_after_emission now what)
+keeps-emitting now what own other addr (Connected c l) h = tt
+keeps-emitting now what own other addr (Listener local b) h = tt
+keeps-emitting now what own other addr (Idle buffers bound) h = tt
+keeps-emitting now what own other addr (Datagrams (Some local) s) h = (h.0, emits own other (record { addr = addr; port = local.port }) s (place_of what) h.1)
+keeps-emitting now what own other addr (Datagrams None s) h = ap (λ (x : SocketView). after_part (with_first what x)) h ∙ new-still (place_of what)
 
 pub keeps-giving_up : (lost : Addr → Bool) (now : Moment) → Keeps (role_after_giving_up lost now)
 keeps-giving_up lost now own other addr (Connected c l) h = tt

@@ -13,7 +13,7 @@ use Rattle.udp.specs.Datagram.{UserDatagram}
 use Rattle.udp.specs.Waiting.{Waiting}
 use Rattle.udp.specs.declared.cutting.Part.{Part}
 use Rattle.udp_socket.specs.declared.socket.TheConstants.{MOST_OCTETS}
-use Rattle.udp_socket.specs.Emission.{due_octets, due_part, due_peer}
+use Rattle.udp_socket.specs.Emission.{brought, due_octets, due_part, peer_at}
 use Rattle.udp_socket.specs.SocketView.{SocketView, new_socket, with_sent}
 use Rattle.sockets.specs.declared.datagrams.Reception.{Reception}
 use Rattle.sockets.specs.declared.datagrams.Reception.TheVariants.{Queued, NoRoom, NoSocket}
@@ -49,15 +49,15 @@ found-of own other h test e r at is t =
 
 -- What is due at a UDP socket was accepted; where it isn't bound nothing is due.
 
-pub due-of_one : (own other : List Accepted) (h : SocketsView) (goes : Entry → Bool) (e : Entry) (bound : Option Endpoint) (s : SocketView) (peer : Endpoint) (part : Part) (d : Datagram)
-    → find (sends goes) h.entries ≡ Some e → e.role ≡ Datagrams bound s → due_peer s.outbox ≡ Some peer → due_part s ≡ Some part
-    → Carries h.addr peer.addr part (due_octets (source_of h.addr bound) s) d → IsTableOf own other h → IsOfOne own d
-due-of_one own other h goes e (Some local) s peer part d at is for told carries t =
+pub due-of_one : (own other : List Accepted) (h : SocketsView) (goes : Addr → Bool) (e : Entry) (bound : Option Endpoint) (s : SocketView) (place : ℕ) (peer : Endpoint) (part : Part) (d : Datagram)
+    → find (sends goes) h.entries ≡ Some e → e.role ≡ Datagrams bound s → peer_at place s.outbox ≡ Some peer → due_part (brought place s) ≡ Some part
+    → Carries h.addr peer.addr part (due_octets (source_of h.addr bound) (brought place s)) d → IsTableOf own other h → IsOfOne own d
+due-of_one own other h goes e (Some local) s place peer part d at is for told carries t =
     let here = found-of own other h (sends goes) e (Datagrams (Some local) s) at is t in
-    due_is_of_one own other (record { addr = h.addr; port = local.port }) peer s part d here.1 for told carries
-due-of_one own other h goes e None s peer part d at is for told carries t =
+    due_is_of_one own other (record { addr = h.addr; port = local.port }) peer s place part d here.1 for told carries
+due-of_one own other h goes e None s place peer part d at is for told carries t =
     let here : s ≡ new_socket = found-of own other h (sends goes) e (Datagrams None s) at is t in
-    let none : None ≡ Some peer = sym (ap (λ (x : SocketView). due_peer x.outbox) here) ∙ for in cc
+    let none : None ≡ Some peer = sym (ap (λ (x : SocketView). peer_at place x.outbox) here) ∙ for in cc
 
 -- A datagram comes.
 

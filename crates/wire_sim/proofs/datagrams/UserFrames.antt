@@ -1,7 +1,7 @@
 -- A frame that goes out of a host whose table keeps to what the host accepted: whoever hears a UDP datagram or a fragment in it hears what is
 -- of one of these.
-use Rattle.std.proofs.Common.{◌≡◌, ℕ, List, [], ◌∷◌, length, Option, Some, None, Ok, refl, sym, ◌∙◌, ap, subst}
-use Rattle.std.specs.List.{find, position, slice_get}
+use Rattle.std.proofs.Common.{◌≡◌, ℕ, List, [], length, Option, Some, None, Ok, refl, sym, ◌∙◌, ap, subst}
+use Rattle.std.specs.List.{slice_get}
 use Rattle.ether.specs.declared.mac.Mac.{Mac}
 use Rattle.ipv4.specs.declared.addr.Addr.{Addr}
 use Rattle.ipv4.specs.declared.addr.Endpoint.{Endpoint}
@@ -11,9 +11,8 @@ use Rattle.arp.specs.Packet.{request_of}
 use Rattle.tcp_segment.specs.declared.head.Head.{Head}
 use Rattle.tcp_segment.specs.Sent.{sent_octets}
 use Rattle.tcp_state.specs.Due.{segment_octets}
-use Rattle.udp.specs.declared.cutting.Part.{Part}
-use Rattle.udp_socket.specs.Emission.{due_part, due_peer as first_peer, fragment_of, due_octets as socket_octets}
-use Rattle.udp_socket.specs.SocketView.{Outgoing, SocketView}
+use Rattle.udp_socket.specs.Emission.{peer_at, due_octets as socket_octets}
+use Rattle.udp_socket.specs.SocketView.{SocketView}
 use Rattle.frames.specs.declared.meaning.ReceivedDatagram.{ReceivedDatagram}
 use Rattle.frames.specs.declared.meaning.Meaning.TheVariants.{Udp, UdpFragment}
 use Rattle.frames.specs.Meaning.{heard}
@@ -25,23 +24,23 @@ use Rattle.interface.specs.declared.way.Way.{Way}
 use Rattle.interface.specs.declared.way.Way.TheVariants.{To, Ask, Waits}
 use Rattle.interface.specs.InterfaceView.{InterfaceView}
 use Rattle.interface.specs.Emission.{head_to, segment_frame_to, message_frame_to, part_frame_to, request_frame, reply_frame, frame_by, frame_of_one, frame_at}
-use Rattle.interface.specs.Replies.{is_due, way_of}
+use Rattle.interface.specs.Replies.{way_of}
 use Rattle.interface.specs.Ways.{way}
 use Rattle.interface.specs.Sound.{IsSound, IsSoundReply}
-use Rattle.sockets.specs.declared.emission.Emitted.TheVariants as out
+use Rattle.sockets.specs.declared.emission.Outgoing.{Outgoing}
 use Rattle.sockets.specs.declared.entry.Entry.{Entry}
 use Rattle.sockets.specs.declared.role.Role.TheVariants.{Datagrams}
 use Rattle.sockets.specs.Emission.{emitted, emitted_octets}
-use Rattle.sockets.specs.Entries.{sends, due_peer, due_emitted, due_octets}
+use Rattle.sockets.specs.Entries.{sends, place_of, source_of, with_first}
 use Rattle.sockets.specs.SocketsView.{later_moment}
 use Rattle.host.specs.HostView.{HostView}
 use Rattle.host.specs.Emission as host_emission
-use Rattle.host.specs.Emission.{Emission, Replies, Sends, Asks, Nothing, goes_out_from, emission, emission_at, emission_by, emission_from, emission_to, emitted_frame, emission_octets}
+use Rattle.host.specs.Emission.{Emission, Replies, Sends, Asks, Nothing, goes_out_from, emission, emitted_frame, emission_octets}
 use Rattle.host.specs.Sound.{IsSoundHost}
 use Rattle.host.proofs.Hearing.{way-mac}
 use Rattle.datagram_law.specs.Accepted.{Accepted}
 use Rattle.wire_sim.proofs.lists.FoundAfterChange.{All-find, All-at}
-use Rattle.wire_sim.proofs.carried.TableSends.{OfConnection, OfSocket, sends-for, segment-framed, part-framed}
+use Rattle.wire_sim.proofs.carried.TableSends.{IsNext, IsDatagramDue, OfConnection, OfSocket, sends-for, segment-framed, part-framed}
 use Rattle.wire_sim.proofs.datagrams.PartsGoOut.{KeepsTo, part-kept}
 use Rattle.wire_sim.proofs.datagrams.TablesKeepToAccepted.{IsEntryOf, IsTableOf}
 
@@ -93,77 +92,35 @@ keeps-reply own i moment place sound = by_place (slice_get i.replies place) refl
     by_place None at = keeps-nothing own
     by_place (Some waiting) at = by_way waiting.reply (All-at (λ (w : Waiting). IsSoundReply i.addr w.reply) i.replies place waiting sound.replies at) (way_of i moment waiting.reply) refl
 
--- What a table sends goes out for the peer of what is due.
-pub sends-to : (h : HostView) (moment : Moment) (mac : Mac) (to : Addr) (e : Entry) (peer : Endpoint) → emission h moment ≡ Sends mac to → find (sends (goes_out_from h moment)) h.sockets.entries ≡ Some e → due_peer e.role ≡ Some peer → to ≡ peer.addr
-sends-to h moment mac to e peer is found due = by_place (position (is_due h.interface moment) h.interface.replies) is
-  where
-    by_way : (w : Way) → emission_by peer.addr w ≡ Sends mac to → to ≡ peer.addr
-    by_way (To theirs) same = cc
-    by_way (Ask hop) same = cc
-    by_way Waits same = cc
-
-    by_place : (o : Option ℕ) → emission_at h moment o ≡ Sends mac to → to ≡ peer.addr
-    by_place (Some place) same = cc
-    by_place None same = by_way (way h.interface moment peer.addr) (ap (emission_to h moment) (sym due) ∙ (ap (emission_from h moment) (sym found) ∙ same))
-
--- What is due at a UDP socket, and for whom.
-pub record IsDue (socket : SocketView) (part : Part) : Type 0 where
-  pub peer : Endpoint
-  pub to : first_peer socket.outbox ≡ Some peer
-  pub told : due_part socket ≡ Some part
-
-pub what-is-due : (bound : Option Endpoint) (socket : SocketView) (part : Part) → due_emitted (Datagrams bound socket) ≡ Some (out.Datagram part) → IsDue socket part
-what-is-due bound socket part due = by_outbox socket.outbox refl
-  where
-    by_outbox : (outbox : List Outgoing) → socket.outbox ≡ outbox → IsDue socket part
-    by_outbox [] is =
-        let none : due_emitted (Datagrams bound socket) ≡ None = rw is in
-        let bad : None ≡ Some (out.Datagram part) = sym none ∙ due in cc
-    by_outbox (o ∷ rest) is =
-        let p : Part = record { identification = o.identification; fragment = fragment_of o socket.parts } in
-        let told : due_part socket ≡ Some p = rw is in
-        let first : first_peer socket.outbox ≡ Some o.peer = rw is in
-        let some : due_emitted (Datagrams bound socket) ≡ Some (out.Datagram p) = rw is in
-        let same : Some (out.Datagram p) ≡ Some (out.Datagram part) = sym some ∙ due in
-        let one : p ≡ part = cc in
-        record { peer = o.peer; to = first; told = told ∙ ap Some one }
-
 -- a part of a datagram
-keeps-part : (own other : List Accepted) (h : HostView) (moment : Moment) (mac : Mac) (to : Addr) (e : Entry) (bound : Option Endpoint) (socket : SocketView) (part : Part) → emission h moment ≡ Sends mac to
-    → find (sends (goes_out_from h moment)) h.sockets.entries ≡ Some e → e.role ≡ Datagrams bound socket → due_emitted e.role ≡ Some (out.Datagram part) → way h.interface moment to ≡ To mac
+keeps-part : (own other : List Accepted) (h : HostView) (moment : Moment) (mac : Mac) (to : Addr) (e : Entry) (what : Endpoint × Outgoing) (bound : Option Endpoint) (socket : SocketView)
+    → IsNext h.sockets (goes_out_from h moment) e what → e.role ≡ Datagrams bound socket → IsDatagramDue socket what → to ≡ what.0.addr → way h.interface moment to ≡ To mac
     → IsSoundHost h → IsTableOf own other h.sockets → KeepsTo own (emitted_frame h.interface mac to (emitted h.sockets (goes_out_from h moment)) (emitted_octets h.sockets (goes_out_from h moment)))
-keeps-part own other h moment mac to e bound socket part is found role due leads sound keeps =
+keeps-part own other h moment mac to e what bound socket next role due for leads sound keeps =
     let table = h.sockets in
     let goes = goes_out_from h moment in
-    let entry : IsEntryOf own other table.addr (Datagrams bound socket) = subst (IsEntryOf own other table.addr) role (All-find (λ (e : Entry). IsEntryOf own other table.addr e.role) (sends goes) table.entries e keeps.sockets found) in
-    let what : IsDue socket part = what-is-due bound socket part (ap due_emitted (sym role) ∙ due) in
-    let told : due_peer e.role ≡ Some what.peer = ap due_peer role ∙ what.to in
-    let for : to ≡ what.peer.addr = sends-to h moment mac to e what.peer is found told in
-    let octets : emitted_octets table goes ≡ due_octets table.addr e.role = rw found in
-    let whole = way-mac h.interface moment to mac sound.interface leads in
-    subst (KeepsTo own) (sym (part-framed h.interface mac to table goes e part found due))
-    (by_bound bound refl entry what (octets ∙ ap (due_octets table.addr) role) for whole)
+    let entry : IsEntryOf own other table.addr (Datagrams bound socket) = subst (IsEntryOf own other table.addr) role (All-find (λ (e : Entry). IsEntryOf own other table.addr e.role) (sends goes) table.entries e keeps.sockets next.found) in
+    subst (KeepsTo own) (sym (part-framed h.interface mac to table goes e what bound socket due next role))
+    (by_bound bound entry (way-mac h.interface moment to mac sound.interface leads))
   where
-    by_bound : (b : Option Endpoint) → bound ≡ b → IsEntryOf own other h.sockets.addr (Datagrams b socket) → (what : IsDue socket part) → emitted_octets h.sockets (goes_out_from h moment) ≡ due_octets h.sockets.addr (Datagrams bound socket)
-        → to ≡ what.peer.addr → length mac.0 ≡ 6 → KeepsTo own (part_frame_to h.interface mac to part (emitted_octets h.sockets (goes_out_from h moment)))
-    by_bound None b fresh what octets for whole =
-        let bad : None ≡ Some what.peer = ap (λ (s : SocketView). first_peer s.outbox) (sym fresh) ∙ what.to in cc
-    by_bound (Some local) b entry what octets for whole =
+    by_bound : (b : Option Endpoint) → IsEntryOf own other h.sockets.addr (Datagrams b socket) → length mac.0 ≡ 6
+        → KeepsTo own (part_frame_to h.interface mac to due.part (socket_octets (source_of h.sockets.addr b) (with_first what.1 socket)))
+    by_bound None fresh whole =
+        let bad : None ≡ Some what.0 = ap (λ (s : SocketView). peer_at (place_of what.1) s.outbox) (sym fresh) ∙ due.peer in cc
+    by_bound (Some local) entry whole =
         let end : Endpoint = record { addr = h.sockets.addr; port = local.port } in
-        let shown : emitted_octets h.sockets (goes_out_from h moment) ≡ socket_octets end socket = octets ∙ ap (λ (x : Option Endpoint). due_octets h.sockets.addr (Datagrams x socket)) b in
-        subst (λ (x : List ℕ). KeepsTo own (part_frame_to h.interface mac to part x)) (sym shown)
-        (subst (λ (x : Addr). KeepsTo own (part_frame_to h.interface mac x part (socket_octets end socket))) (sym for)
-        (part-kept own other h.interface mac end what.peer socket part keeps.in_turn entry.1 what.to what.told (sym sound.own) sound.interface.addr whole sound.interface.mac))
+        subst (λ (x : Addr). KeepsTo own (part_frame_to h.interface mac x due.part (socket_octets end (with_first what.1 socket)))) (sym for)
+        (part-kept own other h.interface mac end what.0 socket (place_of what.1) due.part keeps.in_turn entry.1 due.peer due.told (sym sound.own) sound.interface.addr whole sound.interface.mac)
 
 -- Whatever the table sends.
 keeps-sent : (own other : List Accepted) (h : HostView) (moment : Moment) (mac : Mac) (to : Addr) → emission h moment ≡ Sends mac to → IsSoundHost h → IsTableOf own other h.sockets
     → KeepsTo own (emitted_frame h.interface mac to (emitted h.sockets (goes_out_from h moment)) (emitted_octets h.sockets (goes_out_from h moment)))
 keeps-sent own other h moment mac to is sound keeps =
     elim (sends-for h moment mac to is) [
-      | OfConnection e c l due found role first is_to leads ↦
-          subst (KeepsTo own) (sym (segment-framed h.interface mac to h.sockets (goes_out_from h moment) e c l due found role first))
+      | OfConnection e what c l due next role first is_to leads ↦
+          subst (KeepsTo own) (sym (segment-framed h.interface mac to h.sockets (goes_out_from h moment) e what c l due next role first))
           (keeps-segment own h.interface mac to (segment_octets c due) (way-mac h.interface moment to mac sound.interface leads) sound.interface.mac)
-      | OfSocket e bound socket part found role due leads ↦ keeps-part own other h moment mac to e bound socket part is found role due leads sound keeps
+      | OfSocket e what bound socket next role due for leads ↦ keeps-part own other h moment mac to e what bound socket next role due for leads sound keeps
     ]
 
 -- Whatever goes out.

@@ -8,6 +8,7 @@ use Rattle.tcp_state.specs.declared.emission.Due.TheVariants.{Rst, Syn, Text, Pr
 use Rattle.clock.specs.declared.moment.Moment.{Moment}
 use Rattle.tcp_state.specs.View.{View}
 use Rattle.tcp_state.specs.Due.{MayGoOut, first_due, head_of, octets_of, flags_of, after_emitted}
+use Rattle.sockets.specs.declared.emission.Outgoing.{Outgoing}
 use Rattle.sockets.specs.declared.entry.SocketId.{SocketId}
 use Rattle.sockets.specs.declared.entry.Entry.{Entry}
 use Rattle.sockets.specs.declared.role.Role.TheVariants.{Connected}
@@ -49,6 +50,6 @@ pub record Emits (xs : List Entry) (goes : Entry → Bool) (e : Entry) (c : View
   pub first : first_due c ≡ Some due
 
 -- the emission makes of a connection what its segment makes of it
-pub emitted_at-connected : (now : Moment) (c : View) (listener : Option SocketId) (due : Due) → first_due c ≡ Some due
-    → role_after_emission now (Connected c listener) ≡ Connected (after_emitted c due now) listener
-emitted_at-connected now c listener due first = ap (λ (o : Option Due). Connected (after_first c o now) listener) first
+pub emitted_at-connected : (now : Moment) (what : Outgoing) (c : View) (listener : Option SocketId) (due : Due) → first_due c ≡ Some due
+    → role_after_emission now what (Connected c listener) ≡ Connected (after_emitted c due now) listener
+emitted_at-connected now what c listener due first = ap (λ (o : Option Due). Connected (after_first c o now) listener) first

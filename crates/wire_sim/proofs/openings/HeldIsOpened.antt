@@ -22,6 +22,7 @@ use Rattle.tcp_state.specs.Unreachable.{after_unreachable}
 use Rattle.tcp_state.specs.Hop.{after_hopless}
 use Rattle.udp.specs.Datagram.{UserDatagram}
 use Rattle.udp_socket.specs.SocketView.{SocketView}
+use Rattle.sockets.specs.declared.emission.Outgoing.{Outgoing}
 use Rattle.sockets.specs.declared.entry.SocketId.{SocketId}
 use Rattle.sockets.specs.declared.entry.Entry.{Entry}
 use Rattle.sockets.specs.declared.role.Role.{Role}
@@ -155,15 +156,15 @@ unheld_forsaken now id pair r out = either (waits_at id r)
     either true = unheld_aborted now pair r out
     either false = out
 
-pub unheld_emitted_at : (now : Moment) → KeepsUnheld (role_after_emission now)
-unheld_emitted_at now pair (Idle b bound) out = refl
-unheld_emitted_at now pair (Datagrams bound s) out = refl
-unheld_emitted_at now pair (Listener x y) out = refl
-unheld_emitted_at now pair (Connected c l) out = by_due (first_due c) refl
+pub unheld_emitted_at : (now : Moment) (what : Outgoing) → KeepsUnheld (role_after_emission now what)
+unheld_emitted_at now what pair (Idle b bound) out = refl
+unheld_emitted_at now what pair (Datagrams bound s) out = refl
+unheld_emitted_at now what pair (Listener x y) out = refl
+unheld_emitted_at now what pair (Connected c l) out = by_due (first_due c) refl
   where
-    by_due : (o : Option Due) → first_due c ≡ o → joins pair (role_after_emission now (Connected c l)) ≡ false
-    by_due None is = let same : role_after_emission now (Connected c l) ≡ Connected c l = rw is in ap (joins pair) same ∙ out
-    by_due (Some due) is = let same : role_after_emission now (Connected c l) ≡ Connected (after_emitted c due now) l = rw is in ap (joins pair) same ∙ unjoined pair c (after_emitted c due now) l l (keeps-first c (Some due) now) out
+    by_due : (o : Option Due) → first_due c ≡ o → joins pair (role_after_emission now what (Connected c l)) ≡ false
+    by_due None is = let same : role_after_emission now what (Connected c l) ≡ Connected c l = rw is in ap (joins pair) same ∙ out
+    by_due (Some due) is = let same : role_after_emission now what (Connected c l) ≡ Connected (after_emitted c due now) l = rw is in ap (joins pair) same ∙ unjoined pair c (after_emitted c due now) l l (keeps-first c (Some due) now) out
 
 -- what a UDP socket makes of itself
 pub unheld_datagrams : (bind : Option Endpoint → Option Endpoint) (change : SocketView → SocketView) → KeepsUnheld (on_datagrams bind change)

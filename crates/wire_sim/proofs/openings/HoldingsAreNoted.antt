@@ -10,6 +10,7 @@ use Rattle.tcp_segment.specs.Segment.{Segment}
 use Rattle.clock.specs.declared.moment.Moment.{Moment}
 use Rattle.tcp_state.specs.Arrival.{fate, opened_passively}
 use Rattle.udp_socket.specs.SocketView.{new_socket}
+use Rattle.sockets.specs.declared.emission.Outgoing.{Outgoing}
 use Rattle.sockets.specs.declared.entry.Kind.{Kind}
 use Rattle.sockets.specs.declared.entry.Kind.TheVariants.{Tcp, Udp}
 use Rattle.sockets.specs.declared.entry.SocketId.{SocketId}
@@ -25,6 +26,7 @@ use Rattle.sockets.specs.SocketsView.{SocketsView, holder_id, later_moment}
 use Rattle.sockets.specs.Ticks as table_ticks
 use Rattle.sockets.specs.Lost.{give_up_fate_of, role_after_giving_up, after_giving_up}
 use Rattle.sockets.specs.Emission.{after_segment_sent}
+use Rattle.sockets.proofs.Emitting.{found_due, segment_sent-found, segment_sent-none}
 use Rattle.interface.specs.Ways.{is_routed}
 use Rattle.sockets.specs.Unreachable.{after_unreachable}
 use Rattle.host.specs.HostView.{HostView}
@@ -201,17 +203,19 @@ tick-keeps h moment pair none =
     let at = later_moment h.sockets moment in
     given_up-keeps (table_ticks.after_tick h.sockets at) (host_ticks.lacks_hop h at) at pair (ticked-keeps h.sockets at pair none)
 
-sent-keeps : (own : SocketsView) (goes : Entry → Bool) (moment : Moment) → KeepsPairs own (after_segment_sent own goes moment)
+sent-keeps : (own : SocketsView) (goes : Addr → Bool) (moment : Moment) → KeepsPairs own (after_segment_sent own goes moment)
 sent-keeps own goes moment pair none = by_due (find (sends goes) own.entries) refl
   where
     at : Moment
     at = later_moment own moment
 
     by_due : (o : Option Entry) → find (sends goes) own.entries ≡ o → find (is_of_pair pair) (let w = after_segment_sent own goes moment in w.entries) ≡ None
-    by_due None is = let same : after_segment_sent own goes moment ≡ own = rw is in ap (λ (w : SocketsView). find (is_of_pair pair) w.entries) same ∙ none
+    by_due None is = ap (λ (w : SocketsView). find (is_of_pair pair) w.entries) (segment_sent-none own goes moment is) ∙ none
     by_due (Some e) is =
-        let same : after_segment_sent own goes moment ≡ record own { entries = entries_after_step (emission_fate_of (role_after_emission at e.role)) (sends goes) (role_after_emission at) own.entries } = rw is in
-        ap (λ (w : SocketsView). find (is_of_pair pair) w.entries) same ∙ unheld-settled (emission_fate_of (role_after_emission at e.role)) (sends goes) (role_after_emission at) pair own.entries (unheld_emitted_at at) none
+        let due = found_due own goes e is in
+        let what : Outgoing = due.0.1 in
+        ap (λ (w : SocketsView). find (is_of_pair pair) w.entries) (segment_sent-found own goes moment e due.0 is due.1)
+        ∙ unheld-settled (emission_fate_of (role_after_emission at what e.role)) (sends goes) (role_after_emission at what) pair own.entries (unheld_emitted_at at what) none
 
 emission-keeps : (h : HostView) (now : Moment) → KeepsPairs h.sockets (let w = after_emission h now in w.sockets)
 emission-keeps h now pair none = by_emission (emission h moment)

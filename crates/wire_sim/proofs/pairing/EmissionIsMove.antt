@@ -18,6 +18,7 @@ use Rattle.tcp_state.proofs.GoesOut.{due-may}
 use Rattle.sides.specs.declared.side.Side.{Side}
 use Rattle.wire_sim.specs.declared.event.Opening.{Opening}
 use Rattle.wire_sim.specs.declared.event.Happening.{Happening}
+use Rattle.sockets.specs.declared.emission.Outgoing.{Outgoing}
 use Rattle.sockets.specs.declared.entry.SocketId.{SocketId}
 use Rattle.sockets.specs.declared.entry.Entry.{Entry}
 use Rattle.sockets.specs.declared.role.Role.TheVariants.{Connected}
@@ -96,11 +97,11 @@ bag_after hs ts openings trace c due bag =
     bag_with pair (epoch_of openings pair) (emission_of hs ts openings trace c due) bag
 
 -- a segment of a connection goes out
-projects-sent : (limit : ℕ) (hs ts : Side) (a b : Addr) (own other : SocketsView) (bag : Bag) (openings : List Opening) (trace : List Happening) (now : Moment) (goes : Entry → Bool) (e : Entry) (c : View) (l : Option SocketId) (due : Due)
+projects-sent : (limit : ℕ) (hs ts : Side) (a b : Addr) (own other : SocketsView) (bag : Bag) (openings : List Opening) (trace : List Happening) (now : Moment) (what : Outgoing) (goes : Entry → Bool) (e : Entry) (c : View) (l : Option SocketId) (due : Due)
     → Emits own.entries goes e c l due → (let x = flags_of c due in x.rst) ≡ false → IsSoundTable own
     → Projects limit hs ts a b own other bag openings trace
-    → Projects limit hs ts a b (record own { entries = change_first goes (with_role (role_after_emission now)) own.entries }) other (bag_after hs ts openings trace c due bag) openings trace
-projects-sent limit hs ts a b own other bag openings trace now goes e c l due m unreset sound h =
+    → Projects limit hs ts a b (record own { entries = change_first goes (with_role (role_after_emission now what)) own.entries }) other (bag_after hs ts openings trace c due bag) openings trace
+projects-sent limit hs ts a b own other bag openings trace now what goes e c l due m unreset sound h =
     let entry : Entry = record { id = e.id; role = Connected c l } in
     let found : find goes own.entries ≡ Some entry = m.found ∙ ap Some (entry_with e (Connected c l) m.role) in
     let solid : IsSoundConnection c = subst IsSoundRole m.role (All-find (λ (e : Entry). IsSoundRole e.role) goes own.entries e sound.entries m.found) in
@@ -108,9 +109,9 @@ projects-sent limit hs ts a b own other bag openings trace now goes e c l due m 
     let k : IsOpened hs a openings e.id c = h.own_table.noted e.id (Connected c l) before in
     let may = due-may c due solid.sound m.first in
     let w = after_emitted c due now in
-    let ys = change_first goes (with_role (role_after_emission now)) own.entries in
+    let ys = change_first goes (with_role (role_after_emission now what)) own.entries in
     let becomes : Becomes own.entries ys e.id.0 (Some (Connected w l)) =
-    subst (λ r. Becomes own.entries ys e.id.0 (Some r)) (emitted_at-connected now c l due m.first) (becomes-changed goes (role_after_emission now) own.entries entry h.own_table.sole found) in
+    subst (λ r. Becomes own.entries ys e.id.0 (Some r)) (emitted_at-connected now what c l due m.first) (becomes-changed goes (role_after_emission now what) own.entries entry h.own_table.sole found) in
     let o = k.opening in
     let pair = pair_of c.local c.peer in
     let epoch = epoch_of openings pair in
@@ -206,23 +207,23 @@ pub data GoesOut (limit : ℕ) (hs ts : Side) (a b : Addr) (own' other : Sockets
   GoesOn : (let x = flags_of c due in x.rst) ≡ false → Projects limit hs ts a b own' other (bag_after hs ts openings trace c due bag) openings trace → GoesOut limit hs ts a b own' other bag openings trace c due
 
 -- the segment of the first entry that passes a test goes out, where it has one due
-pub projects-emitted : (limit : ℕ) (hs ts : Side) (a b : Addr) (own other : SocketsView) (bag : Bag) (openings : List Opening) (trace : List Happening) (now : Moment) (goes : Entry → Bool) (e : Entry) (c : View) (l : Option SocketId) (due : Due)
+pub projects-emitted : (limit : ℕ) (hs ts : Side) (a b : Addr) (own other : SocketsView) (bag : Bag) (openings : List Opening) (trace : List Happening) (now : Moment) (what : Outgoing) (goes : Entry → Bool) (e : Entry) (c : View) (l : Option SocketId) (due : Due)
     → Emits own.entries goes e c l due → IsSoundTable own → Projects limit hs ts a b own other bag openings trace
-    → GoesOut limit hs ts a b (record own { entries = entries_after_step (emission_fate_of (role_after_emission now e.role)) goes (role_after_emission now) own.entries }) other bag openings trace c due
-projects-emitted limit hs ts a b own other bag openings trace now goes e c l due m sound h =
+    → GoesOut limit hs ts a b (record own { entries = entries_after_step (emission_fate_of (role_after_emission now what e.role)) goes (role_after_emission now what) own.entries }) other bag openings trace c due
+projects-emitted limit hs ts a b own other bag openings trace now what goes e c l due m sound h =
     let solid : IsSoundConnection c = subst IsSoundRole m.role (All-find (λ (e : Entry). IsSoundRole e.role) goes own.entries e sound.entries m.found) in
     let may = due-may c due solid.sound m.first in
-    let role : role_after_emission now e.role ≡ Connected (after_emitted c due now) l = ap (role_after_emission now) m.role ∙ emitted_at-connected now c l due m.first in
-    let fate : emission_fate_of (role_after_emission now e.role) ≡ (if is_over (after_emitted c due now) then Removed else Stays) = ap emission_fate_of role in
+    let role : role_after_emission now what e.role ≡ Connected (after_emitted c due now) l = ap (role_after_emission now what) m.role ∙ emitted_at-connected now what c l due m.first in
+    let fate : emission_fate_of (role_after_emission now what e.role) ≡ (if is_over (after_emitted c due now) then Removed else Stays) = ap emission_fate_of role in
     elim (due-kind c due) [
       | inl is_reset ↦
           let r : Emits own.entries goes e c l Rst = record { found = m.found; role = m.role; first = m.first ∙ ap Some is_reset } in
           let ended : is_over (after_emitted c due now) ≡ true = ap (λ d. is_over (after_emitted c d now)) is_reset ∙ over c solid.sound (due-may c Rst solid.sound r.first) in
-          subst (λ x. GoesOut limit hs ts a b (record own { entries = entries_after_step x goes (role_after_emission now) own.entries }) other bag openings trace c due) (sym (fate ∙ ap (λ t. if t then Removed else Stays) ended))
+          subst (λ x. GoesOut limit hs ts a b (record own { entries = entries_after_step x goes (role_after_emission now what) own.entries }) other bag openings trace c due) (sym (fate ∙ ap (λ t. if t then Removed else Stays) ended))
           (GoesReset is_reset (projects-reset limit hs ts a b own other bag openings trace goes e c l r h))
       | inr unreset ↦
           let lives : is_closed (let w = after_emitted c due now in w.state) ≡ false = ap is_closed (emitted-state c due now) ∙ unclosed_goes c due solid.sound may unreset in
           let going : is_over (after_emitted c due now) ≡ false = ap (λ t. t && (let w = after_emitted c due now in w.released) && not (let w = after_emitted c due now in w.owes_reset)) lives in
-          subst (λ x. GoesOut limit hs ts a b (record own { entries = entries_after_step x goes (role_after_emission now) own.entries }) other bag openings trace c due) (sym (fate ∙ ap (λ t. if t then Removed else Stays) going))
-          (GoesOn unreset (projects-sent limit hs ts a b own other bag openings trace now goes e c l due m unreset sound h))
+          subst (λ x. GoesOut limit hs ts a b (record own { entries = entries_after_step x goes (role_after_emission now what) own.entries }) other bag openings trace c due) (sym (fate ∙ ap (λ t. if t then Removed else Stays) going))
+          (GoesOn unreset (projects-sent limit hs ts a b own other bag openings trace now what goes e c l due m unreset sound h))
     ]

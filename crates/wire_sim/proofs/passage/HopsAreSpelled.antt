@@ -1,15 +1,14 @@
 -- The hop that a request goes out for has an address of four octets, where the gateways of the routes have.
-use Rattle.std.proofs.Common.{◌≡◌, ℕ, Bool, true, false, cond, List, [], ◌∷◌, length, Option, Some, None, is_some, option_map, option_and_then, refl, sym, ◌∙◌, ap, subst}
+use Rattle.std.proofs.Common.{◌≡◌, ℕ, Bool, true, false, cond, List, [], ◌∷◌, length, Option, Some, None, option_map, option_and_then, refl, sym, ◌∙◌, ap, subst}
 use Rattle.std.specs.List.{find, position, slice_get}
 use Rattle.ether.specs.declared.mac.Mac.{Mac}
 use Rattle.ipv4.specs.declared.addr.Addr.{Addr}
 use Rattle.ipv4.specs.declared.addr.Endpoint.{Endpoint}
 use Rattle.clock.specs.declared.moment.Moment.{Moment}
 use Rattle.tcp_segment.specs.Segment.{Segment}
-use Rattle.tcp_state.specs.Due.{first_due}
 use Rattle.udp.specs.declared.cutting.Part.{Part}
-use Rattle.udp_socket.specs.Emission.{due_peer as first_peer}
-use Rattle.udp_socket.specs.SocketView.{Outgoing, SocketView}
+use Rattle.udp_socket.specs.Emission.{peer_at}
+use Rattle.udp_socket.specs.SocketView.{Outgoing as OutDatagram, SocketView}
 use Rattle.interface.specs.declared.reply.Reply.{Reply}
 use Rattle.interface.specs.declared.reply.Reply.TheVariants.{Arp, Reset, Echo, Error}
 use Rattle.interface.specs.declared.reply.Waiting.{Waiting}
@@ -20,16 +19,20 @@ use Rattle.interface.specs.Emission.{head_to}
 use Rattle.interface.specs.Replies.{is_due, way_of}
 use Rattle.interface.specs.Sound.{IsSound, IsSoundReply}
 use Rattle.interface.specs.Ways.{way}
+use Rattle.sockets.specs.declared.emission.Outgoing.{Outgoing}
 use Rattle.sockets.specs.declared.entry.Entry.{Entry}
 use Rattle.sockets.specs.declared.role.Role.{Role}
 use Rattle.sockets.specs.declared.role.Role.TheVariants.{Idle, Listener, Connected, Datagrams}
-use Rattle.sockets.specs.Entries.{sends, due_peer, source_of}
+use Rattle.sockets.specs.Emission.{Next, next_out}
+use Rattle.sockets.specs.Entries.{sends, due_to, place_of, source_of, with_first}
 use Rattle.sockets.specs.Sound.{IsSoundRole}
 use Rattle.sockets.specs.SocketsView.{later_moment}
+use Rattle.sockets.proofs.Emitting.{found_due, first_segment}
 use Rattle.host.specs.Carried.{due_segment}
-use Rattle.host.specs.Emission.{Emission, Replies, Sends, Asks, Nothing, emission, emission_at, emission_by, emission_from, emission_to, goes_out_from}
+use Rattle.host.specs.Emission.{Emission, Replies, Sends, Asks, Nothing, emission, emission_at, emission_by, goes_out_from, table_emission}
 use Rattle.host.specs.HostView.{HostView}
 use Rattle.host.specs.Sound.{IsSoundHost}
+use Rattle.host.proofs.Emitting.{table_from, none_from}
 use Rattle.datagram_law.specs.Accepted.{Accepted}
 use Rattle.wire_sim.specs.Sent.{Sent, IsSpelled, datagram_sent, due_said, outgoing_said, packet_sent, reply_sent, reply_sent_by, request_sent, segment_said, sent_at, sent_by, waiting_sent, AreWholeRoutes, part_said}
 use Rattle.ipv4.specs.Datagram.{Datagram}
@@ -40,6 +43,7 @@ use Rattle.frames.specs.declared.meaning.Meaning.TheVariants.{Udp, UdpFragment}
 use Rattle.frames.specs.Meaning.{is_fragment}
 use Rattle.frames.specs.Sent.{part_datagram}
 use Rattle.wire_sim.proofs.lists.FoundAfterChange.{All-at, All-find}
+use Rattle.wire_sim.proofs.carried.TableSends.{IsNext, datagram-due}
 use Rattle.wire_sim.proofs.datagrams.TablesKeepToAccepted.{IsEntryOf, IsTableOf}
 use Rattle.wire_sim.proofs.passage.HopsAreWhole.{asked-whole}
 use Rattle.wire_sim.proofs.passage.PartsSaid.{peer-whole}
@@ -72,88 +76,90 @@ part-spelled : (b : Bool) (carrier : Datagram) (d : UserDatagram) → IsSpelled 
 part-spelled true carrier d = tt
 part-spelled false carrier d = tt
 
-due-spelled : (h : HostView) (mac : Mac) (to : Addr) (r : Role) (says : Meaning) → due_said h mac to r ≡ Some says → IsSpelled says
-due-spelled h mac to (Connected c l) says due = by_segment (due_segment (Connected c l)) due
+due-spelled : (h : HostView) (mac : Mac) (to : Addr) (what : Outgoing) (r : Role) (says : Meaning) → due_said h mac to what r ≡ Some says → IsSpelled says
+due-spelled h mac to what (Connected c l) says due = by_segment (due_segment (Connected c l)) due
   where
     by_segment : (o : Option Segment) → option_map (segment_said h.interface) o ≡ Some says → IsSpelled says
     by_segment None is = cc
     by_segment (Some s) is = let same : segment_said h.interface s ≡ says = cc in subst IsSpelled same tt
-due-spelled h mac to (Datagrams bound socket) says due = by_outbox socket.outbox refl due
+due-spelled h mac to what (Datagrams bound socket) says due = by_outbox first.outbox refl due
   where
-    by_outbox : (outbox : List Outgoing) → socket.outbox ≡ outbox → outgoing_said h.interface mac to (source_of h.sockets.addr bound) socket ≡ Some says → IsSpelled says
-    by_outbox [] at is = let none : outgoing_said h.interface mac to (source_of h.sockets.addr bound) socket ≡ None = rw at in let bad : None ≡ Some says = sym none ∙ is in cc
+    first : SocketView
+    first = with_first what socket
+
+    by_outbox : (outbox : List OutDatagram) → first.outbox ≡ outbox → outgoing_said h.interface mac to (source_of h.sockets.addr bound) first ≡ Some says → IsSpelled says
+    by_outbox [] at is = let none : outgoing_said h.interface mac to (source_of h.sockets.addr bound) first ≡ None = rw at in let bad : None ≡ Some says = sym none ∙ is in cc
     by_outbox (o ∷ rest) at is =
-        let part : Part = record { identification = o.identification; fragment = fragment_of o socket.parts } in
-        let carrier : Datagram = part_datagram (head_to h.interface mac to) part (fragment_octets (source_of h.sockets.addr bound) o socket.parts) in
-        let told : outgoing_said h.interface mac to (source_of h.sockets.addr bound) socket ≡ Some (part_said carrier (datagram_of (source_of h.sockets.addr bound) o)) = rw at in
+        let part : Part = record { identification = o.identification; fragment = fragment_of o first.parts } in
+        let carrier : Datagram = part_datagram (head_to h.interface mac to) part (fragment_octets (source_of h.sockets.addr bound) o first.parts) in
+        let told : outgoing_said h.interface mac to (source_of h.sockets.addr bound) first ≡ Some (part_said carrier (datagram_of (source_of h.sockets.addr bound) o)) = rw at in
         let both : Some (part_said carrier (datagram_of (source_of h.sockets.addr bound) o)) ≡ Some says = sym told ∙ is in
         let same : part_said carrier (datagram_of (source_of h.sockets.addr bound) o) ≡ says = cc in
         subst IsSpelled same (part-spelled (is_fragment carrier) carrier (datagram_of (source_of h.sockets.addr bound) o))
-due-spelled h mac to (Listener local backlog) says is = cc
-due-spelled h mac to (Idle buffers bound) says is = cc
+due-spelled h mac to what (Listener local backlog) says is = cc
+due-spelled h mac to what (Idle buffers bound) says is = cc
 
 sends-spelled : (h : HostView) (moment : Moment) (mac : Mac) (to : Addr) (what : Sent) → sent_by h moment (Sends mac to) ≡ Some what → IsSpelled what.says
-sends-spelled h moment mac to what = by_entry (find (sends (goes_out_from h moment)) h.sockets.entries)
+sends-spelled h moment mac to what = by_next (next_out h.sockets (goes_out_from h moment))
   where
-    by_said : (e : Entry) (o : Option Meaning) → due_said h mac to e.role ≡ o → option_map (datagram_sent h.interface mac to) o ≡ Some what → IsSpelled what.says
-    by_said e None due is = cc
-    by_said e (Some says) due is = let same : datagram_sent h.interface mac to says ≡ what = cc in subst (λ (s : Sent). IsSpelled s.says) same (due-spelled h mac to e.role says due)
+    by_said : (next : Next) (o : Option Meaning) → due_said h mac to next.what next.entry.role ≡ o → option_map (datagram_sent h.interface mac to) o ≡ Some what → IsSpelled what.says
+    by_said next None due is = cc
+    by_said next (Some says) due is = let same : datagram_sent h.interface mac to says ≡ what = cc in subst (λ (s : Sent). IsSpelled s.says) same (due-spelled h mac to next.what next.entry.role says due)
 
-    by_entry : (o : Option Entry) → option_map (datagram_sent h.interface mac to) (option_and_then (λ (e : Entry). due_said h mac to e.role) o) ≡ Some what → IsSpelled what.says
-    by_entry None is = cc
-    by_entry (Some e) is = by_said e (due_said h mac to e.role) refl is
+    by_next : (o : Option Next) → option_map (datagram_sent h.interface mac to) (option_and_then (λ (next : Next). due_said h mac to next.what next.entry.role) o) ≡ Some what → IsSpelled what.says
+    by_next None is = cc
+    by_next (Some next) is = by_said next (due_said h mac to next.what next.entry.role) refl is
 
--- The request for the hop of an entry.
+-- The request for the hop of what an entry has due.
 
 record Asking (h : HostView) (moment : Moment) (hop : Addr) : Type 0 where
   pub e : Entry
-  pub peer : Endpoint
-  pub found : find (sends (goes_out_from h moment)) h.sockets.entries ≡ Some e
-  pub due : due_peer e.role ≡ Some peer
-  pub leads : way h.interface moment peer.addr ≡ Ask hop
+  pub what : Endpoint × Outgoing
+  pub next : IsNext h.sockets (goes_out_from h moment) e what
+  pub leads : way h.interface moment what.0.addr ≡ Ask hop
 
 asking : (h : HostView) (moment : Moment) (hop : Addr) → emission h moment ≡ Asks hop → Asking h moment hop
 asking h moment hop = by_place (position (is_due h.interface moment) h.interface.replies)
   where
-    test : Entry → Bool
-    test = sends (goes_out_from h moment)
+    goes : Addr → Bool
+    goes = goes_out_from h moment
 
-    by_way : (e : Entry) (peer : Endpoint) → find test h.sockets.entries ≡ Some e → due_peer e.role ≡ Some peer → (w : Way) → way h.interface moment peer.addr ≡ w → emission_by peer.addr w ≡ Asks hop → Asking h moment hop
-    by_way e peer found due (To mac) is same = cc
-    by_way e peer found due (Ask own) is same = let one : own ≡ hop = cc in record { e = e; peer = peer; found = found; due = due; leads = is ∙ ap Ask one }
-    by_way e peer found due Waits is same = cc
+    by_way : (e : Entry) (what : Endpoint × Outgoing) → IsNext h.sockets goes e what → (w : Way) → way h.interface moment what.0.addr ≡ w → emission_by what.0.addr w ≡ Asks hop → Asking h moment hop
+    by_way e what next (To mac) is same = cc
+    by_way e what next (Ask own) is same = let one : own ≡ hop = cc in record { e = e; what = what; next = next; leads = is ∙ ap Ask one }
+    by_way e what next Waits is same = cc
 
-    by_peer : (e : Entry) → find test h.sockets.entries ≡ Some e → (o : Option Endpoint) → due_peer e.role ≡ o → emission_to h moment o ≡ Asks hop → Asking h moment hop
-    by_peer e found None due same = cc
-    by_peer e found (Some peer) due same = by_way e peer found due (way h.interface moment peer.addr) refl same
-
-    by_entry : (o : Option Entry) → find test h.sockets.entries ≡ o → emission_from h moment o ≡ Asks hop → Asking h moment hop
-    by_entry None found same = cc
-    by_entry (Some e) found same = by_peer e found (due_peer e.role) refl same
+    by_entry : (o : Option Entry) → find (sends goes) h.sockets.entries ≡ o → table_emission h moment ≡ Asks hop → Asking h moment hop
+    by_entry None found same = let no = sym (none_from h moment found) ∙ same in cc
+    by_entry (Some e) found same =
+        let due = found_due h.sockets goes e found in
+        by_way e due.0 (record { found = found; is = due.1 }) (way h.interface moment due.0.0.addr) refl (sym (table_from h moment e due.0 found due.1) ∙ same)
 
     by_place : (o : Option ℕ) → emission_at h moment o ≡ Asks hop → Asking h moment hop
     by_place (Some place) same = cc
-    by_place None same = by_entry (find test h.sockets.entries) refl same
+    by_place None same = by_entry (find (sends goes) h.sockets.entries) refl same
 
 -- the peer's address has four octets
-role-peer : (own other : List Accepted) (h : HostView) (r : Role) (peer : Endpoint) → IsTableOf own other h.sockets → IsSoundRole r → IsEntryOf own other h.sockets.addr r → due_peer r ≡ Some peer → length peer.addr.0 ≡ 4
-role-peer own other h (Connected c l) peer keeps solid entry due = by_due (is_some (first_due c)) due
-  where
-    by_due : (b : Bool) → cond b (Some c.peer) None ≡ Some peer → length peer.addr.0 ≡ 4
-    by_due true is = let same : c.peer ≡ peer = cc in subst (λ (e : Endpoint). length e.addr.0 ≡ 4) same solid.peer.addr
-    by_due false is = cc
-role-peer own other h (Datagrams None s) peer keeps solid entry due = let bad : None ≡ Some peer = ap (λ (x : SocketView). first_peer x.outbox) (sym entry) ∙ due in cc
-role-peer own other h (Datagrams (Some local) s) peer keeps solid entry due = peer-whole own other (record { addr = h.sockets.addr; port = local.port }) peer s keeps.in_turn entry.1 due
-role-peer own other h (Listener local backlog) peer keeps solid entry due = cc
-role-peer own other h (Idle buffers bound) peer keeps solid entry due = cc
+role-peer : (own other : List Accepted) (h : HostView) (goes : Addr → Bool) (r : Role) (what : Endpoint × Outgoing) → IsTableOf own other h.sockets → IsSoundRole r → IsEntryOf own other h.sockets.addr r → due_to goes r ≡ Some what → length what.0.addr.0 ≡ 4
+role-peer own other h goes (Connected c l) what keeps solid entry due =
+    let first = first_segment goes c l what due in
+    subst (λ (d : Endpoint × Outgoing). length d.0.addr.0 ≡ 4) first.is solid.peer.addr
+role-peer own other h goes (Datagrams None s) what keeps solid entry due =
+    let is = datagram-due goes None s what due in
+    let bad : None ≡ Some what.0 = ap (λ (x : SocketView). peer_at (place_of what.1) x.outbox) (sym entry) ∙ is.peer in cc
+role-peer own other h goes (Datagrams (Some local) s) what keeps solid entry due =
+    let is = datagram-due goes (Some local) s what due in
+    peer-whole own other (record { addr = h.sockets.addr; port = local.port }) what.0 s (place_of what.1) keeps.in_turn entry.1 is.peer
+role-peer own other h goes (Listener local backlog) what keeps solid entry due = cc
+role-peer own other h goes (Idle buffers bound) what keeps solid entry due = cc
 
 asked-spelled : (own other : List Accepted) (h : HostView) (moment : Moment) (hop : Addr) → IsSoundHost h → IsTableOf own other h.sockets → AreWholeRoutes h.interface.routes → emission h moment ≡ Asks hop → length hop.0 ≡ 4
 asked-spelled own other h moment hop sound keeps routes is =
     let k = asking h moment hop is in
     let table = sound.table in
-    let solid : IsSoundRole k.e.role = All-find (λ (x : Entry). IsSoundRole x.role) (sends (goes_out_from h moment)) h.sockets.entries k.e table.entries k.found in
-    let entry : IsEntryOf own other h.sockets.addr k.e.role = All-find (λ (x : Entry). IsEntryOf own other h.sockets.addr x.role) (sends (goes_out_from h moment)) h.sockets.entries k.e keeps.sockets k.found in
-    asked-whole h.interface moment k.peer.addr hop routes (role-peer own other h k.e.role k.peer keeps solid entry k.due) k.leads
+    let solid : IsSoundRole k.e.role = All-find (λ (x : Entry). IsSoundRole x.role) (sends (goes_out_from h moment)) h.sockets.entries k.e table.entries k.next.found in
+    let entry : IsEntryOf own other h.sockets.addr k.e.role = All-find (λ (x : Entry). IsEntryOf own other h.sockets.addr x.role) (sends (goes_out_from h moment)) h.sockets.entries k.e keeps.sockets k.next.found in
+    asked-whole h.interface moment k.what.0.addr hop routes (role-peer own other h (goes_out_from h moment) k.e.role k.what keeps solid entry k.next.is) k.leads
 
 -- Whatever goes out.
 pub host-spelled : (own other : List Accepted) (h : HostView) (now : Moment) (what : Sent) → IsSoundHost h → IsTableOf own other h.sockets → AreWholeRoutes h.interface.routes → sent_at h now ≡ Some what → IsSpelled what.says

@@ -15,8 +15,7 @@ use Rattle.tcp_segment.specs.Sent.{CanBeSent, sent_segment, sent_octets, sent_of
 use Rattle.tcp_state.specs.declared.emission.Due.{Due}
 use Rattle.tcp_state.specs.View.{View}
 use Rattle.tcp_state.specs.Due.{first_due, head_of, octets_of as text_of}
-use Rattle.udp.specs.declared.cutting.Part.{Part}
-use Rattle.udp_socket.specs.Emission.{due_peer as first_peer, due_octets as socket_octets}
+use Rattle.udp_socket.specs.Emission.{peer_at, due_octets as socket_octets}
 use Rattle.udp_socket.specs.SocketView.{SocketView}
 use Rattle.frames.specs.Meaning.{heard}
 use Rattle.frames.specs.Sent.{packet_frame}
@@ -31,17 +30,18 @@ use Rattle.interface.specs.Replies.{is_due, way_of}
 use Rattle.interface.specs.Sound.{IsSound, IsSoundReply}
 use Rattle.interface.specs.Ways.{way}
 use Rattle.interface.proofs.Waits.{first_goes}
-use Rattle.sockets.specs.declared.emission.Emitted.TheVariants.{Datagram}
+use Rattle.sockets.specs.declared.emission.Outgoing.{Outgoing}
 use Rattle.sockets.specs.declared.entry.Entry.{Entry}
 use Rattle.sockets.specs.declared.entry.SocketId.{SocketId}
 use Rattle.sockets.specs.declared.role.Role.{Role}
 use Rattle.sockets.specs.declared.role.Role.TheVariants.{Idle, Listener, Connected, Datagrams}
-use Rattle.sockets.specs.Emission.{emitted_octets}
-use Rattle.sockets.specs.Entries.{sends, due_peer, due_emitted, due_octets, source_of}
+use Rattle.sockets.specs.Emission.{Next, next_out}
+use Rattle.sockets.specs.Entries.{sends, due_to, place_of, source_of, with_first}
 use Rattle.sockets.specs.Order.{IsOrdered}
 use Rattle.sockets.specs.SocketsView.{later_moment}
+use Rattle.sockets.proofs.Emitting.{found_due, next-found}
 use Rattle.host.specs.Carried.{Carried, due_segment, carried_by}
-use Rattle.host.specs.Emission.{Emission, Replies, Sends, Asks, Nothing, emission, emission_at, emission_by, emission_from, emission_to, emission_len, emission_octets, goes_out_from, len_of, octets_of}
+use Rattle.host.specs.Emission.{Emission, Replies, Sends, Asks, Nothing, emission, emission_at, emission_by, emission_to, emission_len, emission_octets, goes_out_from, len_of, octets_of}
 use Rattle.host.specs.HostView.{HostView}
 use Rattle.host.specs.Sound.{IsSoundHost}
 use Rattle.host.proofs.Carriage.{Goes, SendsSegment, SendsPart, is-sending}
@@ -49,9 +49,8 @@ use Rattle.host.proofs.Hearing.{CanGo, echo-can, error-can, way-mac}
 use Rattle.datagram_law.specs.Accepted.{Accepted}
 use Rattle.wire_sim.specs.Sent.{Sent, IsSpelled, datagram_sent, due_said, heard_as, message_said, outgoing_said, packet_sent, reply_sent, reply_sent_by, request_sent, segment_said, sent_at, sent_by, waiting_sent}
 use Rattle.wire_sim.proofs.lists.FoundAfterChange.{All-at, All-find}
-use Rattle.wire_sim.proofs.carried.TableSends.{OfConnection, OfSocket, sends-for, part-framed}
+use Rattle.wire_sim.proofs.carried.TableSends.{IsNext, IsDatagramDue, OfConnection, OfSocket, sends-for, part-framed}
 use Rattle.wire_sim.proofs.datagrams.TablesKeepToAccepted.{IsEntryOf, IsTableOf}
-use Rattle.wire_sim.proofs.datagrams.UserFrames.{IsDue, what-is-due, sends-to}
 use Rattle.wire_sim.proofs.passage.HeardAnywhere.{segment-told, message-told, packet-told}
 use Rattle.wire_sim.proofs.passage.PartsSaid.{IsHeardAs, IsPartSaid, socket-said}
 
@@ -123,13 +122,9 @@ place-of h moment place = by_place (position (is_due h.interface moment) h.inter
     by_peer None same = cc
     by_peer (Some peer) same = by_way peer.addr (way h.interface moment peer.addr) same
 
-    by_entry : (o : Option Entry) → emission_from h moment o ≡ Replies place → ⊥
-    by_entry None same = cc
-    by_entry (Some e) same = by_peer (due_peer e.role) same
-
     by_place : (o : Option ℕ) → emission_at h moment o ≡ Replies place → o ≡ Some place
     by_place (Some p) same = let one : p ≡ place = cc in ap Some one
-    by_place None same = absurd (by_entry (find (sends (goes_out_from h moment)) h.sockets.entries) same)
+    by_place None same = absurd (by_peer (option_map (λ (next : Next). next.peer) (next_out h.sockets (goes_out_from h moment))) same)
 
 -- A segment of a connection.
 
@@ -138,10 +133,19 @@ goes-said i octets c own g mac ours =
     ap (heard mac ours) g.is ∙ segment-said i c.mac c.to g.head g.text g.can g.whole own g.fits mac ours
     ∙ ap (λ (s : Segment). heard_as (datagram_sent i c.mac c.to (segment_said i s)) mac ours) (sym g.segment)
 
+-- by what goes out next
+sent-next : (h : HostView) (moment : Moment) (mac : Mac) (to : Addr) (e : Entry) (what : Endpoint × Outgoing) → find (sends (goes_out_from h moment)) h.sockets.entries ≡ Some e → due_to (goes_out_from h moment) e.role ≡ Some what
+    → sent_by h moment (Sends mac to) ≡ option_map (datagram_sent h.interface mac to) (due_said h mac to what.1 e.role)
+sent-next h moment mac to e what found is =
+    ap (λ (o : Option Next). option_map (datagram_sent h.interface mac to) (option_and_then (λ (next : Next). due_said h mac to next.what next.entry.role) o)) (next-found h.sockets (goes_out_from h moment) e what found is)
+
 pub sends-carried : (h : HostView) (moment : Moment) (mac : Mac) (to : Addr) (c : Carried) → carried_by h moment (Sends mac to) ≡ Some c
     → sent_by h moment (Sends mac to) ≡ Some (datagram_sent h.interface c.mac c.to (segment_said h.interface c.segment))
-sends-carried h moment mac to c = by_entry (find (sends (goes_out_from h moment)) h.sockets.entries)
+sends-carried h moment mac to c = by_entry (find (sends goes) h.sockets.entries) refl
   where
+    goes : Addr → Bool
+    goes = goes_out_from h moment
+
     i : InterfaceView
     i = h.interface
 
@@ -154,16 +158,18 @@ sends-carried h moment mac to c = by_entry (find (sends (goes_out_from h moment)
         let same : made s ≡ c = cc in
         ap (λ (x : Carried). Some (datagram_sent i x.mac x.to (segment_said i x.segment))) same
 
-    by_role : (r : Role) → option_map made (due_segment r) ≡ Some c → option_map (datagram_sent i mac to) (due_said h mac to r) ≡ Some (datagram_sent i c.mac c.to (segment_said i c.segment))
-    by_role (Connected x l) is = by_segment (due_segment (Connected x l)) is
-    by_role (Datagrams bound socket) is = cc
-    by_role (Listener local backlog) is = cc
-    by_role (Idle buffers bound) is = cc
+    by_role : (what : Outgoing) (r : Role) → option_map made (due_segment r) ≡ Some c → option_map (datagram_sent i mac to) (due_said h mac to what r) ≡ Some (datagram_sent i c.mac c.to (segment_said i c.segment))
+    by_role what (Connected x l) is = by_segment (due_segment (Connected x l)) is
+    by_role what (Datagrams bound socket) is = cc
+    by_role what (Listener local backlog) is = cc
+    by_role what (Idle buffers bound) is = cc
 
-    by_entry : (o : Option Entry) → option_map made (option_and_then (λ (e : Entry). due_segment e.role) o) ≡ Some c
-        → option_map (datagram_sent i mac to) (option_and_then (λ (e : Entry). due_said h mac to e.role) o) ≡ Some (datagram_sent i c.mac c.to (segment_said i c.segment))
-    by_entry None is = cc
-    by_entry (Some e) is = by_role e.role is
+    by_entry : (o : Option Entry) → find (sends goes) h.sockets.entries ≡ o → option_map made (option_and_then (λ (e : Entry). due_segment e.role) o) ≡ Some c
+        → sent_by h moment (Sends mac to) ≡ Some (datagram_sent i c.mac c.to (segment_said i c.segment))
+    by_entry None found is = cc
+    by_entry (Some e) found is =
+        let due = found_due h.sockets goes e found in
+        sent-next h moment mac to e due.0 found due.1 ∙ by_role due.0.1 e.role is
 
 connection-carried : (h : HostView) (moment : Moment) (mac : Mac) (to : Addr) (e : Entry) (c : View) (l : Option SocketId) (due : Due) → find (sends (goes_out_from h moment)) h.sockets.entries ≡ Some e → e.role ≡ Connected c l → first_due c ≡ Some due
     → carried_by h moment (Sends mac to) ≡ Some (record { mac = mac; to = to; segment = sent_segment (head_of c due) (text_of c due) })
@@ -186,40 +192,34 @@ connection-sent h moment mac to own sound ordered is carries = elim (is-sending 
 
 -- A part of a UDP datagram.
 
-socket-sent : (own other : List Accepted) (h : HostView) (moment : Moment) (mac : Mac) (to : Addr) (e : Entry) (bound : Option Endpoint) (socket : SocketView) (part : Part) → emission h moment ≡ Sends mac to
-    → find (sends (goes_out_from h moment)) h.sockets.entries ≡ Some e → e.role ≡ Datagrams bound socket → due_emitted e.role ≡ Some (Datagram part) → way h.interface moment to ≡ To mac
-    → IsSoundHost h → IsTableOf own other h.sockets → IsSent (octets_of h moment (Sends mac to)) (sent_by h moment (Sends mac to))
-socket-sent own other h moment mac to e bound socket part is found role due leads sound keeps =
+socket-sent : (own other : List Accepted) (h : HostView) (moment : Moment) (mac : Mac) (to : Addr) (e : Entry) (what : Endpoint × Outgoing) (bound : Option Endpoint) (socket : SocketView) → IsNext h.sockets (goes_out_from h moment) e what
+    → e.role ≡ Datagrams bound socket → IsDatagramDue socket what → to ≡ what.0.addr → way h.interface moment to ≡ To mac → IsSoundHost h → IsTableOf own other h.sockets → IsSent (octets_of h moment (Sends mac to)) (sent_by h moment (Sends mac to))
+socket-sent own other h moment mac to e what bound socket next role due for leads sound keeps =
     let table = h.sockets in
-    let entry : IsEntryOf own other table.addr (Datagrams bound socket) = subst (IsEntryOf own other table.addr) role (All-find (λ (x : Entry). IsEntryOf own other table.addr x.role) (sends (goes_out_from h moment)) table.entries e keeps.sockets found) in
-    let what : IsDue socket part = what-is-due bound socket part (ap due_emitted (sym role) ∙ due) in
-    let told : due_peer e.role ≡ Some what.peer = ap due_peer role ∙ what.to in
-    by_bound bound refl entry what (sends-to h moment mac to e what.peer is found told)
+    let entry : IsEntryOf own other table.addr (Datagrams bound socket) =
+    subst (IsEntryOf own other table.addr) role (All-find (λ (x : Entry). IsEntryOf own other table.addr x.role) (sends (goes_out_from h moment)) table.entries e keeps.sockets next.found) in
+    by_bound bound refl entry
   where
     i : InterfaceView
     i = h.interface
 
-    goes : Entry → Bool
-    goes = goes_out_from h moment
+    first : SocketView
+    first = with_first what.1 socket
 
-    octets : emitted_octets h.sockets goes ≡ due_octets h.sockets.addr e.role
-    octets = rw found
-
-    by_bound : (b : Option Endpoint) → bound ≡ b → IsEntryOf own other h.sockets.addr (Datagrams b socket) → (what : IsDue socket part) → to ≡ what.peer.addr → IsSent (octets_of h moment (Sends mac to)) (sent_by h moment (Sends mac to))
-    by_bound None b fresh what for =
-        let bad : None ≡ Some what.peer = ap (λ (s : SocketView). first_peer s.outbox) (sym fresh) ∙ what.to in cc
-    by_bound (Some local) b entry what for =
+    by_bound : (b : Option Endpoint) → bound ≡ b → IsEntryOf own other h.sockets.addr (Datagrams b socket) → IsSent (octets_of h moment (Sends mac to)) (sent_by h moment (Sends mac to))
+    by_bound None b fresh =
+        let bad : None ≡ Some what.0 = ap (λ (s : SocketView). peer_at (place_of what.1) s.outbox) (sym fresh) ∙ due.peer in cc
+    by_bound (Some local) b entry =
         let end : Endpoint = record { addr = h.sockets.addr; port = local.port } in
-        let s : IsPartSaid i mac to end socket part =
-        socket-said own other i mac to end what.peer socket part keeps.in_turn entry.1 what.to what.told for (sym sound.own) sound.interface.addr (way-mac i moment to mac sound.interface leads) sound.interface.mac in
-        let shown : emitted_octets h.sockets goes ≡ socket_octets end socket =
-        octets ∙ ap (due_octets h.sockets.addr) role ∙ ap (λ (x : Option Endpoint). due_octets h.sockets.addr (Datagrams x socket)) b in
-        let framed : octets_of h moment (Sends mac to) ≡ part_frame_to i mac to part (socket_octets end socket) = part-framed i mac to h.sockets goes e part found due ∙ ap (part_frame_to i mac to part) shown in
+        let s : IsPartSaid i mac to end first due.part =
+        socket-said own other i mac to end what.0 socket (place_of what.1) due.part keeps.in_turn entry.1 due.peer due.told for (sym sound.own) sound.interface.addr (way-mac i moment to mac sound.interface leads) sound.interface.mac in
+        let framed : octets_of h moment (Sends mac to) ≡ part_frame_to i mac to due.part (socket_octets end first) =
+        part-framed i mac to h.sockets (goes_out_from h moment) e what bound socket due next role ∙ ap (λ (x : Option Endpoint). part_frame_to i mac to due.part (socket_octets (source_of h.sockets.addr x) first)) b in
         record {
           what = datagram_sent i mac to s.says;
-          is = ap (λ (o : Option Entry). option_map (datagram_sent i mac to) (option_and_then (λ (x : Entry). due_said h mac to x.role) o)) found
-              ∙ ap (λ (r : Role). option_map (datagram_sent i mac to) (due_said h mac to r)) role
-              ∙ ap (λ (x : Option Endpoint). option_map (datagram_sent i mac to) (outgoing_said i mac to (source_of h.sockets.addr x) socket)) b
+          is = sent-next h moment mac to e what next.found next.is
+              ∙ ap (λ (r : Role). option_map (datagram_sent i mac to) (due_said h mac to what.1 r)) role
+              ∙ ap (λ (x : Option Endpoint). option_map (datagram_sent i mac to) (outgoing_said i mac to (source_of h.sockets.addr x) first)) b
               ∙ ap (option_map (datagram_sent i mac to)) s.is;
           said = λ spelled m ours. ap (heard m ours) framed ∙ s.heard m ours;
         }
@@ -229,8 +229,8 @@ socket-sent own other h moment mac to e bound socket part is found role due lead
 sends-sent : (own other : List Accepted) (h : HostView) (moment : Moment) (mac : Mac) (to : Addr) → IsSoundHost h → IsOrdered h.sockets → IsTableOf own other h.sockets → emission h moment ≡ Sends mac to
     → IsSent (octets_of h moment (Sends mac to)) (sent_by h moment (Sends mac to))
 sends-sent own other h moment mac to sound ordered keeps is = elim (sends-for h moment mac to is) [
-  | OfConnection e c l due found role first is_to leads ↦ connection-sent h moment mac to _ sound ordered is (connection-carried h moment mac to e c l due found role first)
-  | OfSocket e bound socket part found role due leads ↦ socket-sent own other h moment mac to e bound socket part is found role due leads sound keeps
+  | OfConnection e what c l due next role first is_to leads ↦ connection-sent h moment mac to _ sound ordered is (connection-carried h moment mac to e c l due next.found role first)
+  | OfSocket e what bound socket next role due for leads ↦ socket-sent own other h moment mac to e what bound socket next role due for leads sound keeps
 ]
 
 -- Whatever goes out.

@@ -12,8 +12,9 @@ use Rattle.udp.specs.Datagram.{Spells, spelling}
 use Rattle.udp.specs.Fragments.{count_of}
 use Rattle.udp.specs.Sent.{CanBeSent, checksum_field}
 use Rattle.udp.proofs.Answering.{sent_len, sent_spelled}
-use Rattle.udp_socket.specs.Emission.{datagram_of, due_octets, due_part, due_peer, fragment_of, head_of, octets_of}
+use Rattle.udp_socket.specs.Emission.{brought, peer_at, datagram_of, due_octets, due_part, due_peer, fragment_of, head_of, octets_of}
 use Rattle.udp_socket.specs.SocketView.{Outgoing, SocketView}
+use Rattle.udp_socket.proofs.Places.{due_brought}
 use Rattle.frames.specs.Heard.{IsWhole}
 use Rattle.frames.specs.Meaning.{heard, is_fragment}
 use Rattle.frames.specs.declared.meaning.Meaning.{Meaning}
@@ -24,6 +25,7 @@ use Rattle.interface.specs.Emission.{head_to, part_frame_to}
 use Rattle.datagram_law.specs.Accepted.{Accepted, AreInTurn, IsInWidths}
 use Rattle.datagram_law.specs.Carried.{accepted_of}
 use Rattle.datagram_law.specs.Sockets.{IsSocketOf}
+use Rattle.datagram_law.proofs.Keeping.{is_brought}
 use Rattle.datagram_law.proofs.Reading.{widths_of}
 use Rattle.wire_sim.specs.Sent.{Sent, datagram_sent, heard_as, outgoing_said, part_said}
 use Rattle.wire_sim.proofs.datagrams.PartsGoOut.{is-part}
@@ -90,15 +92,15 @@ first-said own i theirs local o parts turn (k, within, there) below ours from si
         (subst (λ (a : Addr). Spells a o.peer.addr (datagram_of local o) (spelling (datagram_of local o))) ours
         (spells-itself local o (widths_of own k (accepted_of local o) turn within there)))
 
--- What is due at a socket that keeps to what its host accepted.
+-- What is due first at a socket that keeps to what its host accepted.
 pub record IsPartSaid (i : InterfaceView) (theirs : Mac) (to : Addr) (local : Endpoint) (s : SocketView) (part : Part) : Type 0 where
   pub says : Meaning
   pub is : outgoing_said i theirs to local s ≡ Some says
   pub heard : IsHeardAs (part_frame_to i theirs to part (due_octets local s)) (datagram_sent i theirs to says)
 
-pub socket-said : (own other : List Accepted) (i : InterfaceView) (theirs : Mac) (to : Addr) (local peer : Endpoint) (s : SocketView) (part : Part) → AreInTurn own → IsSocketOf own other local s → due_peer s.outbox ≡ Some peer
+first-socket-said : (own other : List Accepted) (i : InterfaceView) (theirs : Mac) (to : Addr) (local peer : Endpoint) (s : SocketView) (part : Part) → AreInTurn own → IsSocketOf own other local s → due_peer s.outbox ≡ Some peer
     → due_part s ≡ Some part → to ≡ peer.addr → local.addr ≡ i.addr → length i.addr.0 ≡ 4 → length theirs.0 ≡ 6 → length i.mac.0 ≡ 6 → IsPartSaid i theirs to local s part
-socket-said own other i theirs to local peer s part turn h for told leads ours from six mine = by_outbox s.outbox refl
+first-socket-said own other i theirs to local peer s part turn h for told leads ours from six mine = by_outbox s.outbox refl
   where
     by_outbox : (outbox : List Outgoing) → s.outbox ≡ outbox → IsPartSaid i theirs to local s part
     by_outbox [] is = let none : due_peer [] ≡ Some peer = ap due_peer (sym is) ∙ for in cc
@@ -120,9 +122,15 @@ socket-said own other i theirs to local peer s part turn h for told leads ours f
         subst (λ (x : SocketView). IsPartSaid i theirs to local x part) (sym same)
         (subst (λ (p : Part). IsPartSaid i theirs to local shown p) one (subst (λ (a : Addr). IsPartSaid i theirs a local shown (first_part o s.parts)) at first))
 
+-- of the datagram in any place
+pub socket-said : (own other : List Accepted) (i : InterfaceView) (theirs : Mac) (to : Addr) (local peer : Endpoint) (s : SocketView) (place : ℕ) (part : Part) → AreInTurn own → IsSocketOf own other local s → peer_at place s.outbox ≡ Some peer
+    → due_part (brought place s) ≡ Some part → to ≡ peer.addr → local.addr ≡ i.addr → length i.addr.0 ≡ 4 → length theirs.0 ≡ 6 → length i.mac.0 ≡ 6 → IsPartSaid i theirs to local (brought place s) part
+socket-said own other i theirs to local peer s place part turn h for told leads ours from six mine =
+    first-socket-said own other i theirs to local peer (brought place s) part turn (is_brought own other local s place h) (due_brought s place peer for) told leads ours from six mine
+
 -- and its peer's address has four octets
-pub peer-whole : (own other : List Accepted) (local peer : Endpoint) (s : SocketView) → AreInTurn own → IsSocketOf own other local s → due_peer s.outbox ≡ Some peer → length peer.addr.0 ≡ 4
-peer-whole own other local peer s turn h for = by_outbox s.outbox refl
+first-peer-whole : (own other : List Accepted) (local peer : Endpoint) (s : SocketView) → AreInTurn own → IsSocketOf own other local s → due_peer s.outbox ≡ Some peer → length peer.addr.0 ≡ 4
+first-peer-whole own other local peer s turn h for = by_outbox s.outbox refl
   where
     by_outbox : (outbox : List Outgoing) → s.outbox ≡ outbox → length peer.addr.0 ≡ 4
     by_outbox [] is = let none : due_peer [] ≡ Some peer = ap due_peer (sym is) ∙ for in cc
@@ -137,3 +145,6 @@ peer-whole own other local peer s turn h for = by_outbox s.outbox refl
       where
         of_accepted : Contains own (accepted_of local o) → length o.peer.addr.0 ≡ 4
         of_accepted (k, within, there) = (widths_of own k (accepted_of local o) turn within there).peer_addr
+
+pub peer-whole : (own other : List Accepted) (local peer : Endpoint) (s : SocketView) (place : ℕ) → AreInTurn own → IsSocketOf own other local s → peer_at place s.outbox ≡ Some peer → length peer.addr.0 ≡ 4
+peer-whole own other local peer s place turn h for = first-peer-whole own other local peer (brought place s) turn (is_brought own other local s place h) (due_brought s place peer for)
