@@ -1,5 +1,5 @@
 -- A call of one of the two hosts, and a tick of both.
-use Rattle.std.proofs.Common.{◌≡◌, ℕ, ◌+◌, ◌-◌, ◌≤◌, ◌^◌, Bool, true, List, [], ◌∷◌, ◌++◌, length, take, Option, Some, None, Result, Ok, arith, refl, sym, ◌∙◌, ap, subst, append-nil}
+use Rattle.std.proofs.Common.{◌≡◌, ℕ, ◌-◌, ◌≤◌, ◌^◌, Bool, true, List, [], ◌∷◌, ◌++◌, length, take, Option, Some, None, Result, Ok, arith, refl, sym, ◌∙◌, ap, subst, append-nil}
 use Rattle.std.specs.Global.{Vec}
 use Rattle.clock.specs.declared.moment.Moment.{Moment}
 use Rattle.ipv4.specs.declared.addr.Endpoint.{Endpoint}
@@ -13,7 +13,6 @@ use Rattle.host.specs.HostView.{with_sockets}
 use Rattle.host.specs.Sound.{IsSoundHost}
 use Rattle.host.specs.Ticks.{after_tick}
 use Rattle.sides.specs.declared.side.Side.TheVariants.{A, B}
-use Rattle.wire_sim.specs.declared.event.Call.{Call}
 use Rattle.wire_sim.specs.declared.event.Call.TheVariants as call
 use Rattle.wire_sim.specs.declared.event.Event.TheVariants as event
 use Rattle.wire_sim.specs.declared.event.Answer.{Answer}
@@ -23,7 +22,7 @@ use Rattle.wire_sim.specs.declared.event.Happening.{Happening}
 use Rattle.wire_sim.specs.declared.world.bag.Frame.{Frame}
 use Rattle.wire_sim.specs.Runs.{IsReached}
 use Rattle.wire_sim.specs.Steps.{Answers, MeetsReceived, readable_on, recv_len}
-use Rattle.wire_sim.specs.Tallies.{written_by, counts_after}
+use Rattle.wire_sim.specs.Tallies.{counts_after}
 use Rattle.wire_sim.specs.Trace.{sent_on}
 use Rattle.wire_sim.specs.WorldView.{NetworkView, WorldView}
 use Rattle.wire_sim.proofs.pairing.WorldAsPairings.{told}

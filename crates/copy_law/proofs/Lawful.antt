@@ -8,7 +8,7 @@ use Rattle.wire_sim.specs.declared.event.Opening.{Opening}
 use Rattle.wire_sim.specs.declared.event.Happening.{Happening}
 use Rattle.wire_sim.specs.Coverage.{IsCovered}
 use Rattle.wire_sim.specs.Tallies.{is_opening_of, is_opening_at}
-use Rattle.wire_sim.specs.Trace.{sent_on, read_on, closed_on, ended_on, of_opening, written, read, closed, ended}
+use Rattle.wire_sim.specs.Trace.{sent_on, read_on, closed_on, ended_on, of_opening, read, closed, ended}
 use Rattle.wire_sim.specs.WorldView.{WorldView}
 use Rattle.wire_sim.proofs.openings.OctetsAreCovered.{octets-covered}
 use Rattle.wire_sim.proofs.runs.RunsAreLawful.{run_lawful}

@@ -22,7 +22,6 @@ use Rattle.wire_sim.specs.Steps.{Steps}
 use Rattle.wire_sim.specs.Tallies.{is_opening_of, written_by}
 use Rattle.wire_sim.specs.Trace.{sent_on, read_on, closed_on, ended_on}
 use Rattle.wire_sim.specs.WorldView.{NetworkView, WorldView}
-use Rattle.wire_sim.proofs.pairing.WorldAsPairings.{told}
 use Rattle.wire_sim.proofs.tables.TableById.{Account}
 use Rattle.wire_sim.proofs.told.TraceAndOneMore.{IsQuiet}
 use Rattle.wire_sim.proofs.told.AccountAndOneMore.{told-quiet}
