@@ -75,7 +75,7 @@ pub record IsKept (now : Moment) (h : SocketsView) : Type 0 where
 abbrev pub EveryTableIsKept : Type 0
 EveryTableIsKept = (limit : ℕ) (w : WorldView) → IsReached limit w → (side : Side) → IsKept (clock_of w.network side) (table_of w.network side)
 
--- So a deadline of a table lies no further past its host's clock than TIME-WAIT lasts.
+-- So a deadline of the timers of a table lies no further past its host's clock than TIME-WAIT lasts.
 abbrev pub EveryDeadlineLiesNear : Type 0
 EveryDeadlineLiesNear = (limit : ℕ) (w : WorldView) (side : Side) (moment : Moment) → IsReached limit w → least_deadline (table_of w.network side) ≡ Some moment → (let now = clock_of w.network side in moment.0 ≤ now.0 + 240000)
 

@@ -44,7 +44,7 @@ pub fn every_table_is_kept()
     ensures { EveryTableIsKept }
 {}
 
-/// So no deadline of a connection lies more than 240,000 ms past the moment that its host's clock shows, the time that TIME-WAIT lasts (RFC 9293 section 3.4.2), at whatever moments the host was ticked.
+/// So no deadline of the timers of a connection lies more than 240,000 ms past the moment that its host's clock shows, the time that TIME-WAIT lasts (RFC 9293 section 3.4.2), at whatever moments the host was ticked.
 pub fn every_deadline_lies_near()
     ensures { EveryDeadlineLiesNear }
 {}
