@@ -60,13 +60,34 @@ const FLOOD: &[Step] = &[
     (B, Act::Listen(ONE, 8)),
     (B, Act::Hear(0, REPLIED_BACK, Ok(()))),
     (B, Act::Hear(0, THIRD_SYN, Ok(()))),
-    (B, Act::HearChanged(THIRD_SYN, &[(35, 1), (51, 0xcc)], Ok(()))),
-    (B, Act::HearChanged(THIRD_SYN, &[(35, 2), (51, 0xcb)], Ok(()))),
-    (B, Act::HearChanged(THIRD_SYN, &[(35, 3), (51, 0xca)], Ok(()))),
-    (B, Act::HearChanged(THIRD_SYN, &[(35, 4), (51, 0xc9)], Ok(()))),
-    (B, Act::HearChanged(THIRD_SYN, &[(35, 5), (51, 0xc8)], Ok(()))),
-    (B, Act::HearChanged(THIRD_SYN, &[(35, 6), (51, 0xc7)], Ok(()))),
-    (B, Act::HearChanged(THIRD_SYN, &[(35, 7), (51, 0xc6)], Ok(()))),
+    (
+        B,
+        Act::HearChanged(THIRD_SYN, &[(35, 1), (51, 0xcc)], Ok(())),
+    ),
+    (
+        B,
+        Act::HearChanged(THIRD_SYN, &[(35, 2), (51, 0xcb)], Ok(())),
+    ),
+    (
+        B,
+        Act::HearChanged(THIRD_SYN, &[(35, 3), (51, 0xca)], Ok(())),
+    ),
+    (
+        B,
+        Act::HearChanged(THIRD_SYN, &[(35, 4), (51, 0xc9)], Ok(())),
+    ),
+    (
+        B,
+        Act::HearChanged(THIRD_SYN, &[(35, 5), (51, 0xc8)], Ok(())),
+    ),
+    (
+        B,
+        Act::HearChanged(THIRD_SYN, &[(35, 6), (51, 0xc7)], Ok(())),
+    ),
+    (
+        B,
+        Act::HearChanged(THIRD_SYN, &[(35, 7), (51, 0xc6)], Ok(())),
+    ),
     (B, Act::Hear(0, SYN, Err(DropCause::NoRoom))),
     (B, Act::Sends(THIRD_ASKED)),
     (B, Act::Emit(None)),
