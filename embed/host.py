@@ -18,6 +18,7 @@ import enum
 import errno
 import ipaddress
 import os
+import sys
 
 __all__ = ["Drop", "Host", "Kind", "State"]
 
@@ -101,12 +102,28 @@ _CALLS = {
 _SILENT = ("host_free", "host_tick")
 
 
+class NoLibrary(ImportError):
+    """There is no library to load. Where nothing catches it, Python says so in a line."""
+
+
+def _say(kind, error, trace, otherwise=sys.excepthook):
+    if kind is NoLibrary:
+        print(error, file=sys.stderr)
+    else:
+        otherwise(kind, error, trace)
+
+
 def _load():
     """The library, with the types of its calls. PyDLL keeps the interpreter's lock in a call, so no two calls ever overlap."""
     here = os.path.dirname(os.path.abspath(__file__))
     paths = [os.environ.get("HOST_LIBRARY"), os.path.join(here, "libhostc.so"), os.path.join(here, "out", "libhostc.so")]
     found = [path for path in paths if path and (os.path.exists(path) or path == paths[0])]
-    library = ctypes.PyDLL(found[0] if found else "libhostc.so")
+    try:
+        library = ctypes.PyDLL(found[0] if found else "libhostc.so")
+    except OSError as error:
+        sys.excepthook = _say
+        why = f"can't be loaded: {error}" if found else "isn't there; embed/build makes it, or the variable HOST_LIBRARY names it"
+        raise NoLibrary(f"host: the library {found[0] if found else 'libhostc.so'} {why}") from None
     for name, arguments in _CALLS.items():
         call = getattr(library, name)
         call.argtypes = [_HANDLE, *arguments]
