@@ -258,7 +258,9 @@ def stoppable(progress):
             shutil.rmtree(room, ignore_errors=True)
         os._exit(128 + number)
 
-    was = {it: signal.signal(it, stop) for it in (signal.SIGHUP, signal.SIGINT, signal.SIGTERM)}
+    # Who ignores a hangup, as nohup does, goes on; an interrupt is ignored by what a script of sh runs beside itself, as embed/build does.
+    numbers = [it for it in (signal.SIGHUP, signal.SIGINT, signal.SIGTERM) if it != signal.SIGHUP or signal.getsignal(it) != signal.SIG_IGN]
+    was = {it: signal.signal(it, stop) for it in numbers}
     try:
         yield
     finally:
