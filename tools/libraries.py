@@ -122,14 +122,9 @@ def make(crate, jobs):
     if crate.makes_rlib():
         return crate.build_rlib(flags, anew=False) == 0
     if crate.is_program:
-        # A run of the empty script ends with status 0, and rt leaves the program. ./hostd asks when its build began.
-        crate.held, begun = [], f"{crate.folder}/out/begun"
-        with open(f"{begun}.new", "w", encoding="utf-8"):
-            pass
-        is_proved = crate.run(flags, ["sim", "/dev/null"]) == 0
-        if is_proved:
-            os.replace(f"{begun}.new", begun)
-        return is_proved
+        # A run of the empty script ends with status 0, and rt leaves the program.
+        crate.held = []
+        return crate.run(flags, ["sim", "/dev/null"]) == 0
     rtlib, file, stamp = load_rt().rtlib, made_of(crate), crate.stamp()
     with contextlib.suppress(FileNotFoundError):
         os.remove(f"{file}.stamp")
@@ -138,6 +133,19 @@ def make(crate, jobs):
         with open(f"{file}.stamp", "w", encoding="utf-8") as it:
             it.write(stamp + rtlib.sum_of(file))
     return is_proved
+
+
+def mark(crate):
+    """Tells ./hostd that the program is built of the text as it is: it looks for files that are younger than the mark, and the program has to be."""
+    begun = f"{crate.folder}/out/begun"
+    with open(f"{begun}.new", "w", encoding="utf-8"):
+        pass
+    if is_made(crate):
+        after = os.stat(f"{begun}.new").st_mtime_ns + 1
+        os.utime(made_of(crate), ns=(after, after))
+        os.replace(f"{begun}.new", begun)
+    else:
+        os.remove(f"{begun}.new")
 
 
 def took():
@@ -277,6 +285,14 @@ def share_work():
 def prove(crates, name="libraries"):
     """Proves and builds the crates, but those that are built, and says how far it is. Each comes after those that it stands on, which are among them. name
     is the tool that says so. Returns how many there were to prove."""
+    number = prove_left(crates, name)
+    for it in crates:
+        if it.is_program:
+            mark(it)
+    return number
+
+
+def prove_left(crates, name):
     rt = load_rt()
     share_work()
     libraries = [it for it in crates if it.makes_rlib()]
