@@ -1,5 +1,5 @@
 -- What goes out is heard as what it is.
-use Rattle.std.proofs.Common.{◌≡◌, ℕ, ◌+◌, ◌*◌, ◌≤◌, Bool, true, false, cond, List, [], length, Ok, refl, arith, length-append}
+use Rattle.std.proofs.Common.{◌≡◌, ℕ, ◌+◌, ◌*◌, ◌≤◌, false, List, [], length, Ok, refl, arith, length-append}
 use Rattle.ether.specs.declared.mac.Mac.{Mac}
 use Rattle.ipv4.specs.declared.addr.Addr.{Addr}
 use Rattle.icmp.specs.declared.error.Reason.{Reason}
@@ -7,6 +7,7 @@ use Rattle.icmp.specs.Sent.{echo_reply, error_for}
 use Rattle.icmp.proofs.Answering.{echo_spelled, error_spelled}
 use Rattle.tcp_segment.specs.declared.head.Head.{Head}
 use Rattle.tcp_segment.specs.Sent.{CanBeSent, sent_segment, sent_octets, sent_offset}
+use Rattle.tcp_segment.proofs.Sending.{most_offset}
 use Rattle.udp.specs.declared.cutting.Part.{Part}
 use Rattle.udp.specs.Datagram.{UserDatagram, Spells}
 use Rattle.arp.specs.declared.packet.ArpPacket.{ArpPacket}
@@ -33,16 +34,12 @@ pub segment_heard : (h : InterfaceView) (mac : Mac) (to : Addr) (head : Head) (o
 unfolding segment_frame_to
 segment_heard h mac to head octets can theirs own may fits = segments_heard (head_to h mac to) head octets can theirs own may fits
 
-offset_most : (b : Bool) → 4 * cond b 6 5 ≤ 1480
-offset_most true = omega arith
-offset_most false = omega arith
-
 pub reset_heard : (h : InterfaceView) (mac : Mac) (to : Addr) (head : Head) → CanBeSent h.addr to head []
     → length mac.0 ≡ 6 → length h.mac.0 ≡ 6 → MaySend to h.addr
     → heard mac to (reply_frame h mac (Reset to head)) ≡ Ok (meaning.Tcp (record { source = h.addr; segment = sent_segment head [] }))
 unfolding reply_frame
 reset_heard h mac to head can theirs own may =
-    let most : 4 * sent_offset head ≤ 1480 = offset_most head.flags.syn in
+    let most : 4 * sent_offset head ≤ 1480 = omega (arith, most_offset head) in
     segment_heard h mac to head [] can theirs own may (omega (arith, most))
 
 pub echo_heard : (h : InterfaceView) (mac : Mac) (to : Addr) (identifier number : ℕ) (octets : List ℕ) → IsSoundEcho to identifier number octets

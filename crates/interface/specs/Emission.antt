@@ -1,5 +1,5 @@
 -- The frames that go out for what waits, and what is left then.
-use Rattle.std.specs.Prelude.{ℕ, ◌+◌, max, List, [], length, remove, Option, Some, None}
+use Rattle.std.specs.Prelude.{ℕ, ◌+◌, ◌*◌, max, List, [], length, remove, Option, Some, None}
 use Rattle.std.specs.List.{slice_get}
 use Rattle.ether.specs.declared.mac.Mac.{Mac}
 use Rattle.ipv4.specs.declared.addr.Addr.{Addr}
@@ -8,7 +8,7 @@ use Rattle.arp.specs.Cache.{after_ask, requests_left}
 use Rattle.arp.specs.Packet.{request_of}
 use Rattle.icmp.specs.Message.{spelling}
 use Rattle.icmp.specs.Sent.{echo_reply, error_for}
-use Rattle.tcp_segment.specs.Sent.{sent_octets}
+use Rattle.tcp_segment.specs.Sent.{sent_offset, sent_octets}
 use Rattle.udp.specs.declared.cutting.Part.{Part}
 use Rattle.frames.specs.declared.emission.FrameHead.{FrameHead}
 use Rattle.frames.specs.Sent.{segment_frame, message_frame, part_frame, packet_frame}
@@ -51,7 +51,7 @@ reply_frame h mac (Error to reason quoted) = message_frame_to h mac to (spelling
 -- its length, in octets: 34 for the heads of frame and datagram, 8 for that of a message, and 60 at least (RFC 894)
 abbrev pub reply_len : Reply → ℕ
 reply_len (Arp packet) = 60
-reply_len (Reset to head) = 60
+reply_len (Reset to head) = max (34 + 4 * sent_offset head) 60
 reply_len (Echo to identifier number octets) = max (34 + (8 + length octets)) 60
 reply_len (Error to reason quoted) = max (34 + (8 + length quoted)) 60
 

@@ -1,14 +1,14 @@
 -- The checksum of a segment that is sent is right.
-use Rattle.std.proofs.Common.{◌≡◌, ℕ, ◌+◌, ◌-◌, ◌*◌, ◌^◌, ◌<◌, Bool, true, false, List, [], ◌∷◌, ◌++◌, length, if◌then◌else◌, refl, sym, ◌∙◌, ap, arith}
+use Rattle.std.proofs.Common.{◌≡◌, ℕ, ◌+◌, ◌-◌, ◌*◌, ◌^◌, ◌<◌, Bool, true, false, List, [], ◌∷◌, ◌++◌, length, refl, sym, ◌∙◌, ap, arith}
 use Rattle.byteorder.specs.Endian.{big_bytes}
 use Rattle.inet_sum.specs.Sum.{word_sum, ones_complement, sum_of, checksum_of}
 use Rattle.inet_sum.proofs.Complements.{with_complement, one_complement}
 use Rattle.ipv4.specs.declared.addr.Addr.{Addr}
 use Rattle.tcp_segment.specs.declared.head.Head.{Head}
-use Rattle.tcp_segment.specs.Options.{MaximumSegmentSize, joined, AreOptions}
+use Rattle.tcp_segment.specs.Options.{joined, AreOptions}
 use Rattle.tcp_segment.specs.Segment.{HasForm, SumIsRight, Spells, spelling, summed_octets}
 use Rattle.tcp_segment.specs.Sent.{CanBeSent, sent_segment, sent_offset, sent_with, sent_octets}
-use Rattle.tcp_segment.proofs.Sending.{option_len, whole_len}
+use Rattle.tcp_segment.proofs.Sending.{most_offset, option_len, options_of, whole_len}
 
 -- what the checksum adds to the sum of the words
 abbrev pseudo_before : List ℕ → List ℕ → ℕ → List ℕ → List ℕ
@@ -39,13 +39,10 @@ sum_right src dst head octets can =
     ap sum_of (summed_is src dst head octets checksum) ∙ ap ones_complement total ∙ with_complement before
 
 -- the options that are sent
-sent_options : (b : Bool) → AreOptions (if b then MaximumSegmentSize 1460 ∷ [] else []) []
-sent_options true = (omega arith, refl)
-sent_options false = refl
-
-offset_below : (b : Bool) → (if b then 6 else 5) < 2 ^ 4
-offset_below true = omega arith
-offset_below false = omega arith
+options_end : (syn scales : Bool) → AreOptions (options_of syn scales) []
+options_end true true = (omega arith, (tt, (omega arith, refl)))
+options_end true false = (omega arith, refl)
+options_end false scales = refl
 
 -- what is sent spells the segment that is meant
 pub sent_spelled : (src dst : Addr) (head : Head) (octets : List ℕ) → CanBeSent src dst head octets
@@ -60,11 +57,11 @@ sent_spelled src dst head octets can =
         checksum = checksum;
         padding = [];
         fields = can.fields;
-        options = sent_options head.flags.syn;
-        offset_fits = offset_below head.flags.syn;
+        options = options_end head.flags.syn head.scales;
+        offset_fits = omega (arith, most_offset head);
         reserved_fits = omega arith;
         checksum_fits = omega arith;
-        header = sym (option_len head.flags.syn);
+        header = sym (option_len head.flags.syn head.scales);
         len = omega (arith, whole_len head octets checksum, can.len);
         spelled = refl;
       };
@@ -77,17 +74,18 @@ unfolding sent_octets
 sent_octets_len src dst head octets = whole_len head octets (checksum_of (summed_octets src dst (sent_with head octets 0)))
 
 -- nothing stands behind the options that are sent
-no_padding : (b : Bool) (padding : List ℕ) → AreOptions (if b then MaximumSegmentSize 1460 ∷ [] else []) padding → padding ≡ []
-no_padding true padding are = are.1
-no_padding false padding are = are
+no_padding : (syn scales : Bool) (padding : List ℕ) → AreOptions (options_of syn scales) padding → padding ≡ []
+no_padding true true padding are = are.1.1.1
+no_padding true false padding are = are.1
+no_padding false scales padding are = are
 
 -- a spelling of what is sent, by its checksum
 by_checksum : (head : Head) (octets xs : List ℕ) (form : HasForm (sent_segment head octets) xs) → form.reserved ≡ 0 → xs ≡ sent_with head octets form.checksum
 by_checksum head octets xs form zeros =
     let segment = sent_segment head octets in
-    let nothing : form.padding ≡ [] = no_padding head.flags.syn form.padding form.options in
+    let nothing : form.padding ≡ [] = no_padding head.flags.syn head.scales form.padding form.options in
     let area : length (joined segment.options ++ form.padding) ≡ length (joined segment.options ++ []) = ap (λ (ys : List ℕ). length (joined segment.options ++ ys)) nothing in
-    let offset : form.offset ≡ sent_offset head = omega (arith, form.header, area, option_len head.flags.syn) in
+    let offset : form.offset ≡ sent_offset head = omega (arith, form.header, area, option_len head.flags.syn head.scales) in
     form.spelled
     ∙ ap (λ (n : ℕ). spelling segment n form.reserved form.checksum form.padding) offset
     ∙ ap (λ (n : ℕ). spelling segment (sent_offset head) n form.checksum form.padding) zeros

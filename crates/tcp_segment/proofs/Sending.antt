@@ -1,5 +1,5 @@
 -- How a segment is written.
-use Rattle.std.proofs.Common.{◌≡◌, ℕ, ◌+◌, ◌-◌, ◌*◌, ◌<◌, ◌≤◌, ◌/◌, ◌%◌, Bool, true, false, List, [], ◌∷◌, ◌++◌, length, drop, slice_range, cond, if◌then◌else◌, refl, sym, ◌∙◌, ap, append_assoc, length-append, arith}
+use Rattle.std.proofs.Common.{◌≡◌, ℕ, ◌+◌, ◌-◌, ◌*◌, ◌<◌, ◌≤◌, ◌/◌, ◌%◌, Bool, true, false, List, [], ◌∷◌, ◌++◌, length, drop, slice_range, Some, None, cond, if◌then◌else◌, refl, sym, ◌∙◌, ap, append_assoc, length-append, arith}
 use Rattle.std.proofs.lemmas.List.{append-nil, take_at, drop_at, drop-drop, take-append-drop, length-take, length-drop}
 use borrow.Rule.Slice.PartMut.{put_mid}
 use Rattle.inet_sum.specs.Sum.{word_sum, ones_complement, sum_of}
@@ -8,41 +8,88 @@ use Rattle.inet_sum.proofs.Exchanging.{few_turns}
 use Rattle.ipv4.specs.declared.addr.Addr.{Addr}
 use Rattle.tcp_segment.specs.declared.flags.Flags.{Flags}
 use Rattle.tcp_segment.specs.declared.head.Head.{Head}
-use Rattle.tcp_segment.specs.Options.{joined, MaximumSegmentSize}
-use Rattle.tcp_segment.specs.Segment.{FieldsFit, bit, control_bits, fixed_fields, summed_octets}
+use Rattle.tcp_segment.specs.Options.{HeaderOption, NoOperation, MaximumSegmentSize, WindowScale, joined, last_mss, last_scale}
+use Rattle.tcp_segment.specs.Segment.{FieldsFit, bit, control_bits, fixed_fields, summed_octets, mss_option_of, scale_option_of}
 use Rattle.tcp_segment.specs.Sent.{sent_segment, sent_offset, sent_with, sent_octets}
 
-one_of : (b : Bool) (m n : ℕ) → m ≤ n → m ≤ cond b n m
-one_of true m n h = h
-one_of false m n h = omega arith
+-- the options of a segment with these bits, and its data offset
+abbrev pub options_of : Bool → Bool → List HeaderOption
+options_of syn scales = if syn then MaximumSegmentSize 1460 ∷ (if scales then NoOperation ∷ WindowScale 5 ∷ [] else []) else []
 
--- a header is five words long at least
+abbrev pub offset_of : Bool → Bool → ℕ
+offset_of syn scales = if syn then (if scales then 7 else 6) else 5
+
+least : (syn scales : Bool) → 5 ≤ offset_of syn scales
+least true true = omega arith
+least true false = omega arith
+least false scales = omega arith
+
+most : (syn scales : Bool) → offset_of syn scales ≤ 7
+most true true = omega arith
+most true false = omega arith
+most false scales = omega arith
+
+-- a header is five words long at least, and seven at most
 pub least_offset : (head : Head) → 5 ≤ sent_offset head
-least_offset head = one_of head.flags.syn 5 6 (omega arith)
+least_offset head = least head.flags.syn head.scales
 
--- four octets are put behind the first twenty
-put_options : (first last out : List ℕ) → length first ≡ 20 → length last ≡ 4 → put_mid 20 4 (first ++ drop 20 out) last ≡ first ++ last ++ drop 24 out
-put_options first last out f l =
-    rw (take_at first (drop 20 out) 20 f, drop_at first (drop 20 out) 20 f, drop-drop 4 20 out) (sym (append_assoc first last (drop 24 out)))
+pub most_offset : (head : Head) → sent_offset head ≤ 7
+most_offset head = most head.flags.syn head.scales
 
--- what is written of a header with SYN
-pub with_option : (head : Head) (checksum : ℕ) (first last out : List ℕ) → head.flags.syn ≡ true
+-- four octets are put behind the first n
+put_behind : (n : ℕ) (front last out : List ℕ) → length front ≡ n → length last ≡ 4 → put_mid n 4 (front ++ drop n out) last ≡ (front ++ last) ++ drop (n + 4) out
+put_behind n front last out f l =
+    rw (take_at front (drop n out) n f, drop_at front (drop n out) n f, drop-drop 4 n out) (sym (append_assoc front last (drop (n + 4) out)))
+
+-- what is written of a header with SYN: the size alone ..
+pub with_size : (head : Head) (checksum : ℕ) (first last out : List ℕ) → head.flags.syn ≡ true → head.scales ≡ false
     → first ≡ fixed_fields (sent_segment head []) (sent_offset head) 0 checksum → last ≡ 2 ∷ 4 ∷ 5 ∷ 180 ∷ []
     → put_mid 20 4 (first ++ drop 20 out) last ≡ sent_with head [] checksum ++ drop (4 * sent_offset head) out
-with_option head checksum first last out syn f l =
-    let header : first ++ last ≡ sent_with head [] checksum = rw (f, l, syn) refl in
-    let len : 24 ≡ 4 * sent_offset head = rw syn refl in
-    put_options first last out (ap length f) (ap length l)
+with_size head checksum first last out syn scales f l =
+    let header : first ++ last ≡ sent_with head [] checksum = rw (f, l, syn, scales) refl in
+    let len : 24 ≡ 4 * sent_offset head = rw (syn, scales) refl in
+    put_behind 20 first last out (ap length f) (ap length l)
     ∙ ap (λ (xs : List ℕ). xs ++ drop 24 out) header ∙ ap (λ (n : ℕ). sent_with head [] checksum ++ drop n out) len
 
-pub option_len : (b : Bool) → 20 + length (joined (if b then MaximumSegmentSize 1460 ∷ [] else []) ++ []) ≡ 4 * (if b then 6 else 5)
-option_len true = refl
-option_len false = refl
+-- .. and the shift behind it
+pub with_scale : (head : Head) (checksum : ℕ) (first size shift out : List ℕ) → head.flags.syn ≡ true → head.scales ≡ true
+    → first ≡ fixed_fields (sent_segment head []) (sent_offset head) 0 checksum → size ≡ 2 ∷ 4 ∷ 5 ∷ 180 ∷ [] → shift ≡ 1 ∷ 3 ∷ 3 ∷ 5 ∷ []
+    → put_mid 24 4 (put_mid 20 4 (first ++ drop 20 out) size) shift ≡ sent_with head [] checksum ++ drop (4 * sent_offset head) out
+with_scale head checksum first size shift out syn scales f l k =
+    let header : (first ++ size) ++ shift ≡ sent_with head [] checksum = rw (f, l, k, syn, scales) refl in
+    let len : 28 ≡ 4 * sent_offset head = rw (syn, scales) refl in
+    let sized : length (first ++ size) ≡ 24 = rw (f, l) refl in
+    ap (λ (xs : List ℕ). put_mid 24 4 xs shift) (put_behind 20 first size out (ap length f) (ap length l))
+    ∙ put_behind 24 (first ++ size) shift out sized (ap length k)
+    ∙ ap (λ (xs : List ℕ). xs ++ drop 28 out) header ∙ ap (λ (n : ℕ). sent_with head [] checksum ++ drop n out) len
+
+pub option_len : (syn scales : Bool) → 20 + length (joined (options_of syn scales) ++ []) ≡ 4 * offset_of syn scales
+option_len true true = refl
+option_len true false = refl
+option_len false scales = refl
+
+-- options go out with SYN alone
+pub no_options_without_syn : (head : Head) (octets : List ℕ) → head.flags.syn ≡ false → (sent_segment head octets).options ≡ []
+no_options_without_syn head octets syn = rw syn refl
+
+told_size : (scales : Bool) → last_mss None (options_of true scales) ≡ Some 1460
+told_size true = refl
+told_size false = refl
+
+told_scale : (scales : Bool) → last_scale None (options_of true scales) ≡ cond scales (Some 5) None
+told_scale true = refl
+told_scale false = refl
+
+pub size_with_syn : (head : Head) (octets : List ℕ) → head.flags.syn ≡ true → mss_option_of (sent_segment head octets) ≡ Some 1460
+size_with_syn head octets syn = rw syn (told_size head.scales)
+
+pub scale_with_syn : (head : Head) (octets : List ℕ) → head.flags.syn ≡ true → scale_option_of (sent_segment head octets) ≡ cond head.scales (Some 5) None
+scale_with_syn head octets syn = rw syn (told_scale head.scales)
 
 -- the length of a header
 pub sent_len : (head : Head) (checksum : ℕ) → length (sent_with head [] checksum) ≡ 4 * sent_offset head
 sent_len head checksum =
-    omega (arith, option_len head.flags.syn, ap length (append-nil (joined (sent_segment head []).options ++ [])))
+    omega (arith, option_len head.flags.syn head.scales, ap length (append-nil (joined (sent_segment head []).options ++ [])))
 
 -- a header and what it stands before
 sent_before : (head : Head) (octets : List ℕ) (checksum : ℕ) → sent_with head octets checksum ≡ sent_with head [] checksum ++ octets
@@ -63,20 +110,21 @@ bits_fit : (flags : Flags) → control_bits flags < 64
 bits_fit flags =
     omega (arith, bit_fits flags.fin 1, bit_fits flags.syn 2, bit_fits flags.rst 4, bit_fits flags.psh 8, bit_fits flags.ack 16, bit_fits flags.urg 32)
 
--- The words of a header: a number of 32 bits is its two words, and the options are two words or none.
-header_words : (head : Head) (syn : Bool) → head.flags.syn ≡ syn → FieldsFit (sent_segment head [])
+-- The words of a header: a number of 32 bits is its two words, and the options are four words, two or none.
+header_words : (head : Head) (syn scales : Bool) → head.flags.syn ≡ syn → head.scales ≡ scales → FieldsFit (sent_segment head [])
     → word_sum (sent_with head [] 0) ≡ head.source + head.destination + (head.number.0 / 65536 + head.number.0 % 65536) + (head.acknowledgement.0 / 65536 + head.acknowledgement.0 % 65536)
-    + (4096 * sent_offset head + control_bits head.flags) + head.window + cond head.flags.syn 1976 0
-header_words head true is fit = rw is (omega (arith, fit.source, fit.destination, fit.number, fit.acknowledgement, fit.window, bits_fit head.flags))
-header_words head false is fit = rw is (omega (arith, fit.source, fit.destination, fit.number, fit.acknowledgement, fit.window, bits_fit head.flags))
+    + (4096 * sent_offset head + control_bits head.flags) + head.window + cond head.flags.syn (cond head.scales 3008 1976) 0
+header_words head true true is scaled fit = rw (is, scaled) (omega (arith, fit.source, fit.destination, fit.number, fit.acknowledgement, fit.window, bits_fit head.flags))
+header_words head true false is scaled fit = rw (is, scaled) (omega (arith, fit.source, fit.destination, fit.number, fit.acknowledgement, fit.window, bits_fit head.flags))
+header_words head false scales is scaled fit = rw is (omega (arith, fit.source, fit.destination, fit.number, fit.acknowledgement, fit.window, bits_fit head.flags))
 
 pub words_are : (head : Head) (result : ℕ) → FieldsFit (sent_segment head [])
-    → result ≡ head.source + head.destination + (head.number.0 + head.acknowledgement.0) + (4096 * sent_offset head + control_bits head.flags + head.window) + cond head.flags.syn 1976 0
+    → result ≡ head.source + head.destination + (head.number.0 + head.acknowledgement.0) + (4096 * sent_offset head + control_bits head.flags + head.window) + cond head.flags.syn (cond head.scales 3008 1976) 0
     → (more : ℕ) → ones_complement (result + more) ≡ ones_complement (word_sum (sent_with head [] 0) + more)
 words_are head result fit is more =
     let turns : ℕ = head.number.0 / 65536 + head.acknowledgement.0 / 65536 in
     let words : ℕ = word_sum (sent_with head [] 0) in
-    let are = header_words head head.flags.syn refl fit in
+    let are = header_words head head.flags.syn head.scales refl refl fit in
     let split : result + more ≡ words + more + 65535 * turns = omega (arith, is, are) in
     ap ones_complement split ∙ few_turns (words + more) turns (omega (arith, are))
 

@@ -1,47 +1,40 @@
 -- How the options are walked.
-use Rattle.std.proofs.Common.{◌≡◌, ◌≢◌, ℕ, zero, suc, ◌-◌, ◌<◌, ◌≤◌, ◌||◌, Bool, true, false, nat_eq, nat_lt, ◌==◌, if◌then◌else◌, List, [], ◌∷◌, length, get_or, drop, take, Option, Some, None, cond, refl, sym, ◌∙◌, ap, subst, inl, inr, eqb-true, arith}
+use Rattle.std.proofs.Common.{◌≡◌, ◌≢◌, ℕ, zero, suc, ◌-◌, ◌<◌, ◌≤◌, ◌||◌, Bool, true, false, nat_eq, nat_lt, List, [], ◌∷◌, length, get_or, drop, take, Option, Some, None, cond, refl, sym, ◌∙◌, ap, inl, inr, arith}
 use Rattle.std.proofs.lemmas.Bool.{cases_lt}
 use Rattle.std.proofs.lemmas.Bool.Decides.{nat_tests}
-use Rattle.std.proofs.lemmas.List.{take_all, length-take}
-use Rattle.std.proofs.lemmas.Option.{cond_some}
-use Rattle.byteorder.specs.Endian.{big_number}
-use Rattle.tcp_segment.specs.Reading.{body_in, mss_in}
-
--- what the last option that tells a maximum segment size tells, or else the one told before
-abbrev pub told_behind : List ℕ → ℕ → Option ℕ → Option (Option ℕ)
-told_behind [] zero told = Some told
-told_behind [] (suc n) told = None
-told_behind (x ∷ xs) (suc n) told = told_behind xs n told
-told_behind (kind ∷ []) zero told = if nat_lt kind 2 then Some told else None
-told_behind (kind ∷ len ∷ xs) zero told =
-    if kind == 0 then Some told
-    else if kind == 1 then told_behind (len ∷ xs) zero told
-    else if kind == 2 then (if len == 4 then told_behind xs 2 (Some (big_number 2 xs)) else None)
-    else if nat_lt len 2 then None
-    else told_behind xs (len - 2) told
+use Rattle.std.proofs.lemmas.List.{take_all}
+use Rattle.std.specs.Option.{option_map}
+use Rattle.tcp_segment.specs.declared.options.Told.{Told}
+use Rattle.tcp_segment.specs.Options.{HeaderOption, EndOfOptions, NoOperation, MaximumSegmentSize, WindowScale, Other, last_mss, last_scale}
+use Rattle.tcp_segment.specs.Reading.{with_first, options_behind, option_in, body_in}
+use Rattle.tcp_segment.specs.Telling.{told_with}
 
 -- behind n octets of a list, where the list is long enough or not
-parted : (xs : List ℕ) (n : ℕ) (told : Option ℕ) → told_behind xs n told ≡ cond (nat_lt (length xs) n) None (told_behind (drop n xs) 0 told)
-parted [] zero told = refl
-parted (x ∷ xs) zero told = let e : nat_lt (length (x ∷ xs)) 0 ≡ false = grind (arith, nat_tests) in rw e refl
-parted [] (suc n) told = let e : nat_lt 0 (suc n) ≡ true = grind (arith, nat_tests) in rw e refl
-parted (x ∷ xs) (suc n) told =
+parted : (xs : List ℕ) (n : ℕ) → options_behind xs n ≡ cond (nat_lt (length xs) n) None (options_behind (drop n xs) 0)
+parted [] zero = refl
+parted (x ∷ xs) zero = let e : nat_lt (length (x ∷ xs)) 0 ≡ false = grind (arith, nat_tests) in rw e refl
+parted [] (suc n) = let e : nat_lt 0 (suc n) ≡ true = grind (arith, nat_tests) in rw e refl
+parted (x ∷ xs) (suc n) =
     let e : nat_lt (length xs) n ≡ nat_lt (length (x ∷ xs)) (suc n) = grind (arith, nat_tests) in
-    rw (← e) (parted xs n told)
+    rw (← e) (parted xs n)
+
+-- fewer octets than are to be passed
+short : (xs : List ℕ) (n : ℕ) → length xs < n → options_behind xs n ≡ None
+short xs n h = let b : nat_lt (length xs) n ≡ true = grind (arith, nat_tests) in parted xs n ∙ rw b refl
 
 -- the kinds of one octet
-kind_end : (kind : ℕ) (xs : List ℕ) (told : Option ℕ) → kind ≡ 0 → told_behind (kind ∷ xs) 0 told ≡ Some told
-kind_end kind [] told e = rw e refl
-kind_end kind (x ∷ xs) told e = rw e refl
+pub behind_end : (xs : List ℕ) → options_behind (0 ∷ xs) 0 ≡ Some (EndOfOptions ∷ [])
+behind_end [] = refl
+behind_end (x ∷ xs) = refl
 
-kind_none : (kind : ℕ) (xs : List ℕ) (told : Option ℕ) → kind ≡ 1 → told_behind (kind ∷ xs) 0 told ≡ told_behind xs 0 told
-kind_none kind [] told e = rw e refl
-kind_none kind (x ∷ xs) told e = rw e refl
+pub behind_none : (xs : List ℕ) → options_behind (1 ∷ xs) 0 ≡ with_first (Some NoOperation) (options_behind xs 0)
+behind_none [] = refl
+behind_none (x ∷ xs) = refl
 
 -- a kind with a length
-kind_long : (kind len : ℕ) (xs : List ℕ) (told : Option ℕ) → kind ≢ 0 → kind ≢ 1
-    → told_behind (kind ∷ len ∷ xs) 0 told ≡ cond (nat_eq kind 2) (cond (nat_eq len 4) (told_behind xs 2 (Some (big_number 2 xs))) None) (cond (nat_lt len 2) None (told_behind xs (len - 2) told))
-kind_long kind len xs told h k =
+pub long_kind : (kind len : ℕ) (xs : List ℕ) → kind ≢ 0 → kind ≢ 1
+    → options_behind (kind ∷ len ∷ xs) 0 ≡ cond (nat_lt len 2) None (with_first (option_in kind (take (len - 2) xs)) (options_behind xs (len - 2)))
+long_kind kind len xs h k =
     let no_end : nat_eq kind 0 ≡ false = grind (arith, nat_tests) in
     let no_none : nat_eq kind 1 ≡ false = grind (arith, nat_tests) in
     rw (no_end, no_none) refl
@@ -51,114 +44,113 @@ guarded : {A : Type 0} (b : Bool) (x y : A) → cond b None (Some x) ≡ Some y 
 guarded true x y e = cc
 guarded false x y e = (refl, cc)
 
--- an option of another kind
-other : (kind : ℕ) (xs body after : List ℕ) (told : Option ℕ) → kind ≢ 0 → kind ≢ 1 → kind ≢ 2
-    → body_in xs ≡ Some (body, after) → told_behind (kind ∷ xs) 0 told ≡ told_behind after 0 told
-other kind [] body after told h k l e = cc
-other kind (len ∷ xs) body after told h k l e =
-    let g = guarded _ _ _ e in
-    let no_mss : nat_eq kind 2 ≡ false = grind (arith, nat_tests) in
-    let long : nat_lt len 2 ≡ false = grind (arith, nat_tests, g.0) in
-    let fits : nat_lt (length xs) (len - 2) ≡ false = grind (arith, nat_tests, g.0) in
-    let is : drop (len - 2) xs ≡ after = ap (λ (p : List ℕ × List ℕ). p.1) g.1 in
-    kind_long kind len xs told h k ∙ rw (no_mss, long) (parted xs (len - 2) told ∙ rw (fits, is) refl)
-
--- fewer octets than are to be passed
-short : (xs : List ℕ) (n : ℕ) (told : Option ℕ) → length xs < n → told_behind xs n told ≡ None
-short xs n told h = let b : nat_lt (length xs) n ≡ true = grind (arith, nat_tests) in parted xs n told ∙ rw b refl
-
 unguarded : {A : Type 0} (b : Bool) (x : A) → cond b None (Some x) ≡ None → b ≡ true
 unguarded true x e = refl
 unguarded false x e = cc
 
--- a length under 2 or past the end, for the size of a segment and for another kind
-refused : (b d : Bool) (len : ℕ) (xs : List ℕ) (told other : Option ℕ) → d ≡ nat_eq len 4 → (nat_lt len 2 || nat_lt (length xs) (len - 2)) ≡ true
-    → cond b (cond d (told_behind xs 2 other) None) (cond (nat_lt len 2) None (told_behind xs (len - 2) told)) ≡ None
-refused true true len xs told other is e = short xs 2 other (grind (arith, nat_tests, e, is))
-refused true false len xs told other is e = refl
-refused false d len xs told other is e = elim (cases_lt len 2) [
+-- an option with a length, by its body
+behind_option : (kind : ℕ) (xs body after : List ℕ) → kind ≢ 0 → kind ≢ 1
+    → body_in xs ≡ Some (body, after) → options_behind (kind ∷ xs) 0 ≡ with_first (option_in kind body) (options_behind after 0)
+behind_option kind [] body after h k e = cc
+behind_option kind (len ∷ xs) body after h k e =
+    let g = guarded _ _ _ e in
+    let long : nat_lt len 2 ≡ false = grind (arith, nat_tests, g.0) in
+    let fits : nat_lt (length xs) (len - 2) ≡ false = grind (arith, nat_tests, g.0) in
+    let is_body : take (len - 2) xs ≡ body = ap (λ (p : List ℕ × List ℕ). p.0) g.1 in
+    let is_after : drop (len - 2) xs ≡ after = ap (λ (p : List ℕ × List ℕ). p.1) g.1 in
+    let rest : options_behind xs (len - 2) ≡ options_behind after 0 =
+    parted xs (len - 2) ∙ rw fits (ap (λ (ys : List ℕ). options_behind ys 0) is_after) in
+    long_kind kind len xs h k
+    ∙ rw long (ap (λ (ys : List ℕ). with_first (option_in kind ys) (options_behind xs (len - 2))) is_body ∙ ap (with_first (option_in kind body)) rest)
+
+-- nothing is read where nothing is behind
+first_of_none : (first : Option HeaderOption) → with_first first None ≡ None
+first_of_none None = refl
+first_of_none (Some first) = refl
+
+-- a length under 2 or past the end
+refused : (first : Option HeaderOption) (len : ℕ) (xs : List ℕ) → (nat_lt len 2 || nat_lt (length xs) (len - 2)) ≡ true
+    → cond (nat_lt len 2) None (with_first first (options_behind xs (len - 2))) ≡ None
+refused first len xs e = elim (cases_lt len 2) [
   | inl low ↦ let b : nat_lt len 2 ≡ true = grind (arith, nat_tests) in rw b refl
   | inr high ↦
       let b : nat_lt len 2 ≡ false = grind (arith, nat_tests) in
-      rw b (short xs (len - 2) told (grind (arith, nat_tests, e, b)))
+      rw b (ap (with_first first) (short xs (len - 2) (grind (arith, nat_tests, e, b))) ∙ first_of_none first)
 ]
 
 -- no octets are an option
-no_option : (kind : ℕ) (xs : List ℕ) (told : Option ℕ) → kind ≢ 0 → kind ≢ 1
-    → body_in xs ≡ None → told_behind (kind ∷ xs) 0 told ≡ None
-no_option kind [] told h k e = let b : nat_lt kind 2 ≡ false = grind (arith, nat_tests) in rw b refl
-no_option kind (len ∷ xs) told h k e = kind_long kind len xs told h k ∙ refused _ _ len xs told _ refl (unguarded _ _ e)
+behind_no_option : (kind : ℕ) (xs : List ℕ) → kind ≢ 0 → kind ≢ 1 → body_in xs ≡ None → options_behind (kind ∷ xs) 0 ≡ None
+behind_no_option kind [] h k e =
+    let no_end : nat_eq kind 0 ≡ false = grind (arith, nat_tests) in
+    let no_none : nat_eq kind 1 ≡ false = grind (arith, nat_tests) in
+    rw (no_end, no_none) refl
+behind_no_option kind (len ∷ xs) h k e = long_kind kind len xs h k ∙ refused _ len xs (unguarded _ _ e)
 
--- the size of a segment that an option tells
-big_number-take : (xs : List ℕ) → 2 ≤ length xs → big_number 2 (take 2 xs) ≡ big_number 2 xs
-big_number-take [] h = absurd (omega arith)
-big_number-take (x ∷ []) h = absurd (omega arith)
-big_number-take (x ∷ y ∷ xs) h = refl
+-- what options tell beside what was told before them
+abbrev pub tell : Told → List HeaderOption → Told
+tell told options = record { mss = last_mss told.mss options; scale = last_scale told.scale options }
 
--- an option that tells the size of a segment
-telling : (kind : ℕ) (xs body after : List ℕ) (size : ℕ) (told : Option ℕ) → kind ≡ 2
-    → body_in xs ≡ Some (body, after) → mss_in body ≡ Some size → told_behind (kind ∷ xs) 0 told ≡ told_behind after 0 (Some size)
-telling kind [] body after size told k e m = cc
-telling kind (len ∷ xs) body after size told k e m =
-    let g = guarded _ _ _ e in
-    let is_body : take (len - 2) xs ≡ body = ap (λ (p : List ℕ × List ℕ). p.0) g.1 in
-    let is_after : drop (len - 2) xs ≡ after = ap (λ (p : List ℕ × List ℕ). p.1) g.1 in
-    let s = cond_some _ _ _ m in
-    let two : length (take (len - 2) xs) ≡ 2 = rw is_body (eqb-true (length body) 2 s.0) in
-    let long : nat_lt len 2 ≡ false = grind (arith, nat_tests, g.0) in
-    let fits : nat_lt (length xs) (len - 2) ≡ false = grind (arith, nat_tests, g.0) in
-    let four : len ≡ 4 = grind (arith, nat_tests, length-take (len - 2) xs, two, long, fits) in
-    let enough : 2 ≤ length xs = grind (arith, nat_tests, four, fits) in
-    let low2 : nat_lt (length xs) 2 ≡ false = grind (arith, nat_tests) in
-    let after_is : drop 2 xs ≡ after = subst (λ n. drop (n - 2) xs ≡ after) four is_after in
-    let size_is : big_number 2 xs ≡ size =
-    sym (big_number-take xs enough) ∙ ap (λ n. big_number 2 (take (n - 2) xs)) (sym four) ∙ ap (big_number 2) is_body ∙ s.1 in
-    rw (k, four) (parted xs 2 (Some (big_number 2 xs)) ∙ rw (low2, after_is, size_is) refl)
+-- what the options of octets tell beside what was told before them
+abbrev pub told_behind : List ℕ → Told → Option Told
+told_behind xs told = option_map (tell told) (options_behind xs 0)
 
-untold : {A : Type 0} (b : Bool) (x : A) → cond b (Some x) None ≡ None → b ≡ false
-untold true x e = cc
-untold false x e = refl
+tell_first : (told : Told) (first : HeaderOption) (options : List HeaderOption) → tell told (first ∷ options) ≡ tell (told_with told first) options
+tell_first told EndOfOptions options = refl
+tell_first told NoOperation options = refl
+tell_first told (MaximumSegmentSize size) options = refl
+tell_first told (WindowScale shift) options = refl
+tell_first told (Other kind octets) options = refl
 
--- an option of that kind that tells no size
-not_telling : (kind : ℕ) (xs body after : List ℕ) (told : Option ℕ) → kind ≡ 2
-    → body_in xs ≡ Some (body, after) → mss_in body ≡ None → told_behind (kind ∷ xs) 0 told ≡ None
-not_telling kind [] body after told k e m = cc
-not_telling kind (len ∷ xs) body after told k e m =
-    let g = guarded _ _ _ e in
-    let is_body : take (len - 2) xs ≡ body = ap (λ (p : List ℕ × List ℕ). p.0) g.1 in
-    let other_len : nat_eq (length (take (len - 2) xs)) 2 ≡ false = rw is_body (untold _ _ m) in
-    let not_four : nat_eq len 4 ≡ false = grind (arith, nat_tests, length-take (len - 2) xs, other_len, g.0) in
-    rw (k, not_four) refl
+-- the first option tells its part, if it is one
+first_tells : (told next : Told) (first : Option HeaderOption) (rest : Option (List HeaderOption)) → option_map (told_with told) first ≡ Some next
+    → option_map (tell told) (with_first first rest) ≡ option_map (tell next) rest
+first_tells told next None rest e = cc
+first_tells told next (Some first) None e = refl
+first_tells told next (Some first) (Some options) e =
+    let is : told_with told first ≡ next = cc in
+    ap Some (tell_first told first options ∙ ap (λ (t : Told). tell t options) is)
+
+first_tells_nothing : (told : Told) (first : Option HeaderOption) (rest : Option (List HeaderOption)) → option_map (told_with told) first ≡ None
+    → option_map (tell told) (with_first first rest) ≡ None
+first_tells_nothing told None rest e = refl
+first_tells_nothing told (Some first) rest e = cc
 
 -- a list by its first octet and the others
 split : (rest : List ℕ) → 1 ≤ length rest → rest ≡ get_or rest 0 0 ∷ take (length rest - 1) (drop 1 rest)
 split [] h = absurd (omega arith)
 split (x ∷ xs) h = ap (λ (ys : List ℕ). x ∷ ys) (sym (take_all _ xs (omega arith)))
 
-pub at_none : (rest : List ℕ) (told : Option ℕ) → 1 ≤ length rest → get_or rest 0 0 ≡ 1
-    → told_behind rest 0 told ≡ told_behind (take (length rest - 1) (drop 1 rest)) 0 told
-at_none rest told h e = ap (λ (xs : List ℕ). told_behind xs 0 told) (split rest h) ∙ kind_none _ _ told e
+-- the octets from a kind on, by what they are read as
+read_at : (rest : List ℕ) (told : Told) (kind : ℕ) (read : Option (List HeaderOption)) → 1 ≤ length rest → get_or rest 0 0 ≡ kind
+    → options_behind (kind ∷ take (length rest - 1) (drop 1 rest)) 0 ≡ read → told_behind rest told ≡ option_map (tell told) read
+read_at rest told kind read h k e =
+    ap (λ (xs : List ℕ). told_behind xs told) (split rest h)
+    ∙ ap (λ (n : ℕ). told_behind (n ∷ take (length rest - 1) (drop 1 rest)) told) k ∙ ap (option_map (tell told)) e
 
-pub at_other : (rest body after : List ℕ) (told : Option ℕ) → 1 ≤ length rest → get_or rest 0 0 ≢ 0 → get_or rest 0 0 ≢ 1 → get_or rest 0 0 ≢ 2
-    → body_in (take (length rest - 1) (drop 1 rest)) ≡ Some (body, after) → told_behind rest 0 told ≡ told_behind after 0 told
-at_other rest body after told h a b c e = ap (λ (xs : List ℕ). told_behind xs 0 told) (split rest h) ∙ other _ _ body after told a b c e
+pub at_none : (rest : List ℕ) (told : Told) → 1 ≤ length rest → get_or rest 0 0 ≡ 1
+    → told_behind rest told ≡ told_behind (take (length rest - 1) (drop 1 rest)) told
+at_none rest told h k = read_at rest told 1 _ h k (behind_none (take (length rest - 1) (drop 1 rest))) ∙ first_tells told told (Some NoOperation) _ refl
 
-pub at_telling : (rest body after : List ℕ) (size : ℕ) (told : Option ℕ) → 1 ≤ length rest → get_or rest 0 0 ≡ 2
-    → body_in (take (length rest - 1) (drop 1 rest)) ≡ Some (body, after) → mss_in body ≡ Some size → told_behind rest 0 told ≡ told_behind after 0 (Some size)
-at_telling rest body after size told h k e m = ap (λ (xs : List ℕ). told_behind xs 0 told) (split rest h) ∙ telling _ _ body after size told k e m
+pub at_option : (rest body after : List ℕ) (told next : Told) → 1 ≤ length rest → get_or rest 0 0 ≢ 0 → get_or rest 0 0 ≢ 1
+    → body_in (take (length rest - 1) (drop 1 rest)) ≡ Some (body, after)
+    → option_map (told_with told) (option_in (get_or rest 0 0) body) ≡ Some next → told_behind rest told ≡ told_behind after next
+at_option rest body after told next h a b e t =
+    read_at rest told _ _ h refl (behind_option _ _ body after a b e) ∙ first_tells told next (option_in (get_or rest 0 0) body) _ t
 
-pub at_no_option : (rest : List ℕ) (told : Option ℕ) → 1 ≤ length rest → get_or rest 0 0 ≢ 0 → get_or rest 0 0 ≢ 1
-    → body_in (take (length rest - 1) (drop 1 rest)) ≡ None → told_behind rest 0 told ≡ None
-at_no_option rest told h a b e = ap (λ (xs : List ℕ). told_behind xs 0 told) (split rest h) ∙ no_option _ _ told a b e
+pub at_no_option : (rest : List ℕ) (told : Told) → 1 ≤ length rest → get_or rest 0 0 ≢ 0 → get_or rest 0 0 ≢ 1
+    → body_in (take (length rest - 1) (drop 1 rest)) ≡ None → told_behind rest told ≡ None
+at_no_option rest told h a b e = read_at rest told _ None h refl (behind_no_option _ _ a b e)
 
-pub at_not_telling : (rest body after : List ℕ) (told : Option ℕ) → 1 ≤ length rest → get_or rest 0 0 ≡ 2
-    → body_in (take (length rest - 1) (drop 1 rest)) ≡ Some (body, after) → mss_in body ≡ None → told_behind rest 0 told ≡ None
-at_not_telling rest body after told h k e m = ap (λ (xs : List ℕ). told_behind xs 0 told) (split rest h) ∙ not_telling _ _ body after told k e m
+pub at_wrong_body : (rest body after : List ℕ) (told : Told) → 1 ≤ length rest → get_or rest 0 0 ≢ 0 → get_or rest 0 0 ≢ 1
+    → body_in (take (length rest - 1) (drop 1 rest)) ≡ Some (body, after)
+    → option_map (told_with told) (option_in (get_or rest 0 0) body) ≡ None → told_behind rest told ≡ None
+at_wrong_body rest body after told h a b e t =
+    read_at rest told _ _ h refl (behind_option _ _ body after a b e) ∙ first_tells_nothing told (option_in (get_or rest 0 0) body) _ t
 
 -- the end of the options
-pub at_end : (rest : List ℕ) (told : Option ℕ) → 1 ≤ length rest → get_or rest 0 0 ≡ 0 → told_behind rest 0 told ≡ Some told
-at_end rest told h e = ap (λ (xs : List ℕ). told_behind xs 0 told) (split rest h) ∙ kind_end _ _ told e
+pub at_end : (rest : List ℕ) (told : Told) → 1 ≤ length rest → get_or rest 0 0 ≡ 0 → told_behind rest told ≡ Some told
+at_end rest told h k = read_at rest told 0 _ h k (behind_end (take (length rest - 1) (drop 1 rest)))
 
-pub at_nothing : (rest : List ℕ) (told : Option ℕ) → length rest < 1 → told_behind rest 0 told ≡ Some told
+pub at_nothing : (rest : List ℕ) (told : Told) → length rest < 1 → told_behind rest told ≡ Some told
 at_nothing [] told h = refl
 at_nothing (x ∷ rest) told h = absurd (omega arith)

@@ -3,3 +3,4 @@ pub mod Options
 pub mod Segment
 pub mod Sent
 pub mod Reading
+pub mod Telling

@@ -1,14 +1,16 @@
 -- The options of a TCP header: their shape, and what stands behind the end of the list (RFC 9293 section 3.1); the kinds 0,
--- 1 and 2 (section 3.2).
+-- 1 and 2 (section 3.2), and 3 (RFC 7323 section 2.2).
 use Rattle.std.specs.Prelude.{◌≡◌, ℕ, ◌+◌, ◌≤◌, ◌<◌, ◌^◌, List, [], ◌∷◌, length, Option, Some}
 use Rattle.std.specs.List.{flat_map}
 use Rattle.byteorder.specs.Endian.{big_bytes}
 
--- one option: the end of the list, no operation, the maximum segment size, or another kind with its octets
+-- one option: the end of the list, no operation, the maximum segment size, the shift of the sender's windows, or another kind
+-- with its octets
 pub data HeaderOption : Type 0 where
   EndOfOptions : HeaderOption
   NoOperation : HeaderOption
   MaximumSegmentSize : ℕ → HeaderOption
+  WindowScale : ℕ → HeaderOption
   Other : ℕ → List ℕ → HeaderOption
 
 -- the octets of an option: its kind, and but for the first two its length, itself included
@@ -16,18 +18,20 @@ abbrev pub option_octets : HeaderOption → List ℕ
 option_octets EndOfOptions = 0 ∷ []
 option_octets NoOperation = 1 ∷ []
 option_octets (MaximumSegmentSize size) = 2 ∷ 4 ∷ big_bytes 2 size
+option_octets (WindowScale shift) = 3 ∷ 3 ∷ shift ∷ []
 option_octets (Other kind octets) = kind ∷ (2 + length octets) ∷ octets
 
 -- the octets of options, one after another
 abbrev pub joined : List HeaderOption → List ℕ
 joined options = flat_map option_octets options
 
--- an option that octets can spell: each number fits its field, and `Other` is none of the three kinds above
+-- an option that octets can spell: each number fits its field, and `Other` is none of the four kinds above
 abbrev pub IsOption : HeaderOption → Type 0
 IsOption EndOfOptions = Unit {0}
 IsOption NoOperation = Unit {0}
 IsOption (MaximumSegmentSize size) = size < 2 ^ 16
-IsOption (Other kind octets) = (3 ≤ kind) × (kind < 2 ^ 8) × (2 + length octets < 2 ^ 8)
+IsOption (WindowScale shift) = shift < 2 ^ 8
+IsOption (Other kind octets) = (4 ≤ kind) × (kind < 2 ^ 8) × (2 + length octets < 2 ^ 8)
 
 -- What may stand between a list of options and the end of the header: nothing, or anything behind the
 -- end of the list, behind which no option stands.
@@ -47,3 +51,15 @@ abbrev pub last_mss : Option ℕ → List HeaderOption → Option ℕ
 last_mss told [] = told
 last_mss told (MaximumSegmentSize size ∷ rest) = last_mss (Some size) rest
 last_mss told (option ∷ rest) = last_mss told rest
+
+-- an option other than the window scale option
+abbrev pub TellsNoScale : HeaderOption → Type 0
+TellsNoScale (WindowScale shift) = ⊥
+TellsNoScale option = Unit {0}
+
+-- The shift in a list of options, read in the same way: that of the last window scale option (RFC 7323 section 2.2).
+-- `laws::last_scale_stands` says so without a walk.
+abbrev pub last_scale : Option ℕ → List HeaderOption → Option ℕ
+last_scale told [] = told
+last_scale told (WindowScale shift ∷ rest) = last_scale (Some shift) rest
+last_scale told (option ∷ rest) = last_scale told rest

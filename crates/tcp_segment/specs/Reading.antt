@@ -8,14 +8,15 @@ use Rattle.tcp_segment.specs.declared.TheConstants.{FIXED_LEN}
 use Rattle.tcp_segment.specs.declared.fault.SegmentFault.{SegmentFault}
 use Rattle.tcp_segment.specs.declared.fault.SegmentFault.TheVariants.{UpperHeader, UpperSum}
 use Rattle.tcp_segment.specs.declared.flags.Flags.{Flags}
-use Rattle.tcp_segment.specs.Options.{HeaderOption, EndOfOptions, NoOperation, MaximumSegmentSize, Other}
+use Rattle.tcp_segment.specs.Options.{HeaderOption, EndOfOptions, NoOperation, MaximumSegmentSize, WindowScale, Other}
 use Rattle.ipv4.specs.declared.addr.Addr.{Addr}
 use Rattle.inet_sum.specs.Sum.{sum_of}
 use Rattle.tcp_segment.specs.Segment.{Segment, summed_octets}
 
--- the option, and those behind it where they are well-formed
-abbrev pub with_first : HeaderOption → Option (List HeaderOption) → Option (List HeaderOption)
-with_first first rest = option_map (λ options. first ∷ options) rest
+-- an option and those behind it, where it and they are well-formed
+abbrev pub with_first : Option HeaderOption → Option (List HeaderOption) → Option (List HeaderOption)
+with_first None rest = None
+with_first (Some first) rest = option_map (λ options. first ∷ options) rest
 
 -- of the octets of an option from its length on: those behind its length, and what stands behind the option
 abbrev pub body_in : List ℕ → Option (List ℕ × List ℕ)
@@ -26,6 +27,17 @@ body_in (len ∷ xs) = if nat_lt len 2 || nat_lt (length xs) (len - 2) then None
 abbrev pub mss_in : List ℕ → Option ℕ
 mss_in body = if length body == 2 then Some (big_number 2 body) else None
 
+-- the shift in the body of a window scale option
+abbrev pub scale_in : List ℕ → Option ℕ
+scale_in body = if length body == 1 then Some (slice_index body 0) else None
+
+-- the option of a kind that has a length, by its body
+abbrev pub option_in : ℕ → List ℕ → Option HeaderOption
+option_in kind body =
+    if kind == 2 then option_map MaximumSegmentSize (mss_in body)
+    else if kind == 3 then option_map WindowScale (scale_in body)
+    else Some (Other kind body)
+
 -- the options that stand behind so many octets, if they are well-formed
 abbrev pub options_behind : List ℕ → ℕ → Option (List HeaderOption)
 options_behind [] zero = Some []
@@ -35,10 +47,9 @@ options_behind (kind ∷ []) zero =
     if kind == 0 then Some (EndOfOptions ∷ []) else if kind == 1 then Some (NoOperation ∷ []) else None
 options_behind (kind ∷ len ∷ xs) zero =
     if kind == 0 then Some (EndOfOptions ∷ [])
-    else if kind == 1 then with_first NoOperation (options_behind (len ∷ xs) zero)
-    else if kind == 2 then (if len == 4 then with_first (MaximumSegmentSize (big_number 2 xs)) (options_behind xs 2) else None)
+    else if kind == 1 then with_first (Some NoOperation) (options_behind (len ∷ xs) zero)
     else if nat_lt len 2 then None
-    else with_first (Other kind (take (len - 2) xs)) (options_behind xs (len - 2))
+    else with_first (option_in kind (take (len - 2) xs)) (options_behind xs (len - 2))
 
 -- the control bits in the low six bits of an octet
 abbrev pub flags_in : ℕ → Flags

@@ -3,11 +3,11 @@ use Rattle.std.specs.Prelude.{◌≡◌, ℕ, ◌+◌, ◌*◌, ◌<◌, ◌^◌
 use Rattle.byteorder.specs.Endian.{big_bytes}
 use Rattle.inet_sum.specs.Sum.{sum_of, pseudo_octets}
 use Rattle.ipv4.specs.declared.addr.Addr.{Addr}
-use Rattle.tcp_segment.specs.declared.TheConstants.{FIXED_LEN, MSS, DEFAULT_MSS, LEAST_MSS}
+use Rattle.tcp_segment.specs.declared.TheConstants.{FIXED_LEN, MSS, DEFAULT_MSS, LEAST_MSS, MAX_SHIFT}
 use Rattle.tcp_segment.specs.declared.fault.SegmentFault.{SegmentFault}
 use Rattle.tcp_segment.specs.declared.fault.SegmentFault.TheVariants.{UpperHeader, UpperSum}
 use Rattle.tcp_segment.specs.declared.flags.Flags.{Flags}
-use Rattle.tcp_segment.specs.Options.{HeaderOption, joined, AreOptions, last_mss}
+use Rattle.tcp_segment.specs.Options.{HeaderOption, joined, AreOptions, last_mss, last_scale}
 
 -- what a segment says
 pub record Segment : Type 0 where
@@ -103,6 +103,15 @@ send_mss segment = max (unwrap_or (mss_option_of segment) DEFAULT_MSS) LEAST_MSS
 -- SMSS, the most octets that are sent to this peer in one segment (RFC 5681 section 2, RFC 9293 section 3.7.1)
 abbrev pub smss_of : Segment → ℕ
 smss_of segment = min (send_mss segment) MSS
+
+-- the shift in the window scale option of a segment (RFC 7323 section 2.2): that of its last such option, read where SYN is set
+abbrev pub scale_option_of : Segment → Option ℕ
+scale_option_of segment = if segment.flags.syn then last_scale None segment.options else None
+
+-- the shift of the windows that the sender of a segment tells (RFC 7323 section 2.3): none where it has no such option, and never
+-- over the most
+abbrev pub shift_of : Segment → ℕ
+shift_of segment = min (unwrap_or (scale_option_of segment) 0) MAX_SHIFT
 
 -- the length in sequence numbers (RFC 9293 section 3.4): the octets, and one each for SYN and FIN
 abbrev pub span_of : Segment → ℕ

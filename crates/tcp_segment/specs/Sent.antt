@@ -2,12 +2,18 @@
 use Rattle.std.specs.Prelude.{◌≡◌, ℕ, ◌+◌, ◌*◌, ◌<◌, ◌^◌, List, [], ◌∷◌, length, if◌then◌else◌}
 use Rattle.inet_sum.specs.Sum.{checksum_of}
 use Rattle.ipv4.specs.declared.addr.Addr.{Addr}
-use Rattle.tcp_segment.specs.declared.TheConstants.{MSS}
+use Rattle.tcp_segment.specs.declared.TheConstants.{MSS, SHIFT}
 use Rattle.tcp_segment.specs.declared.head.Head.{Head}
-use Rattle.tcp_segment.specs.Options.{MaximumSegmentSize}
+use Rattle.tcp_segment.specs.Options.{HeaderOption, NoOperation, MaximumSegmentSize, WindowScale}
 use Rattle.tcp_segment.specs.Segment.{Segment, FieldsFit, spelling, summed_octets}
 
--- a segment as this stack sends it: with SYN it has the MSS option of this stack (RFC 9293 section 3.7.1), else it has no option
+-- The options that are sent: none without SYN. With SYN the MSS option of this stack (RFC 9293 section 3.7.1), and where the head
+-- offers window scaling, one octet of no operation and the shift of this stack's windows (RFC 7323 section 2.2).
+abbrev pub sent_options : Head → List HeaderOption
+sent_options head =
+    if head.flags.syn then MaximumSegmentSize MSS ∷ (if head.scales then NoOperation ∷ WindowScale SHIFT ∷ [] else []) else []
+
+-- a segment as this stack sends it
 abbrev pub sent_segment : Head → List ℕ → Segment
 sent_segment head octets = record {
   source = head.source;
@@ -17,13 +23,13 @@ sent_segment head octets = record {
   flags = head.flags;
   window = head.window;
   urgent = 0;
-  options = if head.flags.syn then MaximumSegmentSize MSS ∷ [] else [];
+  options = sent_options head;
   octets = octets;
 }
 
 -- the length of its header in words of four octets
 abbrev pub sent_offset : Head → ℕ
-sent_offset head = if head.flags.syn then 6 else 5
+sent_offset head = if head.flags.syn then (if head.scales then 7 else 6) else 5
 
 -- its octets with this checksum: the reserved bits are zero
 abbrev pub sent_with : Head → List ℕ → ℕ → List ℕ

@@ -1,15 +1,15 @@
 //! What this stack puts into a header.
 
-ghost use Rattle.std.specs.Prelude.{◌≡◌, ℕ, ◌+◌, ◌*◌, ◌<◌, ◌≤◌, ◌^◌, [], ◌++◌, length, drop, slice_range, if◌then◌else◌};
+ghost use Rattle.std.specs.Prelude.{◌≡◌, ℕ, ◌+◌, ◌*◌, ◌<◌, ◌≤◌, ◌^◌, [], ◌++◌, ◌&&◌, length, drop, slice_range, if◌then◌else◌};
 ghost use Rattle.inet_sum.specs.Sum.{word_sum, ones_complement, sum_of};
 ghost use Rattle.tcp_segment.specs.Segment.{FieldsFit, control_bits, fixed_fields};
 ghost use Rattle.tcp_segment.specs.Sent.{CanBeSent, sent_segment, sent_offset, sent_with, sent_octets};
 
 use crate::flags::{Flags, octet_of};
-use crate::options::MAXIMUM_SEGMENT_SIZE;
+use crate::options::{MAXIMUM_SEGMENT_SIZE, NO_OPERATION, WINDOW_SCALE};
 use crate::seq::Seq;
 use crate::sum::sum_of_words;
-use crate::{FIXED_LEN, MSS};
+use crate::{FIXED_LEN, MSS, SHIFT};
 use ipv4::Addr;
 
 /// The header of a segment that is sent, but for what the stack determines: the options, the
@@ -28,18 +28,31 @@ pub struct Head {
     pub flags: Flags,
     /// How many octets the sender has room for.
     pub window: u16,
+    /// Whether a segment with SYN offers to scale windows (RFC 7323 section 2.2). It isn't read where SYN isn't set.
+    pub scales: bool,
 }
 
 /// The length of the MSS option, in octets.
 const MSS_OPTION_LEN: usize = 4;
 
+/// The length of the window scale option, in octets.
+const SCALE_OPTION_LEN: u8 = 3;
+
+/// The length of a header with the MSS option, in octets.
+const SIZED_LEN: usize = FIXED_LEN + MSS_OPTION_LEN;
+
+/// The length of a header with the window scale option too, behind one octet of no operation.
+const SCALED_LEN: usize = SIZED_LEN + 1 + SCALE_OPTION_LEN as usize;
+
 impl Head {
-    /// The length of the header, in octets: with SYN it has the MSS option.
+    /// The length of the header, in octets: with SYN it has the MSS option, and the window scale option where that is offered.
     pub fn len(&self) -> usize
         ensures { result ≡ 4 * sent_offset self.now }
     {
-        if self.has_mss_option() {
-            FIXED_LEN + MSS_OPTION_LEN
+        if self.has_scale_option() {
+            SCALED_LEN
+        } else if self.has_mss_option() {
+            SIZED_LEN
         } else {
             FIXED_LEN
         }
@@ -77,6 +90,13 @@ impl Head {
         self.flags.syn
     }
 
+    /// Whether the header carries the window scale option.
+    fn has_scale_option(&self) -> bool
+        ensures { result ≡ (self.now.flags.syn && self.now.scales) }
+    {
+        self.has_mss_option() && self.scales
+    }
+
     /// What the words of the header come to where the checksum is 0, in one's complement: a number of 32 bits counts as its two words.
     fn words(&self) -> u64
         ensures value { (more : ℕ) → ones_complement (result + more) ≡ ones_complement (word_sum (sent_with self.now [] 0) + more) }
@@ -90,10 +110,15 @@ impl Head {
 
     /// What the words of the options come to.
     fn option_words(&self) -> u16
-        ensures { result ≡ (if self.now.flags.syn then 1976 else 0) }
+        ensures { result ≡ (if self.now.flags.syn then (if self.now.scales then 3008 else 1976) else 0) }
     {
-        if self.has_mss_option() {
-            u16::from_be_bytes([MAXIMUM_SEGMENT_SIZE, MSS_OPTION_LEN as u8]) + MSS
+        let sized = u16::from_be_bytes([MAXIMUM_SEGMENT_SIZE, MSS_OPTION_LEN as u8]) + MSS;
+        if self.has_scale_option() {
+            sized
+                + u16::from_be_bytes([NO_OPERATION, WINDOW_SCALE])
+                + u16::from_be_bytes([SCALE_OPTION_LEN, SHIFT])
+        } else if self.has_mss_option() {
+            sized
         } else {
             0
         }
@@ -103,8 +128,7 @@ impl Head {
     fn control(&self) -> u16
         ensures { result ≡ 4096 * sent_offset self.now + control_bits self.now.flags }
     {
-        let offset: u16 = if self.has_mss_option() { 6 } else { 5 };
-        4096 * offset + u16::from(octet_of(self.flags))
+        4096 * (self.len() / 4) as u16 + u16::from(octet_of(self.flags))
     }
 
     /// Writes the header with this checksum.
@@ -117,7 +141,11 @@ impl Head {
         if self.has_mss_option() {
             let [high, low] = MSS.to_be_bytes();
             let option = [MAXIMUM_SEGMENT_SIZE, MSS_OPTION_LEN as u8, high, low];
-            out[FIXED_LEN..FIXED_LEN + MSS_OPTION_LEN].copy_from_slice(&option);
+            out[FIXED_LEN..SIZED_LEN].copy_from_slice(&option);
+            if self.scales {
+                let option = [NO_OPERATION, WINDOW_SCALE, SCALE_OPTION_LEN, SHIFT];
+                out[SIZED_LEN..SCALED_LEN].copy_from_slice(&option);
+            }
         }
     }
 

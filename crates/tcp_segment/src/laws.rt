@@ -1,12 +1,13 @@
 //! Laws of the definitions that the contracts of this crate cite: each is the contract of a function
 //! that does nothing.
 
-ghost use Rattle.std.specs.Prelude.{◌≡◌, ℕ, ◌+◌, ◌-◌, ◌*◌, ◌<◌, ◌≤◌, ◌%◌, ◌^◌, ◌↔◌, pos, ◌-ℤ◌, List, ◌∷◌, ◌++◌, All, length, get_or, Option, Some, None, Result, Ok, Err};
+ghost use Rattle.std.specs.Prelude.{◌≡◌, ℕ, ◌+◌, ◌-◌, ◌*◌, ◌<◌, ◌≤◌, ◌%◌, ◌^◌, ◌↔◌, true, false, if◌then◌else◌, pos, ◌-ℤ◌, List, [], ◌∷◌, ◌++◌, All, length, get_or, Option, Some, None, Result, Ok, Err};
 ghost use Rattle.ipv4.specs.declared.addr.Addr.{Addr};
+ghost use Rattle.tcp_segment.specs.declared.TheConstants.{MSS, SHIFT, MAX_SHIFT};
 ghost use Rattle.tcp_segment.specs.declared.fault.SegmentFault.{SegmentFault};
 ghost use Rattle.tcp_segment.specs.declared.head.Head.{Head};
-ghost use Rattle.tcp_segment.specs.Options.{HeaderOption, MaximumSegmentSize, TellsNoSize, last_mss};
-ghost use Rattle.tcp_segment.specs.Segment.{Segment, HasForm, IsParsed, SumIsRight, Spells};
+ghost use Rattle.tcp_segment.specs.Options.{HeaderOption, MaximumSegmentSize, WindowScale, TellsNoSize, TellsNoScale, last_mss, last_scale};
+ghost use Rattle.tcp_segment.specs.Segment.{Segment, HasForm, IsParsed, SumIsRight, Spells, mss_option_of, scale_option_of};
 ghost use Rattle.tcp_segment.specs.Reading.{segment_in, segment_or_fault};
 ghost use Rattle.tcp_segment.specs.Sent.{CanBeSent, sent_segment, sent_offset, sent_octets};
 ghost use Rattle.tcp_segment.specs.Wire.{wire, past, difference, IsBefore, IsAtMost};
@@ -56,6 +57,22 @@ pub fn last_size_stands()
     ensures none { (options : List HeaderOption) → All TellsNoSize options → last_mss None options ≡ None }
 {}
 
+/// Of several window scale options the last one stands too, and without one there is no shift (RFC 7323 section 2.2).
+pub fn last_scale_stands()
+    ensures last { (before after : List HeaderOption) (shift : ℕ) → All TellsNoScale after
+        → last_scale None (before ++ WindowScale shift ∷ after) ≡ Some shift }
+    ensures none { (options : List HeaderOption) → All TellsNoScale options → last_scale None options ≡ None }
+{}
+
+/// Options go out with SYN alone. With SYN the size of this stack always does, and its shift exactly where the head offers to scale
+/// windows (RFC 9293 section 3.7.1, RFC 7323 section 2.2).
+pub fn options_go_with_syn()
+    ensures without { (head : Head) (octets : List ℕ) → head.flags.syn ≡ false → (sent_segment head octets).options ≡ [] }
+    ensures size { (head : Head) (octets : List ℕ) → head.flags.syn ≡ true → mss_option_of (sent_segment head octets) ≡ Some MSS }
+    ensures scale { (head : Head) (octets : List ℕ) → head.flags.syn ≡ true
+        → scale_option_of (sent_segment head octets) ≡ (if head.scales then Some SHIFT else None) }
+{}
+
 /// What this stack sends has one spelling: no other octets have its form, reserved bits of zero and a right checksum. A
 /// checksum of 0xFFFF is set apart, which is right too where 0 is (RFC 9293 section 3.1).
 pub fn one_spelling()
@@ -72,4 +89,9 @@ pub fn emitted_parses()
     ensures parsed { (src dst : Addr) (head : Head) (octets : List ℕ) (answer : Result Segment SegmentFault)
         → CanBeSent src dst head octets → IsParsed src dst (sent_octets src dst head octets) answer
         → answer ≡ Ok (sent_segment head octets) }
+{}
+
+/// What the shifts are (RFC 7323 sections 2.2 and 2.3).
+pub fn constants()
+    ensures shifts { (SHIFT ≡ 5) × (MAX_SHIFT ≡ 14) }
 {}

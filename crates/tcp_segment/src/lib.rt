@@ -23,6 +23,12 @@ pub const DEFAULT_MSS: u16 = 536;
 /// A lesser MSS option counts as this.
 pub const LEAST_MSS: u16 = 64;
 
+/// The shift that this stack sends in a window scale option: its windows are told in units of 2^5 octets (RFC 7323 section 2.2).
+pub const SHIFT: u8 = 5;
+
+/// A greater shift in a window scale option counts as this (RFC 7323 section 2.3).
+pub const MAX_SHIFT: u8 = 14;
+
 pub use fault::SegmentFault;
 pub use flags::Flags;
 pub use head::Head;

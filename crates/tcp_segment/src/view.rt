@@ -4,15 +4,16 @@ ghost use Rattle.std.specs.Prelude.{◌≡◌, ◌+◌, ◌<◌, ◌≤◌, ◌^
 ghost use Rattle.std.specs.Option.{ok_or};
 ghost use Rattle.byteorder.specs.Endian.{big_number};
 ghost use Rattle.tcp_segment.specs.declared.fault.SegmentFault.TheVariants.{UpperHeader};
-ghost use Rattle.tcp_segment.specs.Segment.{Segment, HasForm, IsParsed, mss_option_of, send_mss, smss_of, span_of};
+ghost use Rattle.tcp_segment.specs.Segment.{Segment, HasForm, IsParsed, mss_option_of, send_mss, smss_of, scale_option_of, shift_of, span_of};
 ghost use Rattle.tcp_segment.specs.Reading.{header_in, offset_in, checksum_in};
 
 use crate::fault::SegmentFault;
 use crate::flags::{Flags, flags_of};
 use crate::head::Head;
+use crate::options::{self, Told};
 use crate::seq::Seq;
 use crate::sum::sum_between;
-use crate::{DEFAULT_MSS, FIXED_LEN, LEAST_MSS, MSS, options};
+use crate::{DEFAULT_MSS, FIXED_LEN, LEAST_MSS, MAX_SHIFT, MSS};
 use byteorder::{BigEndian, ByteOrder};
 use ipv4::Addr;
 use std::marker::Model;
@@ -70,7 +71,7 @@ impl<'a> TcpView<'a> {
     {
         let header = header_len(segment)?;
         let options = &segment[FIXED_LEN..header];
-        options::last_mss(options)?;
+        options::told_by(options)?;
         let head = Head {
             source: u16_at(segment, 0),
             destination: u16_at(segment, 2),
@@ -78,6 +79,7 @@ impl<'a> TcpView<'a> {
             acknowledgement: Seq(u32_at(segment, 8)),
             flags: flags_of(segment[13]),
             window: u16_at(segment, 14),
+            scales: false,
         };
         Ok(TcpView {
             head,
@@ -160,11 +162,7 @@ impl<'a> TcpView<'a> {
     pub fn mss_option(&self) -> Option<u16>
         ensures { result ≡ mss_option_of self.now }
     {
-        if self.head.flags.syn {
-            options::last_mss(self.options).unwrap_or(None)
-        } else {
-            None
-        }
+        self.told().mss
     }
 
     /// SendMSS, the maximum segment size that the sender of this segment takes, in octets (RFC 9293 section 3.7.1): `DEFAULT_MSS`
@@ -180,6 +178,34 @@ impl<'a> TcpView<'a> {
         ensures { result ≡ smss_of self.now }
     {
         self.send_mss().min(MSS)
+    }
+
+    /// The shift in the window scale option (RFC 7323 section 2.2): that of the last such option, and none without SYN or
+    /// without the option.
+    pub fn scale_option(&self) -> Option<u8>
+        ensures { result ≡ scale_option_of self.now }
+    {
+        self.told().scale
+    }
+
+    /// The shift of the windows that the sender of this segment tells where both sides have the option (RFC 7323 section 2.3): 0
+    /// without the option, and at most `MAX_SHIFT`.
+    pub fn shift(&self) -> u8
+        ensures { result ≡ shift_of self.now }
+    {
+        self.scale_option().unwrap_or(0).min(MAX_SHIFT)
+    }
+
+    /// What its options tell, which count with SYN alone.
+    fn told(&self) -> Told
+        ensures mss { result.mss ≡ mss_option_of self.now }
+        ensures scale { result.scale ≡ scale_option_of self.now }
+    {
+        if self.head.flags.syn {
+            options::told_by(self.options).unwrap_or_default()
+        } else {
+            Told::default()
+        }
     }
 
     /// Its own octets, a part of the frame that was parsed.

@@ -4,11 +4,12 @@ use super::{A, B};
 use inet_sum::sum;
 use tcp_segment::{Flags, Head, SegmentFault, Seq, TcpView};
 
-/// The told, the counted and the used maximum segment size, and the length in sequence numbers.
-type Sizes = (Option<u16>, u16, u16, u32);
+/// The told, the counted and the used maximum segment size, the told and the counted shift, and the length in sequence numbers.
+type Sizes = (Option<u16>, u16, u16, Option<u8>, u8, u32);
 
-/// A SYN, and a segment with `hello`: header, payload, octets with two or three more of 7, the segment's length, and its sizes.
-const SEGMENTS: [(Head, &[u8], [u8; 27], usize, Sizes); 2] = [
+/// A SYN, one that offers to scale windows, and a segment with `hello`: header, payload, octets with some more of 7, the segment's
+/// length, and its sizes.
+const SEGMENTS: [(Head, &[u8], [u8; 30], usize, Sizes); 3] = [
     (
         Head {
             source: 49_152,
@@ -24,11 +25,34 @@ const SEGMENTS: [(Head, &[u8], [u8; 27], usize, Sizes); 2] = [
                 urg: false,
             },
             window: 65_535,
+            scales: false,
         },
         b"",
-        *b"\xc0\0\0\x50\xff\xff\xff\xff\0\0\0\0\x60\x02\xff\xff\xc3\xd3\0\0\x02\x04\x05\xb4\x07\x07\x07",
+        *b"\xc0\0\0\x50\xff\xff\xff\xff\0\0\0\0\x60\x02\xff\xff\xc3\xd3\0\0\x02\x04\x05\xb4\x07\x07\x07\x07\x07\x07",
         24,
-        (Some(1_460), 1_460, 1_460, 1),
+        (Some(1_460), 1_460, 1_460, None, 0, 1),
+    ),
+    (
+        Head {
+            source: 49_152,
+            destination: 80,
+            number: Seq(u32::MAX),
+            acknowledgement: Seq(0),
+            flags: Flags {
+                fin: false,
+                syn: true,
+                rst: false,
+                psh: false,
+                ack: false,
+                urg: false,
+            },
+            window: 65_535,
+            scales: true,
+        },
+        b"",
+        *b"\xc0\0\0\x50\xff\xff\xff\xff\0\0\0\0\x70\x02\xff\xff\xaf\xc7\0\0\x02\x04\x05\xb4\x01\x03\x03\x05\x07\x07",
+        28,
+        (Some(1_460), 1_460, 1_460, Some(5), 5, 1),
     ),
     (
         Head {
@@ -45,15 +69,16 @@ const SEGMENTS: [(Head, &[u8], [u8; 27], usize, Sizes); 2] = [
                 urg: false,
             },
             window: 65_535,
+            scales: false,
         },
         b"hello",
-        *b"\xc0\0\0\x50\0\0\0\0\0\0\0\x08\x50\x18\xff\xff\x97\x9a\0\0\x68\x65\x6c\x6c\x6f\x07\x07",
+        *b"\xc0\0\0\x50\0\0\0\0\0\0\0\x08\x50\x18\xff\xff\x97\x9a\0\0\x68\x65\x6c\x6c\x6f\x07\x07\x07\x07\x07",
         25,
-        (None, 536, 536, 5),
+        (None, 536, 536, None, 0, 5),
     ),
 ];
 
-/// What a segment says, but for its payload, its options and its urgent pointer.
+/// What a segment says, but for its payload, its sizes and its urgent pointer.
 fn head_of(view: &TcpView) -> Head {
     Head {
         source: view.source(),
@@ -62,17 +87,30 @@ fn head_of(view: &TcpView) -> Head {
         acknowledgement: view.acknowledgement(),
         flags: view.flags(),
         window: view.window(),
+        scales: view.scale_option().is_some(),
     }
 }
 
+/// What its options and its flags tell of sizes.
+fn sizes_of(view: &TcpView) -> Sizes {
+    (
+        view.mss_option(),
+        view.send_mss(),
+        view.smss(),
+        view.scale_option(),
+        view.shift(),
+        view.span(),
+    )
+}
+
 /// The segment that is written, and its length, where that is the header's and the payload's.
-fn written(head: &Head, payload: &[u8]) -> Option<([u8; 27], usize)> {
+fn written(head: &Head, payload: &[u8]) -> Option<([u8; 30], usize)> {
     let begin = head.len();
-    if payload.len() > 27 - begin {
+    if payload.len() > 30 - begin {
         return None;
     }
     let end = begin + payload.len();
-    let mut out = [7; 27];
+    let mut out = [7; 30];
     out[begin..end].copy_from_slice(payload);
     let payload_sum = sum(&out[begin..end]);
     let len = head.emit(A, B, payload.len(), payload_sum, &mut out);
@@ -85,7 +123,7 @@ fn says(octets: &[u8], head: &Head, payload: &[u8], sizes: &Sizes) -> bool {
         return false;
     };
     (head_of(&view), view.urgent(), view.payload()) == (*head, 0, payload)
-        && (view.mss_option(), view.send_mss(), view.smss(), view.span()) == *sizes
+        && sizes_of(&view) == *sizes
 }
 
 #[test]
@@ -97,7 +135,7 @@ fn segments_are_written_and_read_again(rt: HostRuntime) {
 }
 
 /// Octets, and why they are no segment. Malformed ones are so with a right checksum and with a wrong one.
-const FAULTS: [(&[u8], Option<SegmentFault>); 20] = [
+const FAULTS: [(&[u8], Option<SegmentFault>); 28] = [
     // a data offset of four words, and one past the segment
     (
         b"\xc0\0\0\x50\xff\xff\xff\xff\0\0\0\0\x40\x02\xff\xff\xe3\xd3\0\0\x02\x04\x05\xb4",
@@ -165,6 +203,39 @@ const FAULTS: [(&[u8], Option<SegmentFault>); 20] = [
         b"\xc0\0\0\x50\xff\xff\xff\xff\0\0\0\0\x60\x02\xff\xff\xc5\x88\0\0\x02\x03\x05\0",
         Some(SegmentFault::UpperHeader),
     ),
+    // window scale options of other lengths, with SYN and with ACK alone
+    (
+        b"\xc0\0\0\x50\xff\xff\xff\xff\0\0\0\0\x60\x02\xff\xff\xc8\x89\0\0\x03\x02\0\0",
+        Some(SegmentFault::UpperHeader),
+    ),
+    (
+        b"\xc0\0\0\x50\xff\xff\xff\xff\0\0\0\0\x60\x02\xff\xff\xc7\x89\0\0\x03\x02\0\0",
+        Some(SegmentFault::UpperHeader),
+    ),
+    (
+        b"\xc0\0\0\x50\xff\xff\xff\xff\0\0\0\0\x60\x02\xff\xff\xc8\x87\0\0\x03\x04\0\0",
+        Some(SegmentFault::UpperHeader),
+    ),
+    (
+        b"\xc0\0\0\x50\xff\xff\xff\xff\0\0\0\0\x60\x02\xff\xff\xc7\x87\0\0\x03\x04\0\0",
+        Some(SegmentFault::UpperHeader),
+    ),
+    (
+        b"\xc0\0\0\x50\xff\xff\xff\xff\0\0\0\0\x60\x10\xff\xff\xc8\x7b\0\0\x03\x02\0\0",
+        Some(SegmentFault::UpperHeader),
+    ),
+    (
+        b"\xc0\0\0\x50\xff\xff\xff\xff\0\0\0\0\x60\x10\xff\xff\xc7\x7b\0\0\x03\x02\0\0",
+        Some(SegmentFault::UpperHeader),
+    ),
+    (
+        b"\xc0\0\0\x50\xff\xff\xff\xff\0\0\0\0\x60\x10\xff\xff\xc8\x79\0\0\x03\x04\0\0",
+        Some(SegmentFault::UpperHeader),
+    ),
+    (
+        b"\xc0\0\0\x50\xff\xff\xff\xff\0\0\0\0\x60\x10\xff\xff\xc7\x79\0\0\x03\x04\0\0",
+        Some(SegmentFault::UpperHeader),
+    ),
     // an octet less than a header, and no octets
     (
         b"\xc0\0\0\x50\xff\xff\xff\xff\0\0\0\0\x60\x02\xff\xff\xc3\xd3\0",
@@ -186,6 +257,60 @@ const FAULTS: [(&[u8], Option<SegmentFault>); 20] = [
 fn faults(rt: HostRuntime) {
     for (octets, want) in &FAULTS {
         assert!(rt; TcpView::parse(A, B, octets).err() == *want);
+    }
+}
+
+/// Segments with window scale options, the shift that is told, and the one that counts.
+const SCALES: [(&[u8], Option<u8>, u8); 8] = [
+    (
+        b"\xc0\0\0\x50\xff\xff\xff\xff\0\0\0\0\x60\x02\xff\xff\xc7\x88\0\0\x01\x03\x03\0",
+        Some(0),
+        0,
+    ),
+    (
+        b"\xc0\0\0\x50\xff\xff\xff\xff\0\0\0\0\x60\x02\xff\xff\xc7\x81\0\0\x01\x03\x03\x07",
+        Some(7),
+        7,
+    ),
+    (
+        b"\xc0\0\0\x50\xff\xff\xff\xff\0\0\0\0\x60\x02\xff\xff\xc7\x7a\0\0\x01\x03\x03\x0e",
+        Some(14),
+        14,
+    ),
+    (
+        b"\xc0\0\0\x50\xff\xff\xff\xff\0\0\0\0\x60\x02\xff\xff\xc7\x79\0\0\x01\x03\x03\x0f",
+        Some(15),
+        14,
+    ),
+    (
+        b"\xc0\0\0\x50\xff\xff\xff\xff\0\0\0\0\x60\x02\xff\xff\xc6\x89\0\0\x01\x03\x03\xff",
+        Some(255),
+        14,
+    ),
+    // of two the last one
+    (
+        b"\xc0\0\0\x50\xff\xff\xff\xff\0\0\0\0\x70\x02\xff\xff\xb3\x7a\0\0\x03\x03\x02\x03\x03\x07\0\0",
+        Some(7),
+        7,
+    ),
+    // behind the end of the options, and without SYN
+    (
+        b"\xc0\0\0\x50\xff\xff\xff\xff\0\0\0\0\x70\x02\xff\xff\xb6\x7b\0\0\0\x03\x03\x07\x01\x01\x01\x01",
+        None,
+        0,
+    ),
+    (
+        b"\xc0\0\0\x50\xff\xff\xff\xff\0\0\0\0\x60\x10\xff\xff\xc7\x73\0\0\x01\x03\x03\x07",
+        None,
+        0,
+    ),
+];
+
+#[test]
+fn shifts(rt: HostRuntime) {
+    for (octets, told, counted) in &SCALES {
+        let view = TcpView::parse(A, B, octets).expect(&rt, "a segment");
+        assert!(rt; (view.scale_option(), view.shift()) == (*told, *counted));
     }
 }
 

@@ -1,5 +1,5 @@
 -- A segment or a message stands behind the place of the two heads before they are written.
-use Rattle.std.proofs.Common.{◌≡◌, ◌+◌, ◌-◌, ◌*◌, ◌++◌, ◌≤◌, ℕ, Bool, true, false, cond, List, [], length, take, drop, slice_range, arith, sym, ◌∙◌, ap, length-append}
+use Rattle.std.proofs.Common.{◌≡◌, ◌+◌, ◌-◌, ◌*◌, ◌++◌, ◌≤◌, ℕ, List, [], length, take, drop, slice_range, max, arith, sym, ◌∙◌, ap, length-append}
 use Rattle.ether.specs.declared.mac.Mac.{Mac}
 use Rattle.ipv4.specs.declared.addr.Addr.{Addr}
 use Rattle.icmp.specs.Message.{Message, spelling}
@@ -7,16 +7,19 @@ use Rattle.icmp.specs.Sent.{echo_reply, error_for}
 use Rattle.tcp_segment.specs.declared.head.Head.{Head}
 use Rattle.tcp_segment.specs.Sent.{sent_offset, sent_octets}
 use Rattle.tcp_segment.proofs.Checksum.{sent_octets_len}
+use Rattle.tcp_segment.proofs.Sending.{most_offset}
 use Rattle.interface.specs.declared.reply.Reply.{Reply}
 use Rattle.interface.specs.InterfaceView.{InterfaceView}
-use Rattle.interface.specs.Emission.{segment_frame_to, message_frame_to, reply_frame}
+use Rattle.interface.specs.Emission.{segment_frame_to, message_frame_to, reply_frame, reply_len}
 use Rattle.interface.proofs.Framed.{framed}
 use borrow.Rule.Slice.PartMut.{mid_of}
 use Rattle.interface.proofs.interface.Interface.emit_to.Goals as goal
 
-offset_most : (b : Bool) → 4 * cond b 6 5 ≤ 24
-offset_most true = omega arith
-offset_most false = omega arith
+pub returns-in-Reset-clause-len : goal.returns-in-Reset-clause-len
+returns-in-Reset-clause-len c =
+    let head : Head = c.head.result in
+    let len : c.emit_segment.result ≡ max (34 + 4 * sent_offset head) 60 = omega (arith, c.emit_segment.ensures.len, c.emit-segment_len.ensures.len) in
+    len ∙ ap (λ (x : Head). max (34 + 4 * sent_offset x) 60) c.head.ensures.value ∙ ap (λ (r : Reply). reply_len r) (sym c.in-Reset.is)
 
 pub returns-in-Reset-clause-octets : goal.returns-in-Reset-clause-octets
 unfolding reply_frame
@@ -30,7 +33,7 @@ returns-in-Reset-clause-octets c =
     let to : Addr = c.in-Reset.to in
     let head : Head = c.head.result in
     let is_n : n ≡ 4 * sent_offset head + 0 = c.emit-segment_len.ensures.len in
-    let most : 4 * sent_offset head ≤ 24 = offset_most head.flags.syn in
+    let most : 4 * sent_offset head ≤ 28 = omega (arith, most_offset head) in
     let none : n - 4 * sent_offset head ≡ 0 = omega (arith, is_n) in
     let empty : slice_range (mid_of 34 1480 out) (4 * sent_offset head) n ≡ [] =
     ap (λ (k : ℕ). take k (drop (4 * sent_offset head) (mid_of 34 1480 out))) none in

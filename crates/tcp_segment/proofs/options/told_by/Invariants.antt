@@ -1,10 +1,10 @@
 use Rattle.std.proofs.Common.{◌≡◌, None, length}
 use Rattle.tcp_segment.proofs.Walk.{told_behind}
-use Rattle.tcp_segment.proofs.options.last_mss.Given as goal
+use Rattle.tcp_segment.proofs.options.told_by.Given as goal
 
 -- what is left to read tells what the whole tells
 abbrev pub invariant-loop-rest : goal.invariant-loop-rest
-invariant-loop-rest l = told_behind l.rest 0 l.told ≡ told_behind l.options 0 None
+invariant-loop-rest l = told_behind l.rest l.told ≡ told_behind l.options (record { mss = None; scale = None })
 
 abbrev pub decreases-loop-rest : goal.decreases-loop-rest
 decreases-loop-rest l = length l.rest
