@@ -1,1 +1,2 @@
 pub mod Timeouts
+pub mod Soonest

@@ -1,7 +1,7 @@
 //! Laws of the definitions that the contracts of this crate cite: each is the contract of a function
 //! that does nothing.
 
-ghost use Rattle.std.specs.Prelude.{◌≡◌, ◌≢◌, ◌||◌, ℕ, ◌*◌, ◌^◌, ◌≤◌, min, List, [], ◌∷◌, ◌++◌, replicate, Option};
+ghost use Rattle.std.specs.Prelude.{◌≡◌, ◌≢◌, ◌||◌, ℕ, ◌*◌, ◌^◌, ◌≤◌, min, List, [], ◌∷◌, ◌++◌, replicate, Option, Some};
 ghost use Rattle.clock.specs.declared.moment.Moment.{Moment};
 ghost use Rattle.clock.specs.Moments.{has_come};
 ghost use Rattle.retransmit.specs.declared.timers.Timers.{Timers};
@@ -35,6 +35,16 @@ pub fn next_is_least()
     ensures { (t : Timers) (now : Moment)
         → has_come (next_of t) now
         ≡ (is_due t Retransmission now || is_due t Probe now || is_due t DelayedAck now || is_due t Override now) }
+{}
+
+/// A bound that the deadline of each timer keeps, the next deadline keeps; and where a timer runs, there is a next one, no
+/// later than that timer's. So who waits for the next deadline waits for no timer too long.
+pub fn the_next_deadline_keeps_each_bound()
+    ensures bounded { (t : Timers) (bound next : Moment)
+        → ((kind : TimerKind) (deadline : Moment) → deadline_of t kind ≡ Some deadline → deadline.0 ≤ bound.0)
+        → next_of t ≡ Some next → next.0 ≤ bound.0 }
+    ensures runs { (t : Timers) (kind : TimerKind) (deadline : Moment) → deadline_of t kind ≡ Some deadline
+        → (next : Moment) × (next_of t ≡ Some next) × (next.0 ≤ deadline.0) }
 {}
 
 /// Each kind has its own place: what is put there is told there, and no other kind sees it.

@@ -8,9 +8,9 @@ use Rattle.stream_buf.proofs.Standing.{laid_before, laid_behind, at_more}
 use Rattle.stream_buf.proofs.Taking.{few_left}
 use Rattle.tcp_segment.specs.Wire.{past}
 use Rattle.tcp_halves.specs.Numbers.{is_before}
-use Rattle.tcp_halves.specs.declared.buffers.TheConstants.{CAPACITY}
+use Rattle.tcp_halves.specs.declared.buffers.TheConstants.{LARGEST_CAPACITY}
 use Rattle.tcp_halves.specs.Halves.{Receiving}
-use Rattle.tcp_halves.specs.Stream.{receiving_nothing, buffer_of, ReceivingFits, KeptInWindow, receive_window, after_syn, distance_of, octets_within, octets_gained, after_octets, after_end, after_read}
+use Rattle.tcp_halves.specs.Stream.{size_of, receiving_nothing, buffer_of, ReceivingFits, KeptInWindow, receive_window, after_syn, distance_of, octets_within, octets_gained, after_octets, after_end, after_read}
 use Rattle.tcp_halves.specs.Windows.{receive_room, has_grown, after_advertisement}
 use Rattle.tcp_halves.proofs.Choices.{either}
 
@@ -106,8 +106,8 @@ inserted_receives b distance octets within was =
 -- The receiving half.
 
 -- the window is no wider than the places for octets that may still come
-pub window_has_places : (r : Receiving) → ReceivingFits r → IsReceiving (buffer_of r) → receive_window r ≤ length r.kept
-window_has_places r fits is = omega (arith, fits, is.places)
+pub window_has_places : (r : Receiving) → r.size ≤ r.capacity → ReceivingFits r → IsReceiving (buffer_of r) → receive_window r ≤ length r.kept
+window_has_places r sized fits is = omega (arith, sized, fits, is.places)
 
 -- where any octets of a segment lie in the window, they lie below its edge
 pub within_window : (r : Receiving) (number : ℕ) (octets : List ℕ) → 0 < length (octets_within r number octets)
@@ -125,6 +125,8 @@ within_window r number octets = by (is_before r.rnext number)
 -- what holds of each receiving half
 pub record IsKeeping (r : Receiving) : Type 0 where
   pub small : r.rnext < 2 ^ 32
+  pub sized : r.size ≤ r.capacity
+  pub most : r.capacity ≤ LARGEST_CAPACITY
   pub fits : ReceivingFits r
   pub buffer : IsReceiving (buffer_of r)
   pub kept : KeptInWindow r
@@ -137,14 +139,14 @@ pub gained_fits : (r : Receiving) (number : ℕ) (octets : List ℕ) → IsKeepi
 gained_fits r number octets is =
     let b = buffer_of r in
     let d = distance_of r number in
-    let places = window_has_places r is.fits is.buffer in
+    let places = window_has_places r is.sized is.fits is.buffer in
     by (octets_within r number octets) (within_window r number octets)
   where
     by : (within : List ℕ) → (0 < length within → distance_of r number + length within ≤ receive_window r) → length (joined (buffer_of r) (distance_of r number) within) ≤ receive_window r
     by [] room = let none = ap (λ (l : List ℕ). length l) (nothing_joined (buffer_of r) (distance_of r number) is.buffer) in omega (arith, none)
     by (x ∷ within) room =
         let below = room (omega arith) in
-        let places = window_has_places r is.fits is.buffer in
+        let places = window_has_places r is.sized is.fits is.buffer in
         joined_below (buffer_of r) (distance_of r number) (x ∷ within) (receive_window r) (omega (arith, below, places)) below is.kept
 
 -- so many octets at a distance come into the buffer
@@ -172,20 +174,22 @@ grown_by_none r distance small is =
     let none = nothing_joined (buffer_of r) distance is in
     let count : length (joined (buffer_of r) distance []) ≡ 0 = ap (λ (l : List ℕ). length l) none in
     let rnext : (r.rnext + length (joined (buffer_of r) distance [])) % 2 ^ 32 ≡ r.rnext = omega (arith, small, count) in
-    ap (λ (b : ReceiveView). record { readable = b.readable; kept = b.kept; rnext = (r.rnext + length (joined (buffer_of r) distance [])) % 2 ^ 32; edge = r.edge }) same
-    ∙ ap (λ (n : ℕ). record { readable = r.readable; kept = r.kept; rnext = n; edge = r.edge }) rnext
+    ap (λ (b : ReceiveView). record { readable = b.readable; kept = b.kept; rnext = (r.rnext + length (joined (buffer_of r) distance [])) % 2 ^ 32; edge = r.edge; size = r.size; capacity = r.capacity }) same
+    ∙ ap (λ (n : ℕ). record { readable = r.readable; kept = r.kept; rnext = n; edge = r.edge; size = r.size; capacity = r.capacity }) rnext
 
 grown_keeps : (r : Receiving) (distance : ℕ) (within : List ℕ) → IsKeeping r → distance + length within ≤ receive_window r → IsKeeping (grown r distance within)
 grown_keeps r distance within is room =
     let b = buffer_of r in
     let n = length (joined b distance within) in
-    let places = window_has_places r is.fits is.buffer in
+    let places = window_has_places r is.sized is.fits is.buffer in
     let inside : distance + length within ≤ length r.kept = omega (arith, room, places) in
     let few : n ≤ receive_window r = joined_below b distance within (receive_window r) inside room is.kept in
     let left : past r.edge ((r.rnext + n) % 2 ^ 32) ≡ receive_window r - n = moved r.rnext r.edge n is.small few in
     let readable = ap (λ (l : List ℕ). length l) (inserted_readable b distance within) in
     record {
       small = omega arith;
+      sized = is.sized;
+      most = is.most;
       fits = omega (arith, left, few, readable, length-append r.readable (joined b distance within), is.fits);
       buffer = subst IsReceiving (whole b distance within) (inserted_receives b distance within inside is.buffer);
       kept = subst (λ (w : ℕ). AreBelow (grown r distance within).kept w) (sym left) (inserted_below b distance within (receive_window r) inside room is.kept);
@@ -206,13 +210,15 @@ none_within r number octets is none = by (octets_within r number octets) none
     by [] e = grown_by_none r (distance_of r number) is.small is.buffer
     by (x ∷ within) e = absurd (omega (arith, e))
 
-pub nothing_keeps : IsKeeping receiving_nothing
-nothing_keeps = record { small = omega arith; fits = omega arith; buffer = receives_nothing CAPACITY; kept = none_below CAPACITY 0 }
+pub nothing_keeps : (capacity : ℕ) → capacity ≤ LARGEST_CAPACITY → IsKeeping (receiving_nothing capacity)
+nothing_keeps capacity most = record { small = omega arith; sized = omega arith; most = most; fits = omega arith; buffer = receives_nothing capacity; kept = none_below capacity 0 }
 
 -- where no window is advertised, nothing is kept
-pub syn_keeps : (r : Receiving) (number advertised : ℕ) → IsKeeping r → receive_window r ≡ 0 → length r.readable + advertised ≤ 65535 → IsKeeping (after_syn r number advertised)
+pub syn_keeps : (r : Receiving) (number advertised : ℕ) → IsKeeping r → receive_window r ≡ 0 → length r.readable + advertised ≤ r.size → IsKeeping (after_syn r number advertised)
 syn_keeps r number advertised is shut room = record {
   small = omega arith;
+  sized = is.sized;
+  most = is.most;
   fits = omega (arith, room);
   buffer = is.buffer;
   kept = λ distance octet at. let bad = is.kept distance octet at in absurd (omega (arith, bad, shut));
@@ -231,6 +237,8 @@ end_keeps r is room =
     let left : past r.edge ((r.rnext + 1) % 2 ^ 32) ≡ receive_window r - 1 = moved r.rnext r.edge 1 is.small room in
     record {
       small = omega arith;
+      sized = is.sized;
+      most = is.most;
       fits = omega (arith, left, is.fits);
       buffer = forgotten_receives (buffer_of r) is.buffer;
       kept = none_below (length r.kept) (receive_window (after_end r));
@@ -239,6 +247,8 @@ end_keeps r is room =
 pub read_keeps : (r : Receiving) (count : ℕ) → count ≤ length r.readable → IsKeeping r → IsKeeping (after_read r count)
 read_keeps r count within is = record {
   small = is.small;
+  sized = is.sized;
+  most = is.most;
   fits = omega (arith, length-drop count r.readable, is.fits);
   buffer = receives_read (buffer_of r) count within is.buffer;
   kept = λ distance octet at. is.kept distance octet (sym (at_more r.kept count distance) ∙ at);
@@ -247,9 +257,11 @@ read_keeps r count within is = record {
 -- the window up to the whole room
 widened_keeps : (r : Receiving) → IsKeeping r → has_grown r ≡ true → IsKeeping (record r { edge = (r.rnext + receive_room r) % 2 ^ 32 })
 widened_keeps r is grown =
-    let wide : past ((r.rnext + receive_room r) % 2 ^ 32) r.rnext ≡ receive_room r = omega (arith, is.small) in
+    let wide : past ((r.rnext + receive_room r) % 2 ^ 32) r.rnext ≡ receive_room r = omega (arith, is.small, is.sized, is.most) in
     record {
       small = is.small;
+      sized = is.sized;
+      most = is.most;
       fits = omega (arith, wide, is.fits);
       buffer = is.buffer;
       kept = λ distance octet at. let near = is.kept distance octet at in omega (arith, near, wide, is.fits);
@@ -259,14 +271,16 @@ pub advertisement_keeps : (r : Receiving) → IsKeeping r → IsKeeping (after_a
 advertisement_keeps r is = either Receiving IsKeeping (has_grown r) (record r { edge = (r.rnext + receive_room r) % 2 ^ 32 }) r (widened_keeps r is) (λ small. is)
 
 -- a buffer is seen through its receiving half
-pub seen : (b : ReceiveView) (rnext edge : ℕ) → b.capacity ≡ CAPACITY → b ≡ buffer_of (record { readable = b.readable; kept = b.kept; rnext = rnext; edge = edge })
-seen b rnext edge size = ap (λ (n : ℕ). record { readable = b.readable; kept = b.kept; capacity = n }) size
+pub seen : (b : ReceiveView) (rnext edge size : ℕ) → b ≡ buffer_of (record { readable = b.readable; kept = b.kept; rnext = rnext; edge = edge; size = size; capacity = b.capacity })
+seen b rnext edge size = refl
 
 -- what was taken, step by step
 pub taken_is : (r : Receiving) (number : ℕ) (octets : List ℕ) (b new : ReceiveView) (distance count rnext : ℕ) (within : List ℕ) → b ≡ buffer_of r → distance ≡ distance_of r number
     → within ≡ octets_within r number octets → new ≡ after_insert b distance within → count ≡ length (joined b distance within) → rnext ≡ (r.rnext + count) % 2 ^ 32
-    → after_octets r number octets ≡ record { readable = new.readable; kept = new.kept; rnext = rnext; edge = r.edge }
-taken_is r number octets b new distance count rnext within same at cut after counted moves = cc
+    → after_octets r number octets ≡ record { readable = new.readable; kept = new.kept; rnext = rnext; edge = r.edge; size = r.size; capacity = new.capacity }
+taken_is r number octets b new distance count rnext within same at cut after counted moves =
+    let places : new.capacity ≡ r.capacity = ap (λ (x : ReceiveView). x.capacity) (after ∙ whole b distance within) ∙ ap (λ (x : ReceiveView). x.capacity) same in
+    cc
 
 -- its count is no more than the window
 pub taken_count : (r : Receiving) (number : ℕ) (octets : List ℕ) (b : ReceiveView) (distance count : ℕ) (within : List ℕ) → IsKeeping r → b ≡ buffer_of r → distance ≡ distance_of r number
@@ -277,5 +291,8 @@ taken_count r number octets b distance count within is same at cut counted =
     omega (arith, e, few)
 
 -- a new buffer is that of nothing received
-pub new_is : (b : ReceiveView) → b ≡ nothing_received CAPACITY → receiving_nothing ≡ record { readable = b.readable; kept = b.kept; rnext = 0; edge = 0 }
-new_is b is = ap (λ (x : ReceiveView). record { readable = x.readable; kept = x.kept; rnext = 0; edge = 0 }) (sym is)
+pub new_is : (b : ReceiveView) (size : ℕ) → b ≡ nothing_received b.capacity → size ≡ size_of b.capacity
+    → receiving_nothing b.capacity ≡ record { readable = b.readable; kept = b.kept; rnext = 0; edge = 0; size = size; capacity = b.capacity }
+new_is b size is sized =
+    ap (λ (n : ℕ). record { readable = []; kept = replicate b.capacity None; rnext = 0; edge = 0; size = n; capacity = b.capacity }) (sym sized)
+    ∙ ap (λ (x : ReceiveView). record { readable = x.readable; kept = x.kept; rnext = 0; edge = 0; size = size; capacity = b.capacity }) (sym is)

@@ -2,7 +2,8 @@
 use Rattle.std.specs.Prelude.{ℕ, List, Option}
 
 -- the sending half: the octets taken from the caller and not acknowledged, SND.UNA, SND.NXT (the number after the
--- highest sent), SND.WND, the largest window that the peer ever advertised, SND.WL1, SND.WL2, and the size of the segments that the peer takes
+-- highest sent), SND.WND, the largest window that the peer ever advertised, SND.WL1, SND.WL2, the size of the segments that the peer takes, and how many
+-- octets are held at most
 pub record Sending : Type 0 where
   pub held : List ℕ
   pub una : ℕ
@@ -12,16 +13,15 @@ pub record Sending : Type 0 where
   pub wl1 : ℕ
   pub wl2 : ℕ
   pub smss : ℕ
+  pub size : ℕ
 
 -- the receiving half: the octets in order that the caller has not read, those kept ahead of a gap, by their distance from RCV.NXT, with a place for each
--- octet that may still come, RCV.NXT, and the number after the last that a window advertised has room for
+-- octet that may still come, RCV.NXT, the number after the last that a window advertised has room for, how many octets the half holds at most, and how many
+-- places were made for them
 pub record Receiving : Type 0 where
   pub readable : List ℕ
   pub kept : List (Option ℕ)
   pub rnext : ℕ
   pub edge : ℕ
-
--- the octets that the two buffers of a connection have room for
-pub record Room : Type 0 where
-  pub send : ℕ
-  pub receive : ℕ
+  pub size : ℕ
+  pub capacity : ℕ

@@ -1,6 +1,6 @@
 -- The stream part: what octets taken, sent, acknowledged, arrived and read make of the two halves. Nothing here knows of timers, of how
 -- much the peer takes, or of what goes out first; later rules for those leave this page as it is.
-use Rattle.std.specs.Prelude.{◌≡◌, ℕ, zero, suc, ◌+◌, ◌-◌, ◌%◌, ◌^◌, ◌<◌, ◌≤◌, ◌==◌, ◌&&◌, ◌||◌, nat_lt, nat_le, Bool, if◌then◌else◌, List, [], ◌++◌, length, take, drop, replicate, None, Some, slice_index_or}
+use Rattle.std.specs.Prelude.{◌≡◌, ℕ, zero, suc, ◌+◌, ◌-◌, ◌%◌, ◌^◌, ◌<◌, ◌≤◌, ◌==◌, ◌&&◌, ◌||◌, nat_lt, nat_le, Bool, if◌then◌else◌, List, [], ◌++◌, length, take, drop, replicate, min, None, Some, slice_index_or}
 use Rattle.stream_buf.specs.Receiving.{ReceiveView, joined, after_insert, forgotten}
 use Rattle.tcp_segment.specs.declared.TheConstants.{DEFAULT_MSS}
 use Rattle.tcp_segment.specs.Wire.{past}
@@ -8,17 +8,21 @@ use Rattle.tcp_halves.specs.Numbers.{is_before, later_number}
 use Rattle.tcp_halves.specs.declared.buffers.TheConstants.{CAPACITY}
 use Rattle.tcp_halves.specs.Halves.{Sending, Receiving}
 
--- nothing has come, and no window is advertised
-abbrev pub receiving_nothing : Receiving
-receiving_nothing = record { readable = []; kept = replicate CAPACITY None; rnext = 0; edge = 0 }
+-- How many octets of a buffer count: a window is told in 16 bits, so no more than that many of it.
+abbrev pub size_of : ℕ → ℕ
+size_of capacity = min capacity CAPACITY
+
+-- nothing has come, and no window is advertised; so many places are made
+abbrev pub receiving_nothing : ℕ → Receiving
+receiving_nothing capacity = record { readable = []; kept = replicate capacity None; rnext = 0; edge = 0; size = size_of capacity; capacity = capacity }
 
 -- the buffer of the receiving half
 abbrev pub buffer_of : Receiving → ReceiveView
-buffer_of r = record { readable = r.readable; kept = r.kept; capacity = CAPACITY }
+buffer_of r = record { readable = r.readable; kept = r.kept; capacity = r.capacity }
 
--- the octets that are readable and those that the window advertised has room for never pass the buffer
+-- the octets that are readable and those that the window advertised has room for never pass the size
 abbrev pub ReceivingFits : Receiving → Type 0
-ReceivingFits r = length r.readable + past r.edge r.rnext ≤ CAPACITY
+ReceivingFits r = length r.readable + past r.edge r.rnext ≤ r.size
 
 -- what is kept lies in the window advertised
 abbrev pub KeptInWindow : Receiving → Type 0
@@ -26,7 +30,7 @@ KeptInWindow r = (distance octet : ℕ) → slice_index_or r.kept distance None 
 
 -- how many octets can still be taken from the caller
 abbrev pub send_room : Sending → ℕ
-send_room s = CAPACITY - length s.held
+send_room s = s.size - length s.held
 
 -- how many numbers are sent and not acknowledged
 abbrev pub outstanding : Sending → ℕ
@@ -36,9 +40,9 @@ outstanding s = past s.nxt s.una
 abbrev pub is_new_ack : Sending → ℕ → Bool
 is_new_ack s ack = nat_lt 0 (past ack s.una) && nat_le (past ack s.una) (outstanding s)
 
--- nothing sent yet, and the SYN will have the number isn
-abbrev pub sending_from : ℕ → Sending
-sending_from isn = record { held = []; una = isn; nxt = isn; window = 0; max_window = 0; wl1 = isn; wl2 = isn; smss = DEFAULT_MSS }
+-- nothing sent yet, the SYN will have the number isn, and so many octets are held at most
+abbrev pub sending_from : ℕ → ℕ → Sending
+sending_from size isn = record { held = []; una = isn; nxt = isn; window = 0; max_window = 0; wl1 = isn; wl2 = isn; smss = DEFAULT_MSS; size = size }
 
 -- our SYN is acknowledged, the one number that is outstanding
 abbrev pub after_syn_acknowledged : Sending → Sending

@@ -2,7 +2,6 @@
 use Rattle.std.specs.Prelude.{ℕ, ◌+◌, ◌-◌, ◌*◌, ◌%◌, ◌^◌, ◌==◌, ◌&&◌, ◌||◌, not, nat_le, nat_lt, min, max, Bool, if◌then◌else◌, length}
 use Rattle.tcp_segment.specs.declared.TheConstants.{MSS}
 use Rattle.tcp_halves.specs.Numbers.{is_before}
-use Rattle.tcp_halves.specs.declared.buffers.TheConstants.{CAPACITY}
 use Rattle.tcp_halves.specs.Halves.{Sending, Receiving}
 use Rattle.tcp_halves.specs.Stream.{outstanding, receive_window}
 
@@ -52,7 +51,7 @@ waits_for_more s cwnd overridden = nat_lt 0 (sendable s cwnd) && not (is_worth_s
 
 -- how many octets can still come
 abbrev pub receive_room : Receiving → ℕ
-receive_room r = CAPACITY - length r.readable
+receive_room r = r.size - length r.readable
 
 -- The window to advertise would grow by a segment at least: a smaller step is kept back (section 3.8.6.2.2), so that the peer sends no small segments into it.
 abbrev pub has_grown : Receiving → Bool

@@ -1,9 +1,10 @@
 //! The memory of a connection: one buffer for each direction.
 
-ghost use Rattle.std.specs.Prelude.{◌≡◌, IfOk};
+ghost use Rattle.std.specs.Prelude.{◌≡◌, ◌≤◌, IfOk};
 ghost use Rattle.stream_buf.specs.Receiving.{IsReceiving};
-ghost use Rattle.tcp_halves.specs.Stream.{sending_from, receiving_nothing, buffer_of, ReceivingFits, KeptInWindow};
-ghost use Rattle.tcp_halves.specs.declared.buffers.TheConstants.{CAPACITY};
+ghost use Rattle.tcp_segment.specs.declared.TheConstants.{MSS};
+ghost use Rattle.tcp_halves.specs.declared.buffers.TheConstants.{LARGEST_CAPACITY};
+ghost use Rattle.tcp_halves.specs.Stream.{size_of, sending_from, receiving_nothing, buffer_of, ReceivingFits, KeptInWindow};
 
 use crate::receiver::Receiver;
 use crate::sender::Sender;
@@ -12,12 +13,15 @@ use std::marker::Model;
 use stream_buf::{RecvBuf, SendBuf};
 use tcp_segment::Seq;
 
-/// The octets that each of a connection's two buffers holds at most.
+/// The octets of each of a connection's two buffers, where a window is told as it is: in 16 bits (RFC 9293 section 3.1).
 pub const CAPACITY: usize = 65_535;
+
+/// No buffer has more octets: the largest window that this stack tells where it may scale it (RFC 7323 section 2).
+pub const LARGEST_CAPACITY: usize = 1_048_576;
 
 /// The empty buffers of one connection, made before it opens, so that an open one takes no memory.
 ///
-/// A clause sees them as the octets that each has room for.
+/// A clause sees them as the number of octets that each of the two has room for.
 #[derive(Drop)]
 pub struct Buffers {
     /// That of the sending half.
@@ -27,35 +31,39 @@ pub struct Buffers {
 }
 
 impl Model for Buffers {
-    ghost use Rattle.std.specs.Prelude.{◌≡◌};
+    ghost use Rattle.std.specs.Prelude.{◌≡◌, ◌≤◌, ℕ};
     ghost use Rattle.stream_buf.specs.Sending.{nothing_held};
     ghost use Rattle.stream_buf.specs.Receiving.{nothing_received};
-    ghost use Rattle.tcp_halves.specs.declared.buffers.TheConstants.{CAPACITY};
-    ghost use Rattle.tcp_halves.specs.Halves.{Room};
+    ghost use Rattle.tcp_segment.specs.declared.TheConstants.{MSS};
+    ghost use Rattle.tcp_halves.specs.declared.buffers.TheConstants.{LARGEST_CAPACITY};
 
-    ghost Value = { Room };
+    ghost Value = { ℕ };
 
-    ghost view = { λ b. record { send = b.send.capacity; receive = b.receive.capacity } };
+    ghost view = { λ b. b.receive.capacity };
 
-    ghost invariant = { λ b. (b.send ≡ nothing_held CAPACITY) × (b.receive ≡ nothing_received CAPACITY) };
+    ghost invariant = { λ b. (b.send ≡ nothing_held b.receive.capacity) × (b.receive ≡ nothing_received b.receive.capacity) × (MSS ≤ b.receive.capacity) × (b.receive.capacity ≤ LARGEST_CAPACITY) };
 }
 
 impl Buffers {
-    /// Two empty buffers of `CAPACITY` octets each. Fails only where memory is refused.
-    pub fn new(alloc: Global) -> Result<Buffers, AllocError>
-        ensures send { IfOk result (λ buffers. buffers.send ≡ CAPACITY) }
-        ensures receive { IfOk result (λ buffers. buffers.receive ≡ CAPACITY) }
+    /// Two empty buffers of so many octets each, those of a segment at least: a smaller window would never be told (RFC 9293 section
+    /// 3.8.6.2.2). Fails only where memory is refused.
+    pub fn new(alloc: Global, capacity: usize) -> Result<Buffers, AllocError>
+        requires least { MSS ≤ capacity }
+        requires most { capacity ≤ LARGEST_CAPACITY }
+        ensures { IfOk result (λ buffers. buffers ≡ capacity) }
     {
-        let send = SendBuf::with_capacity(alloc, CAPACITY)?;
-        let receive = RecvBuf::with_capacity(alloc, CAPACITY)?;
+        let send = SendBuf::with_capacity(alloc, capacity)?;
+        let receive = RecvBuf::with_capacity(alloc, capacity)?;
         Ok(Buffers { send, receive })
     }
 
     /// The halves of a connection that opens: nothing is sent, its SYN will have the number `isn`, nothing has come, and no window is
-    /// advertised.
+    /// advertised. Each holds as many octets as its buffer, but no more than a window can be told of.
     pub fn into_halves(self, isn: Seq) -> (Sender, Receiver)
-        ensures sender { result.0 ≡ sending_from isn.0 }
-        ensures receiver { result.1 ≡ receiving_nothing }
+        ensures least { MSS ≤ self }
+        ensures most { self ≤ LARGEST_CAPACITY }
+        ensures sender { result.0 ≡ sending_from (size_of self) isn.0 }
+        ensures receiver { result.1 ≡ receiving_nothing self }
         ensures fits { ReceivingFits result.1 }
         ensures buffer { IsReceiving (buffer_of result.1) }
         ensures kept { KeptInWindow result.1 }

@@ -5,6 +5,7 @@ ghost use Rattle.stream_buf.specs.Receiving.{nothing_received, ranges, IsReceivi
 ghost use Rattle.tcp_halves.specs.Halves.{Receiving};
 ghost use Rattle.tcp_halves.specs.Stream.{receive_window, is_in_window, is_acceptable, receiving_nothing, buffer_of, after_syn, distance_of, octets_within, after_octets, after_read, stands_next, after_end, ReceivingFits, KeptInWindow};
 ghost use Rattle.tcp_segment.specs.Wire.{past};
+ghost use Rattle.tcp_halves.specs.declared.buffers.TheConstants.{LARGEST_CAPACITY};
 ghost use Rattle.tcp_halves.specs.Windows.{receive_room, has_grown, after_advertisement};
 
 use crate::buffers::CAPACITY;
@@ -21,37 +22,49 @@ pub struct Receiver {
     rnext: Seq,
     /// The number behind the last that an advertised window has room for.
     edge: Seq,
+    /// How many octets it holds at most.
+    size: u32,
 }
 
 impl Model for Receiver {
-    ghost use Rattle.std.specs.Prelude.{◌≡◌};
+    ghost use Rattle.std.specs.Prelude.{◌≡◌, ◌≤◌};
     ghost use Rattle.stream_buf.specs.Receiving.{IsReceiving};
     ghost use Rattle.tcp_halves.specs.Halves.{Receiving};
     ghost use Rattle.tcp_halves.specs.Received.{received_by};
     ghost use Rattle.tcp_halves.specs.Stream.{buffer_of, ReceivingFits, KeptInWindow};
-    ghost use Rattle.tcp_halves.specs.declared.buffers.TheConstants.{CAPACITY};
+    ghost use Rattle.tcp_halves.specs.declared.buffers.TheConstants.{LARGEST_CAPACITY};
 
     ghost Value = { Receiving };
 
     ghost view = { received_by };
 
-    ghost invariant = { λ r. (r.buffer.capacity ≡ CAPACITY) × ReceivingFits (received_by r) × IsReceiving (buffer_of (received_by r)) × KeptInWindow (received_by r) };
+    ghost invariant = { λ r. (r.size ≤ r.buffer.capacity) × (r.buffer.capacity ≤ LARGEST_CAPACITY) × ReceivingFits (received_by r) × IsReceiving (buffer_of (received_by r)) × KeptInWindow (received_by r) };
 }
 
 impl Receiver {
     /// Nothing has come, and no window is advertised.
     pub(crate) fn new(buffer: RecvBuf) -> Receiver
-        requires { buffer ≡ nothing_received CAPACITY }
-        ensures value { result ≡ receiving_nothing }
+        requires empty { buffer ≡ nothing_received buffer.capacity }
+        requires most { buffer.capacity ≤ LARGEST_CAPACITY }
+        ensures value { result ≡ receiving_nothing buffer.capacity }
         ensures fits { ReceivingFits result }
         ensures buffer { IsReceiving (buffer_of result) }
         ensures kept { KeptInWindow result }
     {
+        let size = buffer.capacity().min(CAPACITY) as u32;
         Receiver {
             buffer,
             rnext: Seq(0),
             edge: Seq(0),
+            size,
         }
+    }
+
+    /// How many octets it holds at most.
+    pub fn size(&self) -> u32
+        ensures { result ≡ self.now.size }
+    {
+        self.size
     }
 
     /// Whether the caller has read all that came in order.
@@ -83,16 +96,17 @@ impl Receiver {
     }
 
     /// The window to advertise: the whole room where it has grown by enough, else what is left of the one that is known.
-    pub fn next_window(&self) -> u16
-        ensures { result ≡ receive_window (after_advertisement self.now) }
+    pub fn next_window(&self) -> u32
+        ensures value { result ≡ receive_window (after_advertisement self.now) }
+        ensures bound { result ≤ self.now.size }
     {
-        self.next_edge().past(self.rnext) as u16
+        self.next_edge().past(self.rnext)
     }
 
     /// The right edge of the window to advertise.
     fn next_edge(&self) -> Seq
         ensures edge { result.0 ≡ (after_advertisement self.now).edge }
-        ensures near { past result.0 self.now.rnext ≤ CAPACITY }
+        ensures near { past result.0 self.now.rnext ≤ self.now.size }
     {
         if self.has_grown() {
             edge_of(self.rnext, self.room())
@@ -102,10 +116,10 @@ impl Receiver {
     }
 
     /// How many octets can still come.
-    fn room(&self) -> u16
+    fn room(&self) -> u32
         ensures { result ≡ receive_room self.now }
     {
-        self.buffer.room() as u16
+        self.size - self.buffer.readable_len() as u32
     }
 
     /// RCV.WND, the window that is advertised and not used up.
@@ -116,8 +130,8 @@ impl Receiver {
     }
 
     /// The peer's SYN has this number. `advertised` is the window that it knows; none was advertised before.
-    pub fn hear_syn(&mut self, number: Seq, advertised: u16)
-        requires room { length self.old.readable + advertised ≤ CAPACITY }
+    pub fn hear_syn(&mut self, number: Seq, advertised: u32)
+        requires room { length self.old.readable + advertised ≤ self.old.size }
         requires first { receive_window self.old ≡ 0 }
         ensures after { self.new ≡ after_syn self.old number.0 advertised }
         ensures fits { ReceivingFits self.new }
@@ -125,7 +139,7 @@ impl Receiver {
         ensures kept { KeptInWindow self.new }
     {
         self.rnext = number + 1;
-        self.edge = self.rnext + u32::from(advertised);
+        self.edge = self.rnext + advertised;
     }
 
     /// Whether a number lies in the window that is advertised.
@@ -235,9 +249,9 @@ impl Receiver {
 }
 
 /// The number behind a window of so many octets.
-fn edge_of(rnext: Seq, window: u16) -> Seq
+fn edge_of(rnext: Seq, window: u32) -> Seq
     ensures edge { result.0 ≡ (rnext.0 + window) % 2 ^ 32 }
     ensures reach { past result.0 rnext.0 ≡ window }
 {
-    rnext + u32::from(window)
+    rnext + window
 }

@@ -4,8 +4,9 @@ ghost use Rattle.std.specs.Prelude.{◌≡◌, ◌+◌, ◌≤◌, ◌==◌, ◌
 ghost use Rattle.inet_sum.specs.Sum.{sum_of};
 ghost use Rattle.stream_buf.specs.Sending.{nothing_held};
 ghost use Rattle.tcp_segment.specs.Wire.{past};
+ghost use Rattle.tcp_halves.specs.declared.buffers.TheConstants.{LARGEST_CAPACITY};
 ghost use Rattle.tcp_halves.specs.Halves.{Sending};
-ghost use Rattle.tcp_halves.specs.Stream.{send_room, outstanding, is_new_ack, sending_from, after_syn_acknowledged, after_acknowledged, after_sent};
+ghost use Rattle.tcp_halves.specs.Stream.{size_of, send_room, outstanding, is_new_ack, sending_from, after_syn_acknowledged, after_acknowledged, after_sent};
 ghost use Rattle.tcp_halves.specs.Windows.{after_syn_heard, after_window_update, open_window, unsent, usable, sendable, next_count, is_worth_sending, waits_for_more};
 
 use crate::buffers::CAPACITY;
@@ -32,26 +33,29 @@ pub struct Sender {
     wl2: Seq,
     /// The octets that a segment takes at most.
     smss: u16,
+    /// How many octets are held at most.
+    size: usize,
 }
 
 impl Model for Sender {
     ghost use Rattle.std.specs.Prelude.{◌≡◌, ◌≤◌, length};
     ghost use Rattle.tcp_halves.specs.Halves.{Sending};
-    ghost use Rattle.tcp_halves.specs.declared.buffers.TheConstants.{CAPACITY};
+    ghost use Rattle.tcp_halves.specs.declared.buffers.TheConstants.{LARGEST_CAPACITY};
 
     ghost Value = { Sending };
 
-    ghost view = { λ s. record { held = s.buffer.held; una = s.una.0; nxt = s.nxt.0; window = s.window; max_window = s.max_window; wl1 = s.wl1.0; wl2 = s.wl2.0; smss = s.smss } };
+    ghost view = { λ s. record { held = s.buffer.held; una = s.una.0; nxt = s.nxt.0; window = s.window; max_window = s.max_window; wl1 = s.wl1.0; wl2 = s.wl2.0; smss = s.smss; size = s.size } };
 
-    ghost invariant = { λ s. (s.buffer.capacity ≡ CAPACITY) × (length s.buffer.held ≤ CAPACITY) };
+    ghost invariant = { λ s. (length s.buffer.held ≤ s.size) × (s.size ≤ s.buffer.capacity) × (s.size ≤ LARGEST_CAPACITY) };
 }
 
 impl Sender {
     /// Nothing is sent, and the SYN will have the number `isn`.
     pub(crate) fn new(buffer: SendBuf, isn: Seq) -> Sender
-        requires { buffer ≡ nothing_held CAPACITY }
-        ensures { result ≡ sending_from isn.0 }
+        requires empty { buffer ≡ nothing_held buffer.capacity }
+        ensures { result ≡ sending_from (size_of buffer.capacity) isn.0 }
     {
+        let size = buffer.capacity().min(CAPACITY);
         Sender {
             buffer,
             una: isn,
@@ -61,13 +65,15 @@ impl Sender {
             wl1: isn,
             wl2: isn,
             smss: DEFAULT_MSS,
+            size,
         }
     }
 
     /// How many octets are taken and not acknowledged.
     pub fn held_len(&self) -> usize
         ensures value { result ≡ length self.now.held }
-        ensures bound { result ≤ CAPACITY }
+        ensures bound { result ≤ self.now.size }
+        ensures most { result ≤ LARGEST_CAPACITY }
     {
         self.buffer.len()
     }
@@ -106,7 +112,7 @@ impl Sender {
     pub fn room(&self) -> usize
         ensures { result ≡ send_room self.now }
     {
-        self.buffer.room()
+        self.size - self.buffer.len()
     }
 
     /// How many numbers are sent and not acknowledged.

@@ -66,13 +66,13 @@ by_others P v now first acks over =
 
 -- What goes out.
 
--- nothing changed but the two halves, the acknowledgements that are owed, the retransmission state, the timers, and since when a first segment waits
+-- nothing changed but the two halves, the acknowledgements that are owed, whether it has spoken, the retransmission state, the timers, and since when a first segment waits
 abbrev pub Emitted : View → View → Type 0
-Emitted v w = w ≡ record v { sending = w.sending; receiving = w.receiving; owes_ack = w.owes_ack; delays_ack = w.delays_ack; resend = w.resend; timers = w.timers; unheard = w.unheard }
+Emitted v w = w ≡ record v { sending = w.sending; receiving = w.receiving; owes_ack = w.owes_ack; delays_ack = w.delays_ack; spoke = w.spoke; resend = w.resend; timers = w.timers; unheard = w.unheard }
 
 emits_on : (v w x : View) → Emitted v w → Emitted w x → Emitted v x
 emits_on v w x first then_kept =
-    then_kept ∙ ap (λ (u : View). record u { sending = x.sending; receiving = x.receiving; owes_ack = x.owes_ack; delays_ack = x.delays_ack; resend = x.resend; timers = x.timers; unheard = x.unheard }) first
+    then_kept ∙ ap (λ (u : View). record u { sending = x.sending; receiving = x.receiving; owes_ack = x.owes_ack; delays_ack = x.delays_ack; spoke = x.spoke; resend = x.resend; timers = x.timers; unheard = x.unheard }) first
 
 numbers_emitted : (v : View) (offset end : ℕ) (now : Moment) → Emitted v (after_numbers v offset end now)
 numbers_emitted v offset end now =

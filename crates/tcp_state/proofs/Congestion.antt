@@ -320,11 +320,11 @@ stays_kept v e = (moves v e).keeps
 first_size : IsSize 536
 first_size = record { least = omega arith; most = omega arith }
 
-pub opened_kept : (local peer : Endpoint) (isn : ℕ) (now : Moment) → KeepsCongestion (opened_actively local peer isn now)
-opened_kept local peer isn now = record { sound = first_sound 536 false first_size; segment = λ begun. cc }
+pub opened_kept : (capacity : ℕ) (local peer : Endpoint) (isn : ℕ) (now : Moment) → KeepsCongestion (opened_actively capacity local peer isn now)
+opened_kept capacity local peer isn now = record { sound = first_sound 536 false first_size; segment = λ begun. cc }
 
-pub accepted_kept : (local peer : Endpoint) (isn : ℕ) (syn : Segment) (now : Moment) → KeepsCongestion (opened_passively local peer isn syn now)
-accepted_kept local peer isn syn now = record { sound = first_sound 536 false first_size; segment = λ begun. cc }
+pub accepted_kept : (capacity : ℕ) (local peer : Endpoint) (isn : ℕ) (syn : Segment) (now : Moment) → KeepsCongestion (opened_passively capacity local peer isn syn now)
+accepted_kept capacity local peer isn syn now = record { sound = first_sound 536 false first_size; segment = λ begun. cc }
 
 pub one_segment : (v : View) → KeepsCongestion v → is_idle v.state ≡ false → v.sending.smss ≤ v.congestion.cwnd
 one_segment v keeps begun = subst (λ n. n ≤ v.congestion.cwnd) (keeps.segment begun) (holds_segment v.congestion keeps.sound)

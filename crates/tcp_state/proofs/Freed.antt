@@ -10,7 +10,6 @@ use Rattle.tcp_halves.specs.Numbers.{is_before}
 use Rattle.tcp_halves.specs.Halves.{Sending}
 use Rattle.tcp_halves.specs.Stream.{outstanding, is_new_ack, after_acknowledged}
 use Rattle.tcp_halves.specs.Windows.{updates_window, after_window_update}
-use Rattle.tcp_halves.specs.declared.buffers.TheConstants.{CAPACITY}
 use Rattle.tcp_state.specs.View.{View, IsSound, is_opening, is_syn_sent, is_syn_received, is_closed, is_write_finished, takes_flag_number}
 use Rattle.tcp_state.specs.Arrival.{is_acceptable_to, after_establishment, after_new_ack, is_of_fin, fin_acknowledged, after_ack, is_read_on, after_window, is_lost, after_lost, after_segment, after_heard, is_rejected, before, timed_by, after_segment_at}
 use Rattle.tcp_state.specs.Duties.{acknowledges, HoldsFrom}
@@ -73,9 +72,9 @@ abbrev pub Held : ℕ → Sending → Sending → Type 0
 Held number t u = (u.una ≡ number) × (u.held ≡ t.held) × (u.nxt ≡ t.nxt)
 
 -- while our SYN is outstanding, nothing is held, and the SYN alone may be acknowledged
-answering : (t : State) (held out : ℕ) → is_syn_received t ≡ true → held ≤ (if is_opening t || is_write_finished t then 0 else CAPACITY) → out ≤ held + (if takes_flag_number t then 1 else 0) → (held ≡ 0) × (out ≤ 1)
-answering SynReceived held out e few most = (omega (arith, few), omega (arith, few, most))
-answering _ held out e few most = cc
+answering : (size : ℕ) (t : State) (held out : ℕ) → is_syn_received t ≡ true → held ≤ (if is_opening t || is_write_finished t then 0 else size) → out ≤ held + (if takes_flag_number t then 1 else 0) → (held ≡ 0) × (out ≤ 1)
+answering size SynReceived held out e few most = (omega (arith, few), omega (arith, few, most))
+answering size _ held out e few most = cc
 
 syn_is_all : (own una ack first last nxt : ℕ) → first ≡ wire own una → last ≡ wire own ack → una < ack → ack ≤ una + past nxt first → past nxt first ≤ 1 → nxt < 2 ^ 32 → nxt ≡ last
 syn_is_all own una ack first last nxt f l above within one fits = omega (arith, f, l, above, within, one, fits)
@@ -134,7 +133,7 @@ frees_named v s now own una ack sound open_yet acknowledged f l above within =
     let taken : is_rejected v s ≡ false = by (is_rejected v s ≡ false) (is_rejected v s)
     (λ rejected. let u = unsent v s rejected in clash (is_new_ack v.sending s.acknowledgement) new u.old) (λ none. none) in
     let freed = reading_frees v s new (λ received.
-    let only = answering v.state (length v.sending.held) (outstanding v.sending) received sound.held sound.flight in
+    let only = answering v.sending.size v.state (length v.sending.held) (outstanding v.sending) received sound.held sound.flight in
     (syn_is_all own una ack v.sending.una s.acknowledgement v.sending.nxt f l above within only.1 sound.nxt, only.0)) in
     subst P (sym (comes_to v s now lives.1 taken))
     (either View (λ w. P (timed_by (before v s) w now)) (is_lost v s) (after_lost v s) (after_segment v s)

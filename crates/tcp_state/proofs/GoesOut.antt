@@ -105,11 +105,11 @@ opened_heard _ e = refl
 ack_may : (v : View) → IsSound v → is_ack_due v ≡ true → (is_syn_sent v.state || is_closed v.state) ≡ false
 ack_may v sound due =
     let opened = not (is_opening v.state) in
-    let told = opened && not (is_closed v.state) && has_grown v.receiving in
+    let told = opened && not (is_closed v.state) && v.spoke && has_grown v.receiving in
     elim (or_else v.owes_ack told due) [
       | inl owes ↦ none_owed (is_syn_sent v.state || is_closed v.state) v.owes_ack v.delays_ack owes sound.ack
       | inr tells ↦
-          let lives = and_left (opened && not (is_closed v.state)) (has_grown v.receiving) tells in
+          let lives = and_left (opened && not (is_closed v.state)) v.spoke (and_left (opened && not (is_closed v.state) && v.spoke) (has_grown v.receiving) tells) in
           ap (λ b. b || is_closed v.state) (opened_heard v.state (not_true (is_opening v.state) (and_left opened (not (is_closed v.state)) lives))) ∙ not_true (is_closed v.state) (and_right opened (not (is_closed v.state)) lives)
     ]
 

@@ -21,11 +21,11 @@ record IsOpen (state : State) : Type 0 where
   opened : is_opening state ≡ false
   lives : is_closed state ≡ false
 
-open_with : (t : State) (held : ℕ) → 0 < held → held ≤ (if is_opening t || is_write_finished t then 0 else 65535) → IsOpen t
-open_with SynSent held some few = absurd (omega (arith, some, few))
-open_with SynReceived held some few = absurd (omega (arith, some, few))
-open_with Closed held some few = absurd (omega (arith, some, few))
-open_with _ held some few = record { opened = refl; lives = refl }
+open_with : (size : ℕ) (t : State) (held : ℕ) → 0 < held → held ≤ (if is_opening t || is_write_finished t then 0 else size) → IsOpen t
+open_with size SynSent held some few = absurd (omega (arith, some, few))
+open_with size SynReceived held some few = absurd (omega (arith, some, few))
+open_with size Closed held some few = absurd (omega (arith, some, few))
+open_with size _ held some few = record { opened = refl; lives = refl }
 
 open_until : (t : State) → awaits_fin_ack t ≡ true → IsOpen t
 open_until FinWait1 e = record { opened = refl; lives = refl }
@@ -58,7 +58,7 @@ full_goes_out v sound unmarked held window cwnd =
     or_left (nat_le v.sending.smss n || ((outstanding v.sending == 0) && (nat_le (unsent v.sending) (usable v.sending v.congestion.cwnd) || nat_le v.sending.max_window (2 * n)))) v.resend.overridden
     (or_left (nat_le v.sending.smss n) _ (le-leb v.sending.smss n full)) in
     let sends : sends_new v ≡ true = both (nat_lt 0 n) _ (lt-ltb 0 n (omega (arith, full, least))) worth in
-    new_first v sound (open_with v.state (length v.sending.held) (omega (arith, held, least)) sound.held) unmarked ∙ octets_due v v.sending.smss sends (omega (arith, full))
+    new_first v sound (open_with v.sending.size v.state (length v.sending.held) (omega (arith, held, least)) sound.held) unmarked ∙ octets_due v v.sending.smss sends (omega (arith, full))
 
 -- nothing is outstanding: what may go out is all that is held, or half of the largest window
 idle : (v : View) → IsSound v → v.resend.mark ≡ None → v.sending.nxt ≡ v.sending.una → 0 < sendable v.sending v.congestion.cwnd
@@ -71,7 +71,7 @@ idle v sound unmarked none some enough =
     or_left (nat_le v.sending.smss n || ((outstanding v.sending == 0) && (nat_le (unsent v.sending) (usable v.sending v.congestion.cwnd) || nat_le v.sending.max_window (2 * n)))) v.resend.overridden
     (or_right (nat_le v.sending.smss n) _ (both (outstanding v.sending == 0) _ (eq-eqb (outstanding v.sending) 0 out) enough)) in
     let sends : sends_new v ≡ true = both (nat_lt 0 n) _ (lt-ltb 0 n some) worth in
-    new_first v sound (open_with v.state (length v.sending.held) (omega (arith, some)) sound.held) unmarked
+    new_first v sound (open_with v.sending.size v.state (length v.sending.held) (omega (arith, some)) sound.held) unmarked
     ∙ octets_due v (min n v.sending.smss) sends refl
     ∙ ap (λ o. Some (Text (record { offset = o; count = min n v.sending.smss; fin = false }))) out
 
@@ -112,7 +112,7 @@ fin_goes_out v sound unmarked waits all room =
 
 pub probe_goes_out : (v : View) → IsSound v → v.resend.mark ≡ None → v.resend.owes_probe ≡ true → v.sending.window ≡ 0 → (0 < length v.sending.held) ⊎ (awaits_fin_ack v.state ≡ true) → first_due v ≡ Some Probe
 probe_goes_out v sound unmarked owes shut has =
-    let open_yet : IsOpen v.state = elim has [ inl some ↦ open_with v.state (length v.sending.held) some sound.held | inr waits ↦ open_until v.state waits ] in
+    let open_yet : IsOpen v.state = elim has [ inl some ↦ open_with v.sending.size v.state (length v.sending.held) some sound.held | inr waits ↦ open_until v.state waits ] in
     let none : sendable v.sending v.congestion.cwnd ≡ 0 = omega (arith, shut) in
     let none_new : sends_new v ≡ false = ap (λ n. nat_lt 0 n && is_worth_sending v.sending v.congestion.cwnd v.resend.overridden) none in
     let one = awaits_fin_ack v.state && (outstanding v.sending == length v.sending.held) in

@@ -4,6 +4,7 @@ pub mod Segments
 pub mod Events
 pub mod GoesOut
 pub mod Awaited
+pub mod Idle
 pub mod Clocked
 pub mod Edges
 pub mod Sound
@@ -67,3 +68,12 @@ pub mod TooLate
 pub mod EndInOrder
 pub mod Shut
 pub mod MovedOctets
+pub mod SameSizes
+pub mod Spoken
+pub mod ToldRoom
+pub mod OwedAlone
+pub mod Fewer
+pub mod Ordinary
+pub mod Minute
+pub mod TakenOrAnswered
+pub mod Resting

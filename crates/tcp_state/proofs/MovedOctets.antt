@@ -60,10 +60,10 @@ taken_behind v octets now =
     (λ none. record { held = sym (ap (λ (more : List ℕ). v.sending.held ++ more) (none_are octets none) ∙ append-nil v.sending.held); una = refl; nxt = refl; receiving = refl; state = refl })
     (λ some. record { held = refl; una = refl; nxt = refl; receiving = refl; state = refl })
 
-has_room : (held len : ℕ) → (0 < len → held < 65535) → ((65535 - held == 0) && not (len == 0)) ≡ false
-has_room held len room = elim (eqb_tells len 0) [
-  | inl none ↦ ap (λ b. (65535 - held == 0) && not b) none.0 ∙ last (65535 - held == 0)
-  | inr some ↦ elim (eqb_tells (65535 - held) 0) [
+has_room : (size held len : ℕ) → (0 < len → held < size) → ((size - held == 0) && not (len == 0)) ≡ false
+has_room size held len room = elim (eqb_tells len 0) [
+  | inl none ↦ ap (λ b. (size - held == 0) && not b) none.0 ∙ last (size - held == 0)
+  | inr some ↦ elim (eqb_tells (size - held) 0) [
     | inl full ↦ let more = room (positive len some.1) in absurd (omega (arith, full.1, more))
     | inr left ↦ ap (λ b. b && not (len == 0)) left.0
   ]
@@ -76,27 +76,27 @@ has_room held len room = elim (eqb_tells len 0) [
     positive : (len : ℕ) → len ≢ 0 → 0 < len
     positive len some = omega (arith, some)
 
-pub send_takes : (v : View) (octets : List ℕ) (now : Moment) → IsSound v → (is_opening v.state || is_write_closed v.state) ≡ false → (0 < length octets → length v.sending.held < 65535)
-    → (let count = min (length octets) (65535 - length v.sending.held) in (send_answer v octets ≡ Ok count) × TakesBehind (take count octets) v (after_event v (Sends octets now)))
+pub send_takes : (v : View) (octets : List ℕ) (now : Moment) → IsSound v → (is_opening v.state || is_write_closed v.state) ≡ false → (0 < length octets → length v.sending.held < v.sending.size)
+    → (let count = min (length octets) (v.sending.size - length v.sending.held) in (send_answer v octets ≡ Ok count) × TakesBehind (take count octets) v (after_event v (Sends octets now)))
 send_takes v octets now sound open_yet room = (
-  answer v octets sound open_yet ∙ ap (λ b. if b then Err EAGAIN else Ok (send_count v octets)) (has_room (length v.sending.held) (length octets) room),
+  answer v octets sound open_yet ∙ ap (λ b. if b then Err EAGAIN else Ok (send_count v octets)) (has_room v.sending.size (length v.sending.held) (length octets) room),
   subst (TakesBehind (take (send_count v octets) octets) v) (sym (sent v octets now sound open_yet)) (taken_behind v (take (send_count v octets) octets) now),
 )
 
-pub send_waits : (v : View) (octets : List ℕ) (now : Moment) → IsSound v → (is_opening v.state || is_write_closed v.state) ≡ false → 0 < length octets → length v.sending.held ≡ 65535
+pub send_waits : (v : View) (octets : List ℕ) (now : Moment) → IsSound v → (is_opening v.state || is_write_closed v.state) ≡ false → 0 < length octets → length v.sending.held ≡ v.sending.size
     → (send_answer v octets ≡ Err EAGAIN) × (after_event v (Sends octets now) ≡ v)
 send_waits v octets now sound open_yet some full =
-    let none_left : ((send_room v.sending == 0) && not (length octets == 0)) ≡ true = shut (length v.sending.held) (length octets) full some in
-    let few : (length (take (send_count v octets) octets) == 0) ≡ true = eq-eqb (length (take (send_count v octets) octets)) 0 (none (length v.sending.held) (length octets) (length (take (send_count v octets) octets)) full (length-take (send_count v octets) octets)) in (
+    let none_left : ((send_room v.sending == 0) && not (length octets == 0)) ≡ true = shut v.sending.size (length v.sending.held) (length octets) full some in
+    let few : (length (take (send_count v octets) octets) == 0) ≡ true = eq-eqb (length (take (send_count v octets) octets)) 0 (none v.sending.size (length v.sending.held) (length octets) (length (take (send_count v octets) octets)) full (length-take (send_count v octets) octets)) in (
       answer v octets sound open_yet ∙ ap (λ b. if b then Err EAGAIN else Ok (send_count v octets)) none_left,
       sent v octets now sound open_yet ∙ either View (λ w. w ≡ v) (length (take (send_count v octets) octets) == 0) v _ (λ is. refl) (λ more. clash (length (take (send_count v octets) octets) == 0) few more),
     )
   where
-    shut : (held len : ℕ) → held ≡ 65535 → 0 < len → ((65535 - held == 0) && not (len == 0)) ≡ true
-    shut held len full some = ap (λ b. b && not (len == 0)) (eq-eqb (65535 - held) 0 (omega (arith, full))) ∙ elim (eqb_tells len 0) [ inl zero ↦ absurd (omega (arith, zero.1, some)) | inr more ↦ ap not more.0 ]
+    shut : (size held len : ℕ) → held ≡ size → 0 < len → ((size - held == 0) && not (len == 0)) ≡ true
+    shut size held len full some = ap (λ b. b && not (len == 0)) (eq-eqb (size - held) 0 (omega (arith, full))) ∙ elim (eqb_tells len 0) [ inl zero ↦ absurd (omega (arith, zero.1, some)) | inr more ↦ ap not more.0 ]
 
-    none : (held len taken : ℕ) → held ≡ 65535 → taken ≡ min (min len (65535 - held)) len → taken ≡ 0
-    none held len taken full is = omega (arith, full, is)
+    none : (size held len taken : ℕ) → held ≡ size → taken ≡ min (min len (size - held)) len → taken ≡ 0
+    none size held len taken full is = omega (arith, full, is)
 
 -- Reading.
 

@@ -4,7 +4,7 @@ use Rattle.std.proofs.lemmas.Bool.{ltb-true, leb-true}
 use Rattle.tcp_segment.specs.Wire.{past}
 use Rattle.tcp_segment.specs.Segment.{Segment}
 use Rattle.clock.specs.declared.moment.Moment.{Moment}
-use Rattle.tcp_state.specs.declared.emission.Due.TheVariants.{Syn, Text}
+use Rattle.tcp_state.specs.declared.emission.Due.TheVariants.{Syn, Text, Probe, Ack}
 use Rattle.tcp_state.specs.declared.emission.Stretch.{Stretch}
 use Rattle.tcp_state.specs.declared.calls.Refusal.TheVariants.{ECONNREFUSED, ETIMEDOUT}
 use Rattle.tcp_halves.specs.Halves.{Sending, Receiving}
@@ -14,7 +14,7 @@ use Rattle.tcp_state.specs.View.{View, IsSound, is_opening, is_syn_sent, is_syn_
 use Rattle.tcp_state.specs.Timing.{clocked, after_timers}
 use Rattle.tcp_state.specs.Calls.{after_shutdown, aborted_at, after_release}
 use Rattle.tcp_state.specs.Arrival.{reset_error, is_receiving, after_ack, after_window, after_text, after_fin, after_lost, after_heard}
-use Rattle.tcp_state.specs.Due.{first_due, again, fin_alone, new_octets, probe_stretch, end_of, after_ack_paid, after_stretch, after_probe, after_syn_out, after_going_out}
+use Rattle.tcp_state.specs.Due.{first_due, again, fin_alone, new_octets, probe_stretch, end_of, after_ack_paid, after_stretch, after_probe, after_syn_out, after_going_out, after_emitted}
 use Rattle.tcp_state.specs.Edges.{Event, after_first, after_event}
 use Rattle.tcp_state.specs.Positions.{GoesOn, NeverBack, HasNumber}
 use Rattle.tcp_state.proofs.Clocked.{timers_keep, syn_out}
@@ -43,17 +43,17 @@ stays_at before after same = subst (λ n. GoesOn before n) (sym same) (rests bef
 -- What stands in the way of a number that goes back.
 
 -- few octets are held, so that few numbers are outstanding
-pub few_held : (v : View) → IsSound v → length v.sending.held ≤ 65535
+pub few_held : (v : View) → IsSound v → length v.sending.held ≤ 1048576
 few_held v sound = most (is_opening v.state || is_write_finished v.state) (length v.sending.held) sound.held
   where
-    most : (b : Bool) (held : ℕ) → held ≤ (if b then 0 else 65535) → held ≤ 65535
+    most : (b : Bool) (held : ℕ) → held ≤ (if b then 0 else v.sending.size) → held ≤ 1048576
     most true held e = omega (arith, e)
-    most false held e = omega (arith, e)
+    most false held e = omega (arith, e, sound.send_size)
 
-pub few_outstanding : (v : View) → IsSound v → outstanding v.sending ≤ 65536
+pub few_outstanding : (v : View) → IsSound v → outstanding v.sending ≤ 1048577
 few_outstanding v sound = most (takes_flag_number v.state) (length v.sending.held) (outstanding v.sending) (few_held v sound) sound.flight
   where
-    most : (b : Bool) (held o : ℕ) → held ≤ 65535 → o ≤ held + (if b then 1 else 0) → o ≤ 65536
+    most : (b : Bool) (held o : ℕ) → held ≤ 1048576 → o ≤ held + (if b then 1 else 0) → o ≤ 1048577
     most true held o h e = omega (arith, h, e)
     most false held o h e = omega (arith, h, e)
 
@@ -151,7 +151,7 @@ heard : (v w : View) → IsSound v → GoesOn v.sending.una w.sending.una → w.
 heard v w sound una nxt a = record {
   una = una;
   nxt = stays_at v.sending.nxt w.sending.nxt nxt;
-  rnext = λ past_opening. goes v.receiving.rnext w.receiving.rnext a.by (omega (arith, a.within, sound.window)) a.rnext;
+  rnext = λ past_opening. goes v.receiving.rnext w.receiving.rnext a.by (omega (arith, a.within, sound.window, sound.receive_size)) a.rnext;
   edge = λ past_opening. stays_at v.receiving.edge w.receiving.edge a.edge;
 }
 
@@ -204,7 +204,7 @@ by_heard v s sound fits =
 -- Emissions.
 
 -- the later of two numbers
-sent_on : (v : View) (count : ℕ) → IsSound v → count < 2 ^ 17 → GoesOn v.sending.nxt (after_sent v.sending count).nxt
+sent_on : (v : View) (count : ℕ) → IsSound v → count < 2 ^ 21 → GoesOn v.sending.nxt (after_sent v.sending count).nxt
 sent_on v count sound few =
     let end = (v.sending.una + count) % 2 ^ 32 in
     let reach : past end v.sending.una ≡ count = omega (arith, sound.una, few) in
@@ -215,14 +215,14 @@ sent_on v count sound few =
     (λ lt. rests v.sending.nxt)
 
 -- the edge moves up to the free room, or stays
-told_on : (r : Receiving) → r.rnext < 2 ^ 32 → length r.readable + receive_window r ≤ 65535 → GoesOn r.edge (after_advertisement r).edge
-told_on r small fits = either Receiving (λ t. GoesOn r.edge t.edge) (has_grown r) _ r (λ grows. moves) (λ keeps. rests r.edge)
+told_on : (r : Receiving) → r.rnext < 2 ^ 32 → r.size ≤ 65535 → length r.readable + receive_window r ≤ r.size → GoesOn r.edge (after_advertisement r).edge
+told_on r small told fits = either Receiving (λ t. GoesOn r.edge t.edge) (has_grown r) _ r (λ grows. moves) (λ keeps. rests r.edge)
   where
     moves : GoesOn r.edge ((r.rnext + receive_room r) % 2 ^ 32)
-    moves initial position at = (receive_room r - receive_window r, omega arith, omega (arith, small, fits, at))
+    moves initial position at = (receive_room r - receive_window r, omega (arith, told), omega (arith, small, told, fits, at))
 
 -- so many numbers from SND.UNA on went out
-goes_out : (v w : View) (count : ℕ) → IsSound v → count < 2 ^ 17 → w.sending ≡ after_sent v.sending count → w.receiving ≡ v.receiving → NeverBack v w
+goes_out : (v w : View) (count : ℕ) → IsSound v → count < 2 ^ 21 → w.sending ≡ after_sent v.sending count → w.receiving ≡ v.receiving → NeverBack v w
 goes_out v w count sound few sending receiving = record {
   una = stays_at v.sending.una w.sending.una (ap (λ (t : Sending). t.una) sending);
   nxt = subst (λ t. GoesOn v.sending.nxt t.nxt) (sym sending) (sent_on v count sound few);
@@ -236,13 +236,13 @@ pays v w sound same k = record {
   una = k.una;
   nxt = k.nxt;
   rnext = λ past_opening. subst (λ r. GoesOn v.receiving.rnext (after_advertisement r).rnext) (sym same) (advertised v.receiving);
-  edge = λ past_opening. subst (λ r. GoesOn v.receiving.edge (after_advertisement r).edge) (sym same) (told_on v.receiving sound.rnext sound.window);
+  edge = λ past_opening. subst (λ r. GoesOn v.receiving.edge (after_advertisement r).edge) (sym same) (told_on v.receiving sound.rnext sound.receive_size sound.window);
 }
   where
     advertised : (r : Receiving) → GoesOn r.rnext (after_advertisement r).rnext
     advertised r = either Receiving (λ t. GoesOn r.rnext t.rnext) (has_grown r) _ r (λ grows. rests r.rnext) (λ keeps. rests r.rnext)
 
-by_text : (v : View) (stretch : Stretch) (now : Moment) → IsSound v → end_of stretch < 2 ^ 17 → NeverBack v (after_ack_paid (after_stretch v stretch now))
+by_text : (v : View) (stretch : Stretch) (now : Moment) → IsSound v → end_of stretch < 2 ^ 21 → NeverBack v (after_ack_paid (after_stretch v stretch now))
 by_text v stretch now sound few =
     let sent = after_stretch v stretch now in
     let receiving = stretch_receives v stretch now in
@@ -251,7 +251,7 @@ by_text v stretch now sound few =
 by_probe : (v : View) → IsSound v → NeverBack v (after_ack_paid (after_probe v))
 by_probe v sound =
     let receiving = probe_receives v in
-    let few = either Stretch (λ t. end_of t < 2 ^ 17) (length v.sending.held == 0) _ _ (λ none. omega arith) (λ some. omega arith) in
+    let few = either Stretch (λ t. end_of t < 2 ^ 21) (length v.sending.held == 0) _ _ (λ none. omega arith) (λ some. omega arith) in
     pays v (after_probe v) sound receiving (goes_out v (after_probe v) (end_of (probe_stretch v)) sound few (probe_sends v) receiving)
 
 by_syn : (v : View) (now : Moment) → IsSound v → NeverBack v (after_going_out v Syn now)
@@ -270,8 +270,8 @@ flag_number false offset count most e = omega (arith, e)
 by_emission : (v : View) (now : Moment) → IsSound v → NeverBack v (after_first v (first_due v) now)
 by_emission v now sound =
     let few = few_outstanding v sound in
-    let text : (stretch : Stretch) → end_of stretch < 2 ^ 17 → NeverBack v (after_first v (Some (Text stretch)) now) = λ stretch small.
-    let out = after_ack_paid (after_stretch v stretch now) in alike v out (clocked false out now) refl refl (by_text v stretch now sound small) in
+    let text : (stretch : Stretch) → end_of stretch < 2 ^ 21 → NeverBack v (after_first v (Some (Text stretch)) now) = λ stretch small.
+    alike v (after_ack_paid (after_stretch v stretch now)) (after_emitted v (Text stretch) now) refl refl (by_text v stretch now sound small) in
     by_due (λ o. NeverBack v (after_first v o now)) v (record {
       nothing = λ quiet. still v v refl refl refl;
       rst = λ owes. still v _ refl refl refl;
@@ -279,13 +279,13 @@ by_emission v now sound =
       once_more = λ opened mark is goes.
           let within : mark < outstanding v.sending = sound.mark mark is in
           let stretch = again v mark in
-          let size : stretch.offset + stretch.count ≤ 70000 = omega (arith, within, few, sound.segment) in
-          let end = flag_number stretch.fin stretch.offset stretch.count 70000 size in
+          let size : stretch.offset + stretch.count ≤ 1060000 = omega (arith, within, few, sound.segment) in
+          let end = flag_number stretch.fin stretch.offset stretch.count 1060000 size in
           text stretch (omega (arith, end));
       octets = λ opened sends. text (new_octets v) (omega (arith, few, sound.segment));
       fin = λ opened sends. text (fin_alone v) (omega (arith, few));
-      probe = λ opened owes probes. let out = after_ack_paid (after_probe v) in alike v out (clocked false out now) refl refl (by_probe v sound);
-      ack = λ owes. let out = after_ack_paid v in alike v out (clocked false out now) refl refl (pays v v sound refl (still v v refl refl refl));
+      probe = λ opened owes probes. alike v (after_ack_paid (after_probe v)) (after_emitted v Probe now) refl refl (by_probe v sound);
+      ack = λ owes. alike v (after_ack_paid v) (after_emitted v Ack now) refl refl (pays v v sound refl (still v v refl refl refl));
     })
 
 -- Every event.

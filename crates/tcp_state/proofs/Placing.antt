@@ -201,9 +201,11 @@ refused_changes r number octets small refused =
           kept = (inserted_if (buffer_of r) (distance_of r number) (octets_within r number octets) test).kept;
           rnext = (r.rnext + length (if test then front (kept_with r number octets) else [])) % 2 ^ 32;
           edge = r.edge;
+          size = r.size;
+          capacity = r.capacity;
         } ≡ r
     by true e = cc
-    by false e = let same : (r.rnext + 0) % 2 ^ 32 ≡ r.rnext = omega (arith, small) in ap (λ (n : ℕ). record { readable = r.readable; kept = r.kept; rnext = n; edge = r.edge }) same
+    by false e = let same : (r.rnext + 0) % 2 ^ 32 ≡ r.rnext = omega (arith, small) in ap (λ (n : ℕ). record { readable = r.readable; kept = r.kept; rnext = n; edge = r.edge; size = r.size; capacity = r.capacity }) same
 
     many : (first : Bool) (count : ℕ) → (first || nat_le count 32) ≡ false → 32 < count
     many true count e = cc

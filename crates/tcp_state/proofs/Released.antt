@@ -45,7 +45,7 @@ not_before a b e = elim (leb_tells (2 ^ 31) (past a b)) [ inl t ↦ clash (nat_l
 known : (rnext number len : ℕ) → rnext < 2 ^ 32 → number < 2 ^ 32 → len < 2 ^ 16 → past rnext number < 2 ^ 31 → past rnext ((number + len) % 2 ^ 32) < 2 ^ 31 → len ≤ past rnext number
 known rnext number len a b c d e = omega (arith, a, b, c, d, e)
 
-far : (rnext number len : ℕ) → rnext < 2 ^ 32 → number < 2 ^ 32 → len < 2 ^ 16 → 2 ^ 31 ≤ past rnext number → past rnext ((number + len) % 2 ^ 32) < 2 ^ 31 → 65536 ≤ past number rnext
+far : (rnext number len : ℕ) → rnext < 2 ^ 32 → number < 2 ^ 32 → len < 2 ^ 16 → 2 ^ 31 ≤ past rnext number → past rnext ((number + len) % 2 ^ 32) < 2 ^ 31 → 2147418112 ≤ past number rnext
 far rnext number len a b c d e = omega (arith, a, b, c, d, e)
 
 none_new : (r : Receiving) (number : ℕ) (octets : List ℕ) → IsKeeping r → number < 2 ^ 32 → length octets < 2 ^ 16 → is_before r.rnext ((number + length octets) % 2 ^ 32) ≡ false
@@ -56,7 +56,7 @@ none_new r number octets is fits short ends =
     either (List ℕ) (λ l. length l ≡ 0) (is_before r.rnext number) (take ahead_of octets) (take (receive_window r) (drop (past r.rnext number) octets))
     (λ ahead.
     let away = far r.rnext number (length octets) is.small fits short (leb-true (2 ^ 31) (past r.rnext number) ahead) ended in
-    omega (arith, length-take ahead_of octets, away, is.fits))
+    omega (arith, length-take ahead_of octets, away, is.fits, is.sized, is.most))
     (λ behind.
     let all : length octets ≤ past r.rnext number = known r.rnext number (length octets) is.small fits short (not_before r.rnext number behind) ended in
     omega (arith, length-take (receive_window r) (drop (past r.rnext number) octets), length-drop (past r.rnext number) octets, all))

@@ -134,8 +134,8 @@ new_out : (v w : View) (now : Moment) → GoesOut v now w → GoesOut v now (aft
 new_out v w now k = record { timeout = k.timeout; timed = k.timed; overriding = inr refl; others = ap (λ (t : Timers). record t { overriding = None }) k.others; expiries = k.expiries; interval = k.interval; overridden = inr refl }
 
 -- an acknowledgement goes out with them
-paid_out : (v w : View) (now : Moment) → GoesOut v now w → GoesOut v now (after_ack_paid w)
-paid_out v w now k = record { timeout = k.timeout; timed = k.timed; overriding = k.overriding; others = k.others; expiries = k.expiries; interval = k.interval; overridden = k.overridden }
+paid_out : (v w : View) (now : Moment) (spoke : Bool) → GoesOut v now w → GoesOut v now (record (after_ack_paid w) { spoke = spoke })
+paid_out v w now spoke k = record { timeout = k.timeout; timed = k.timed; overriding = k.overriding; others = k.others; expiries = k.expiries; interval = k.interval; overridden = k.overridden }
 
 stretch_out : (v : View) (stretch : Stretch) (now : Moment) → GoesOut v now (after_stretch v stretch now)
 stretch_out v stretch now =
@@ -155,7 +155,7 @@ goes_out v Syn now =
     let sent = after_syn_out v now in
     let n = numbers_out v 0 1 now in
     let k = syn_out v now (GoesOut v now) n (record { timeout = n.timeout; timed = n.timed; overriding = n.overriding; others = n.others; expiries = n.expiries; interval = n.interval; overridden = n.overridden }) in
-    either View (GoesOut v now) (is_syn_received v.state) (after_ack_paid sent) sent (λ received. paid_out v sent now k) (λ first. k)
-goes_out v (Text stretch) now = paid_out v (after_stretch v stretch now) now (stretch_out v stretch now)
-goes_out v Probe now = paid_out v (after_probe v) now (probe_out v now)
+    either View (GoesOut v now) (is_syn_received v.state) (after_ack_paid sent) sent (λ received. paid_out v sent now sent.spoke k) (λ first. k)
+goes_out v (Text stretch) now = paid_out v (after_stretch v stretch now) now true (stretch_out v stretch now)
+goes_out v Probe now = paid_out v (after_probe v) now true (probe_out v now)
 goes_out v Ack now = record { timeout = refl; timed = inl refl; overriding = inl refl; others = refl; expiries = refl; interval = refl; overridden = inl refl }

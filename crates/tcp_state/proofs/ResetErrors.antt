@@ -184,7 +184,7 @@ acting v s sound fits r =
     let both_hold : confirms ≡ true = sym (ap (λ b. if b then confirms else is_acting_reset v s) waits) ∙ chosen in
     let far = past s.acknowledgement v.sending.una in
     let new = and_right s.flags.ack (is_new_ack v.sending s.acknowledgement) both_hold in
-    let one : outstanding v.sending ≤ 1 = one_out v.state (length v.sending.held) (outstanding v.sending) waits sound.held sound.flight in
+    let one : outstanding v.sending ≤ 1 = one_out v.sending.size v.state (length v.sending.held) (outstanding v.sending) waits sound.held sound.flight in
     let some : 0 < far = ltb-true 0 far (and_left (nat_lt 0 far) _ new) in
     let most : far ≤ outstanding v.sending = leb-true far (outstanding v.sending) (and_right (nat_lt 0 far) _ new) in
     inr (inl (

@@ -8,7 +8,6 @@ use Rattle.clock.specs.declared.moment.Moment.{Moment}
 use Rattle.tcp_state.specs.declared.connection.Fate.TheVariants.{Stays, Removed, Rejected}
 use Rattle.tcp_state.specs.declared.state.State.{State}
 use Rattle.tcp_state.specs.declared.state.State.TheVariants.{SynSent}
-use Rattle.tcp_halves.specs.declared.buffers.TheConstants.{CAPACITY}
 use Rattle.tcp_halves.specs.Halves.{Receiving}
 use Rattle.tcp_halves.specs.Stream.{outstanding, is_new_ack, is_in_window, receive_window, is_acceptable}
 use Rattle.tcp_state.specs.View.{View, IsSound, is_opening, is_syn_sent, is_closed, is_over, is_time_wait, is_write_finished, takes_flag_number, after_reset}
@@ -65,9 +64,9 @@ acts_at_rnext v s now past_opening rst e =
     eqb-true s.number v.receiving.rnext (and_right (is_acceptable_to v s) (s.number == v.receiving.rnext) acts)
 
 -- while a connection opens, its SYN alone may be outstanding
-pub one_out : (t : State) (held out : ℕ) → is_syn_sent t ≡ true → held ≤ (if is_opening t || is_write_finished t then 0 else CAPACITY) → out ≤ held + (if takes_flag_number t then 1 else 0) → out ≤ 1
-one_out SynSent held out e few most = omega (arith, few, most)
-one_out _ held out e few most = cc
+pub one_out : (size : ℕ) (t : State) (held out : ℕ) → is_syn_sent t ≡ true → held ≤ (if is_opening t || is_write_finished t then 0 else size) → out ≤ held + (if takes_flag_number t then 1 else 0) → out ≤ 1
+one_out size SynSent held out e few most = omega (arith, few, most)
+one_out size _ held out e few most = cc
 
 pub acts_at_nxt : (v : View) (s : Segment) (now : Moment) → IsSound v → s.acknowledgement < 2 ^ 32 → is_syn_sent v.state ≡ true → s.flags.rst ≡ true → ends_by v (Hears s now) ≡ true
     → (s.flags.ack ≡ true) × (s.acknowledgement ≡ v.sending.nxt)
@@ -75,7 +74,7 @@ acts_at_nxt v s now sound fits waits rst e =
     let chosen = and_right s.flags.rst _ (reset_by v s now rst e) in
     let acts = chosen_then (is_syn_sent v.state) (s.flags.ack && is_new_ack v.sending s.acknowledgement) (is_acting_reset v s) waits chosen in
     let new = and_right s.flags.ack (is_new_ack v.sending s.acknowledgement) acts in
-    let one : outstanding v.sending ≤ 1 = one_out v.state (length v.sending.held) (outstanding v.sending) waits sound.held sound.flight in
+    let one : outstanding v.sending ≤ 1 = one_out v.sending.size v.state (length v.sending.held) (outstanding v.sending) waits sound.held sound.flight in
     let some : 0 < past s.acknowledgement v.sending.una = ltb-true 0 (past s.acknowledgement v.sending.una) (and_left (nat_lt 0 (past s.acknowledgement v.sending.una)) _ new) in
     let most : past s.acknowledgement v.sending.una ≤ outstanding v.sending = leb-true (past s.acknowledgement v.sending.una) (outstanding v.sending) (and_right (nat_lt 0 (past s.acknowledgement v.sending.una)) _ new) in
     (and_left s.flags.ack (is_new_ack v.sending s.acknowledgement) acts, omega (arith, one, some, most, fits, sound.una, sound.nxt))

@@ -15,7 +15,7 @@ use Rattle.tcp_halves.proofs.Choices.{either, clash}
 use Rattle.tcp_state.specs.View.{View, IsSound, is_opening, is_syn_received, is_closed, is_write_finished, awaits_fin_ack, most_outstanding}
 use Rattle.tcp_state.specs.Resend.{mark_past, resend_probed}
 use Rattle.tcp_state.specs.Timing.{probes, clocked}
-use Rattle.tcp_state.specs.Due.{IsHeld, first_due, is_ack_due, again, new_octets, fin_alone, probe_stretch, end_of, after_ack_paid, after_resent, after_first_sent, after_numbers, after_new_octets, brings_new_octets, after_syn_again, after_syn_out, after_stretch, after_probe, after_emitted}
+use Rattle.tcp_state.specs.Due.{IsHeld, first_due, is_ack_due, again, new_octets, fin_alone, probe_stretch, end_of, after_ack_paid, after_speaking, after_resent, after_first_sent, after_numbers, after_new_octets, brings_new_octets, after_syn_again, after_syn_out, after_stretch, after_probe, after_emitted}
 use Rattle.tcp_state.specs.Most.{one_if, left_from, numbers_left, most_due}
 use Rattle.tcp_state.proofs.Clocked.{syn_out}
 use Rattle.tcp_state.proofs.Emissions.{by_due}
@@ -31,16 +31,16 @@ out_after s end una nxt small =
     (λ later. elim (leb_tells (past s.nxt s.una) (past ((s.una + end) % 2 ^ 32) s.una)) [ inl t ↦ omega (arith, behind, t.1) | inr t ↦ clash _ later t.0 ])
     (λ earlier. elim (leb_tells (past s.nxt s.una) (past ((s.una + end) % 2 ^ 32) s.una)) [ inl t ↦ clash _ t.0 earlier | inr t ↦ omega (arith, behind, t.1) ])
 
-held_few : (opening finished : Bool) (held : ℕ) → held ≤ (if opening || finished then 0 else 65535) → held ≤ 65535
-held_few true finished held few = omega (arith, few)
-held_few false true held few = omega (arith, few)
-held_few false false held few = few
+held_few : (opening finished : Bool) (held size : ℕ) → size ≤ 1048576 → held ≤ (if opening || finished then 0 else size) → held ≤ 1048576
+held_few true finished held size most few = omega (arith, few)
+held_few false true held size most few = omega (arith, few)
+held_few false false held size most few = omega (arith, most, few)
 
 -- a window that was told has grown by nothing since
-told_stays : (r : Receiving) → r.rnext < 2 ^ 32 → has_grown (after_advertisement r) ≡ false
-told_stays r small =
+told_stays : (r : Receiving) → r.rnext < 2 ^ 32 → r.size ≤ 65535 → has_grown (after_advertisement r) ≡ false
+told_stays r small told =
     either Receiving (λ t. has_grown t ≡ false) (has_grown r) (record r { edge = (r.rnext + receive_room r) % 2 ^ 32 }) r
-    (λ grown. lt-leb (past ((r.rnext + receive_room r) % 2 ^ 32) r.rnext + 1460) (receive_room r) (omega (arith, small)))
+    (λ grown. lt-leb (past ((r.rnext + receive_room r) % 2 ^ 32) r.rnext + 1460) (receive_room r) (omega (arith, small, told)))
     (λ same. same)
 
 -- What goes out.
@@ -50,6 +50,7 @@ record Sends (v y : View) : Type 0 where
   fewer : numbers_left y < numbers_left v
   reset : y.owes_reset ≡ v.owes_reset
   owes : y.owes_ack ≡ v.owes_ack
+  spoke : y.spoke ≡ v.spoke
   state : y.state ≡ v.state
   receiving : y.receiving ≡ v.receiving
 
@@ -61,23 +62,23 @@ unpaid : (v y : View) → Sends v y → most_due y < most_due v
 unpaid v y s =
     let reset : one_if y.owes_reset ≡ one_if v.owes_reset = ap one_if s.reset in
     let owes : one_if (is_ack_due y) ≡ one_if (is_ack_due v) =
-    ap one_if (ap₂ (λ (b : Bool) (t : State). b || (not (is_opening t) && not (is_closed t) && has_grown y.receiving)) s.owes s.state
-    ∙ ap (λ (r : Receiving). v.owes_ack || (not (is_opening v.state) && not (is_closed v.state) && has_grown r)) s.receiving) in
+    ap one_if (ap₂ (λ (b : Bool) (t : State). b || (not (is_opening t) && not (is_closed t) && y.spoke && has_grown y.receiving)) s.owes s.state
+    ∙ ap₂ (λ (b : Bool) (r : Receiving). v.owes_ack || (not (is_opening v.state) && not (is_closed v.state) && b && has_grown r)) s.spoke s.receiving) in
     let fewer = s.fewer in omega (arith, reset, owes, fewer)
 
 -- once it was told, no window has to be
-none_to_pay : (y : View) → y.receiving.rnext < 2 ^ 32 → is_ack_due (after_ack_paid y) ≡ false
-none_to_pay y small =
-    ap (λ b. not (is_opening y.state) && not (is_closed y.state) && b) (told_stays y.receiving small) ∙ nothing (not (is_opening y.state) && not (is_closed y.state))
+none_to_pay : (y : View) (spoke : Bool) → y.receiving.rnext < 2 ^ 32 → y.receiving.size ≤ 65535 → is_ack_due (record (after_ack_paid y) { spoke = spoke }) ≡ false
+none_to_pay y spoke small told =
+    ap (λ b. not (is_opening y.state) && not (is_closed y.state) && spoke && b) (told_stays y.receiving small told) ∙ nothing (not (is_opening y.state) && not (is_closed y.state) && spoke)
   where
     nothing : (b : Bool) → (b && false) ≡ false
     nothing true = refl
     nothing false = refl
 
-paid : (v y : View) → v.receiving.rnext < 2 ^ 32 → Sends v y → most_due (after_ack_paid y) < most_due v
-paid v y small s =
+paid : (v y : View) (spoke : Bool) → v.receiving.rnext < 2 ^ 32 → v.receiving.size ≤ 65535 → Sends v y → most_due (record (after_ack_paid y) { spoke = spoke }) < most_due v
+paid v y spoke small told s =
     let reset : one_if y.owes_reset ≡ one_if v.owes_reset = ap one_if s.reset in
-    let none : one_if (is_ack_due (after_ack_paid y)) ≡ 0 = ap one_if (none_to_pay y (subst (λ (r : Receiving). r.rnext < 2 ^ 32) (sym s.receiving) small)) in
+    let none : one_if (is_ack_due (record (after_ack_paid y) { spoke = spoke })) ≡ 0 = ap one_if (none_to_pay y spoke (subst (λ (r : Receiving). r.rnext < 2 ^ 32) (sym s.receiving) small) (subst (λ (r : Receiving). r.size ≤ 65535) (sym s.receiving) told)) in
     let fewer = s.fewer in omega (arith, reset, none, fewer)
 
 -- the end of an event makes nothing due
@@ -113,6 +114,7 @@ resent v mark end sound is some small =
           (out_after v.sending end sound.una sound.nxt small) (left_past v.resend.once end (outstanding sent) most) (ap (λ o. left_from o most) is) some (sound.mark mark is) sound.flight;
       reset = refl;
       owes = refl;
+      spoke = refl;
       state = refl;
       receiving = refl;
     }
@@ -123,16 +125,17 @@ first_sent v end now sound some within small = record {
       (out_after v.sending end sound.una sound.nxt small) some within;
   reset = refl;
   owes = refl;
+  spoke = refl;
   state = refl;
   receiving = refl;
 }
 
 -- new octets end their wait, and a SYN that goes out again is remembered: no number more or less
 new_sends : (v y : View) → Sends v y → Sends v (after_new_octets y)
-new_sends v y s = record { fewer = s.fewer; reset = s.reset; owes = s.owes; state = s.state; receiving = s.receiving }
+new_sends v y s = record { fewer = s.fewer; reset = s.reset; owes = s.owes; spoke = s.spoke; state = s.state; receiving = s.receiving }
 
 again_sends : (v y : View) → Sends v y → Sends v (after_syn_again y)
-again_sends v y s = record { fewer = s.fewer; reset = s.reset; owes = s.owes; state = s.state; receiving = s.receiving }
+again_sends v y s = record { fewer = s.fewer; reset = s.reset; owes = s.owes; spoke = s.spoke; state = s.state; receiving = s.receiving }
 
 -- Stretches.
 
@@ -144,7 +147,7 @@ ends_within false offset count held opening awaits few ends = omega (arith, few)
 
 end_small : (v : View) (stretch : Stretch) → IsSound v → IsHeld v stretch → end_of stretch < 2 ^ 32
 end_small v stretch sound h =
-    let held = held_few (is_opening v.state) (is_write_finished v.state) (length v.sending.held) sound.held in
+    let held = held_few (is_opening v.state) (is_write_finished v.state) (length v.sending.held) v.sending.size sound.send_size sound.held in
     let one : one_if stretch.fin ≤ 1 = one_at_most stretch.fin in
     let within = h.held in omega (arith, held, one, within)
 
@@ -179,6 +182,7 @@ probe_goes v sound owes =
           (out_after v.sending end sound.una sound.nxt (omega (arith, small))) (ap one_if owes);
       reset = refl;
       owes = refl;
+      spoke = refl;
       state = refl;
       receiving = refl;
     } in
@@ -190,9 +194,9 @@ probe_goes v sound owes =
 -- The SYN.
 
 -- while the connection opens it is the one number that is outstanding
-opening_few : (opening finished awaits : Bool) (held out : ℕ) → opening ≡ true → held ≤ (if opening || finished then 0 else 65535) → out ≤ held + one_if (opening || awaits) → (out ≤ 1) × (1 ≤ held + one_if (opening || awaits))
-opening_few true finished awaits held out e few most = (omega (arith, few, most), omega arith)
-opening_few false finished awaits held out e few most = cc
+opening_few : (size : ℕ) (opening finished awaits : Bool) (held out : ℕ) → opening ≡ true → held ≤ (if opening || finished then 0 else size) → out ≤ held + one_if (opening || awaits) → (out ≤ 1) × (1 ≤ held + one_if (opening || awaits))
+opening_few size true finished awaits held out e few most = (omega (arith, few, most), omega arith)
+opening_few size false finished awaits held out e few most = cc
 
 marked : (none : Bool) (o : Option ℕ) → none ≡ false → (none || is_some o) ≡ true → (mark : ℕ) × (o ≡ Some mark)
 marked false (Some mark) e goes = (mark, refl)
@@ -202,7 +206,7 @@ marked true o e goes = cc
 syn_goes : (v : View) (now : Moment) → IsSound v → is_opening v.state ≡ true → ((outstanding v.sending == 0) || is_some v.resend.mark) ≡ true → Sends v (after_syn_out v now)
 syn_goes v now sound opening goes =
     let out = outstanding v.sending in
-    let few = opening_few (is_opening v.state) (is_write_finished v.state) (awaits_fin_ack v.state) (length v.sending.held) out opening sound.held sound.flight in
+    let few = opening_few v.sending.size (is_opening v.state) (is_write_finished v.state) (awaits_fin_ack v.state) (length v.sending.held) out opening sound.held sound.flight in
     let numbers : Sends v (after_numbers v 0 1 now) = either View (Sends v) (nat_lt 0 out) (after_resent v 1) (after_first_sent v 1 now)
     (λ before.
     let some : 0 < out = ltb-true 0 out before in
@@ -222,16 +226,16 @@ runs_dry v due now sound first = by_due (λ o. (d : Due) → o ≡ Some d → Fa
   nothing = λ quiet d e. cc;
   rst = λ owes d e. let same : Rst ≡ d = cc in let one : one_if v.owes_reset ≡ 1 = ap one_if owes in subst Falls same (falls (record v { owes_reset = false }) (omega (arith, one)));
   syn = λ opening goes d e. let same : Syn ≡ d = cc in let s = syn_goes v now sound opening goes in
-      subst Falls same (either View Less (is_syn_received v.state) (after_ack_paid (after_syn_out v now)) (after_syn_out v now) (λ received. settles (after_syn_out v now) s) (λ waits. falls (after_syn_out v now) (unpaid v (after_syn_out v now) s)));
+      subst Falls same (either View Less (is_syn_received v.state) (after_ack_paid (after_syn_out v now)) (after_syn_out v now) (λ received. settles (after_syn_out v now) (after_syn_out v now).spoke s) (λ waits. falls (after_syn_out v now) (unpaid v (after_syn_out v now) s)));
   once_more = λ opened mark is goes d e. let same : Text (again v mark) ≡ d = cc in
-      subst Falls same (settles (after_stretch v (again v mark) now) (again_goes v mark now sound is (held_again v mark sound opened (sound.mark mark is))));
-  octets = λ opened sends d e. let same : Text (new_octets v) ≡ d = cc in subst Falls same (settles (after_stretch v (new_octets v) now) (new_goes v (new_octets v) now sound refl (held_new v sound opened sends)));
-  fin = λ opened sends d e. let same : Text (fin_alone v) ≡ d = cc in subst Falls same (settles (after_stretch v (fin_alone v) now) (new_goes v (fin_alone v) now sound refl (held_fin v opened sends)));
-  probe = λ opened owes goes d e. let same : Probe ≡ d = cc in subst Falls same (settles (after_probe v) (probe_goes v sound owes));
+      subst Falls same (settles (after_stretch v (again v mark) now) true (again_goes v mark now sound is (held_again v mark sound opened (sound.mark mark is))));
+  octets = λ opened sends d e. let same : Text (new_octets v) ≡ d = cc in subst Falls same (settles (after_stretch v (new_octets v) now) true (new_goes v (new_octets v) now sound refl (held_new v sound opened sends)));
+  fin = λ opened sends d e. let same : Text (fin_alone v) ≡ d = cc in subst Falls same (settles (after_stretch v (fin_alone v) now) true (new_goes v (fin_alone v) now sound refl (held_fin v opened sends)));
+  probe = λ opened owes goes d e. let same : Probe ≡ d = cc in subst Falls same (settles (after_probe v) true (probe_goes v sound owes));
   ack = λ owes d e. let same : Ack ≡ d = cc in
       let one : one_if (is_ack_due v) ≡ 1 = ap one_if owes in
-      let none : one_if (is_ack_due (after_ack_paid v)) ≡ 0 = ap one_if (none_to_pay v sound.rnext) in
-      subst Falls same (falls (after_ack_paid v) (omega (arith, one, none)));
+      let none : one_if (is_ack_due (after_speaking v)) ≡ 0 = ap one_if (none_to_pay v true sound.rnext sound.receive_size) in
+      subst Falls same (falls (after_speaking v) (omega (arith, one, none)));
 }) due first
   where
     Falls : Due → Type 0
@@ -243,5 +247,5 @@ runs_dry v due now sound first = by_due (λ o. (d : Due) → o ≡ Some d → Fa
     falls : (x : View) → most_due x < most_due v → Less x
     falls x less = let ends = at_its_end x false now in omega (arith, ends, less)
 
-    settles : (y : View) → Sends v y → Less (after_ack_paid y)
-    settles y s = falls (after_ack_paid y) (paid v y sound.rnext s)
+    settles : (y : View) (spoke : Bool) → Sends v y → Less (record (after_ack_paid y) { spoke = spoke })
+    settles y spoke s = falls (record (after_ack_paid y) { spoke = spoke }) (paid v y spoke sound.rnext sound.receive_size s)

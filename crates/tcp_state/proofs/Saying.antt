@@ -50,17 +50,20 @@ octet_at l offset count i within below =
 edge_kept : (r : Receiving) → receive_window (after_advertisement r) ≡ past (after_advertisement r).edge r.rnext
 edge_kept r = either Receiving (λ x. receive_window x ≡ past x.edge r.rnext) (has_grown r) (record r { edge = (r.rnext + receive_room r) % 2 ^ 32 }) r (λ grown. refl) (λ small. refl)
 
+told_size : (r : Receiving) → (after_advertisement r).size ≡ r.size
+told_size r = either Receiving (λ t. t.size ≡ r.size) (has_grown r) (record r { edge = (r.rnext + receive_room r) % 2 ^ 32 }) r (λ grown. refl) (λ small. refl)
+
 window_small : (v : View) → IsSound v → receive_window (after_advertisement v.receiving) < 2 ^ 16
-window_small v sound = let is = advertisement_keeps v.receiving (sound_keeping v sound) in let fits = is.fits in omega (arith, fits)
+window_small v sound = let is = advertisement_keeps v.receiving (sound_keeping v sound) in let fits = is.fits in omega (arith, fits, told_size v.receiving, sound.receive_size)
 
 told : (v w : View) (edge : ℕ) → w.receiving ≡ v.receiving → edge ≡ (after_ack_paid w).receiving.edge → receive_window (after_advertisement v.receiving) ≡ past edge v.receiving.rnext
 told v w edge same is = edge_kept v.receiving ∙ ap (λ n. past n v.receiving.rnext) (sym (is ∙ ap (λ (r : Receiving). (after_advertisement r).edge) same))
 
 -- the window of a SYN alone: nothing was advertised or read yet
-first_told : (r : Receiving) → r.rnext < 2 ^ 32 → receive_window r ≡ 0 → length r.readable ≡ 0 → receive_window (after_advertisement r) ≡ 65535
-first_told r small shut empty =
-    let has : has_grown r ≡ true = le-leb (receive_window r + 1460) (receive_room r) (omega (arith, shut, empty)) in
-    ap (λ b. let t = if b then record r { edge = (r.rnext + receive_room r) % 2 ^ 32 } else r in receive_window t) has ∙ omega (arith, small, empty)
+first_told : (r : Receiving) → r.rnext < 2 ^ 32 → receive_window r ≡ 0 → length r.readable ≡ 0 → 1460 ≤ r.size → r.size ≤ 65535 → receive_window (after_advertisement r) ≡ r.size
+first_told r small shut empty wide told =
+    let has : has_grown r ≡ true = le-leb (receive_window r + 1460) (receive_room r) (omega (arith, shut, empty, wide)) in
+    ap (λ b. let t = if b then record r { edge = (r.rnext + receive_room r) % 2 ^ 32 } else r in receive_window t) has ∙ omega (arith, small, empty, told)
 
 sent_alone : (t : State) → is_opening t ≡ true → is_syn_received t ≡ false → t ≡ SynSent
 sent_alone SynSent opening waits = refl
@@ -71,9 +74,9 @@ not_false : (b : Bool) → not b ≡ false → b ≡ true
 not_false true e = refl
 not_false false e = cc
 
-shut_at_first : (t : State) (window readable : ℕ) → t ≡ SynSent → (is_syn_sent t && not (window == 0)) ≡ false → readable ≤ (if is_opening t then 0 else 65535) → (window ≡ 0) × (readable ≡ 0)
-shut_at_first SynSent window readable e unheard few = (elim (eqb_tells window 0) [ inl t ↦ t.1 | inr t ↦ clash (window == 0) (not_false (window == 0) unheard) t.0 ], omega (arith, few))
-shut_at_first _ window readable e unheard few = cc
+shut_at_first : (size : ℕ) (t : State) (window readable : ℕ) → t ≡ SynSent → (is_syn_sent t && not (window == 0)) ≡ false → readable ≤ (if is_opening t then 0 else size) → (window ≡ 0) × (readable ≡ 0)
+shut_at_first size SynSent window readable e unheard few = (elim (eqb_tells window 0) [ inl t ↦ t.1 | inr t ↦ clash (window == 0) (not_false (window == 0) unheard) t.0 ], omega (arith, few))
+shut_at_first size _ window readable e unheard few = cc
 
 -- a probe begins at SND.UNA
 from_una : (v : View) → (probe_stretch v).offset ≡ 0
@@ -93,6 +96,7 @@ so_stretch : (v : View) (stretch : Stretch) (number edge : ℕ) → IsSound v �
       acknowledgement = record { 0 = v.receiving.rnext };
       flags = flags_of_stretch v stretch;
       window = receive_window (after_advertisement v.receiving);
+      scales = false;
     }) (octets_of_stretch v stretch))
 so_stretch v stretch number edge sound held is window =
     let l = v.sending.held in
@@ -136,8 +140,8 @@ so_syn v now sound opening =
       acknowledgement = λ acks. ap (λ b. if b then r.rnext else 0) acks;
       window = λ acks. told v sent (after_emitted v Syn now).receiving.edge same (ap (λ b. let w = if b then after_ack_paid sent else sent in w.receiving.edge) acks);
       unacknowledging = λ none. ap (λ b. if b then r.rnext else 0) none;
-      first = λ syn none. let shut = shut_at_first v.state (receive_window r) (length r.readable) (sent_alone v.state opening none) sound.untold sound.readable in
-          first_told r sound.rnext shut.0 shut.1;
+      first = λ syn none. let shut = shut_at_first v.receiving.size v.state (receive_window r) (length r.readable) (sent_alone v.state opening none) sound.untold sound.readable in
+          first_told r sound.rnext shut.0 shut.1 sound.receive_least sound.receive_size;
       syn = λ syn. (refl, refl, refl);
       plain = λ none. cc;
       rst = λ rst. cc;

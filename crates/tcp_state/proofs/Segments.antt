@@ -2,7 +2,6 @@
 use Rattle.std.proofs.Common.{◌≡◌, ℕ, ◌==◌, ◌||◌, ◌&&◌, not, Bool, true, false, if◌then◌else◌, length, refl, ◌∙◌, ap}
 use Rattle.tcp_segment.specs.Segment.{Segment, smss_of}
 use Rattle.clock.specs.declared.moment.Moment.{Moment}
-use Rattle.tcp_halves.specs.declared.buffers.TheConstants.{CAPACITY}
 use Rattle.tcp_state.specs.declared.state.State.{State}
 use Rattle.tcp_state.specs.declared.state.State.TheVariants.{SynSent, Established}
 use Rattle.tcp_halves.specs.Numbers.{is_before}
@@ -26,7 +25,7 @@ abbrev pub opened_by_syn_ack : View → Segment → View
 opened_by_syn_ack v s = record v {
   state = Established;
   sending = after_syn_acknowledged (after_syn_heard v.sending s.number s.window (smss_of s));
-  receiving = after_syn v.receiving s.number CAPACITY;
+  receiving = after_syn v.receiving s.number v.receiving.size;
   owes_ack = true;
   resend = unmarked v.resend;
 }

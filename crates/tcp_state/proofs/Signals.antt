@@ -37,16 +37,17 @@ opened_tells SynReceived e = cc
 opened_tells _ e = (refl, refl)
 
 -- past the opening few numbers are outstanding
-few_out : (opening finished flag : Bool) (held out : ℕ) → held ≤ (if opening || finished then 0 else 65535) → out ≤ held + (if flag then 1 else 0) → out ≤ 65536
-few_out true finished true held out few most = omega (arith, few, most)
-few_out true finished false held out few most = omega (arith, few, most)
-few_out false true true held out few most = omega (arith, few, most)
-few_out false true false held out few most = omega (arith, few, most)
-few_out false false true held out few most = omega (arith, few, most)
-few_out false false false held out few most = omega (arith, few, most)
+few_out : (opening finished flag : Bool) (held out size : ℕ) → size ≤ 1048576 → held ≤ (if opening || finished then 0 else size) → out ≤ held + (if flag then 1 else 0) → out ≤ 1048577
+few_out true finished true held out size small few most = omega (arith, few, most)
+few_out true finished false held out size small few most = omega (arith, few, most)
+few_out false true true held out size small few most = omega (arith, few, most)
+few_out false true false held out size small few most = omega (arith, few, most)
+few_out false false true held out size small few most = omega (arith, small, few, most)
+few_out false false false held out size small few most = omega (arith, small, few, most)
 
-small_flight : (v : View) → IsSound v → outstanding v.sending ≤ 65536
-small_flight v sound = few_out (is_opening v.state) (is_write_finished v.state) (takes_flag_number v.state) (length v.sending.held) (outstanding v.sending) sound.held sound.flight
+small_flight : (v : View) → IsSound v → outstanding v.sending ≤ 1048577
+small_flight v sound =
+    few_out (is_opening v.state) (is_write_finished v.state) (takes_flag_number v.state) (length v.sending.held) (outstanding v.sending) v.sending.size sound.send_size sound.held sound.flight
 
 no_octets : (l : List ℕ) → length l ≡ 0 → l ≡ []
 no_octets [] e = refl
@@ -57,7 +58,7 @@ old_ack : (v : View) (ack : ℕ) → IsSound v → ack ≡ v.sending.una → (is
 old_ack v ack sound same =
     let flight = small_flight v sound in
     let none : past ack v.sending.una ≡ 0 = omega (arith, same, sound.una) in
-    let near : past v.sending.nxt ack ≤ 65536 = subst (λ n. past v.sending.nxt n ≤ 65536) (sym same) flight in
+    let near : past v.sending.nxt ack ≤ 1048577 = subst (λ n. past v.sending.nxt n ≤ 1048577) (sym same) flight in
     (ap (λ n. nat_lt 0 n && nat_le n (outstanding v.sending)) none, elim (leb_tells (2 ^ 31) (past v.sending.nxt ack)) [ inl far ↦ absurd (omega (arith, near, far.1)) | inr close ↦ close.0 ])
 
 reads_on : (v : View) (ack : ℕ) → is_syn_received v.state ≡ false → is_before v.sending.nxt ack ≡ false → is_read_on v ack ≡ true
@@ -133,7 +134,7 @@ pub flies_open : (v : View) → IsSound v → 0 < past v.sending.nxt v.sending.u
 flies_open v sound some = by (is_closed v.state ≡ false) (is_closed v.state)
     (λ closed.
     let plain = closed_plain v.state closed in
-    let held : length v.sending.held ≤ 0 = subst (λ b. length v.sending.held ≤ (if b then 0 else 65535)) (ap (λ b. b || is_write_finished v.state) plain.0 ∙ plain.2) sound.held in
+    let held : length v.sending.held ≤ 0 = subst (λ b. length v.sending.held ≤ (if b then 0 else v.sending.size)) (ap (λ b. b || is_write_finished v.state) plain.0 ∙ plain.2) sound.held in
     let flight : outstanding v.sending ≤ length v.sending.held + 0 = subst (λ b. outstanding v.sending ≤ length v.sending.held + (if b then 1 else 0)) plain.3 sound.flight in
     absurd (omega (arith, some, held, flight)))
     (λ lives. lives)

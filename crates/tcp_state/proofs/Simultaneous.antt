@@ -42,18 +42,19 @@ abbrev runs_from : Moment → Timers
 runs_from first = record no_timers { retransmission = Some (after first 1000) }
 
 abbrev waiting : Endpoint → Endpoint → ℕ → Moment → View
-waiting here there isn first = record (opened_actively here there isn first) { sending = record (sending_from isn) { nxt = wire isn 1 }; resend = timed_from isn first; timers = runs_from first; unheard = None }
+waiting here there isn first = record (opened_actively 65535 here there isn first) { sending = record (sending_from 65535 isn) { nxt = wire isn 1 }; resend = timed_from isn first; timers = runs_from first; unheard = None }
 
 -- it has both SYNs
 abbrev receives : ℕ → Receiving
-receives other = record { readable = []; kept = receiving_nothing.kept; rnext = wire other 1; edge = (wire other 1 + 65535) % 2 ^ 32 }
+receives other = record { readable = []; kept = (receiving_nothing 65535).kept; rnext = wire other 1; edge = (wire other 1 + 65535) % 2 ^ 32; size = 65535; capacity = 65535 }
 
-abbrev answering : Endpoint → Endpoint → ℕ → ℕ → Bool → Resend → Moment → View
-answering here there isn other owes resend first = record (opened_actively here there isn first) {
+abbrev answering : Endpoint → Endpoint → ℕ → ℕ → Bool → Bool → Resend → Moment → View
+answering here there isn other owes spoke resend first = record (opened_actively 65535 here there isn first) {
   state = SynReceived;
-  sending = record (sending_from isn) { nxt = wire isn 1; window = 65535; max_window = 65535; wl1 = other; smss = 1460 };
+  sending = record (sending_from 65535 isn) { nxt = wire isn 1; window = 65535; max_window = 65535; wl1 = other; smss = 1460 };
   receiving = receives other;
   owes_ack = owes;
+  spoke = spoke;
   resend = resend;
   timers = runs_from first;
   unheard = None;
@@ -61,18 +62,19 @@ answering here there isn other owes resend first = record (opened_actively here 
 
 -- its SYN goes out again, with an acknowledgement ..
 abbrev again_due : Endpoint → Endpoint → ℕ → ℕ → Moment → View
-again_due here there isn other first = answering here there isn other false (record (timed_from isn first) { mark = Some 0 }) first
+again_due here there isn other first = answering here there isn other false false (record (timed_from isn first) { mark = Some 0 }) first
 
 -- .. and went out twice, so that its round trip is not measured
-abbrev again_sent : Endpoint → Endpoint → ℕ → ℕ → Bool → Moment → View
-again_sent here there isn other owes first = answering here there isn other owes first_resend first
+abbrev again_sent : Endpoint → Endpoint → ℕ → ℕ → Bool → Bool → Moment → View
+again_sent here there isn other owes spoke first = answering here there isn other owes spoke first_resend first
 
 -- it is open, and its congestion window begins
 abbrev opened : Endpoint → Endpoint → ℕ → ℕ → View
-opened here there isn other = record (opened_actively here there isn (record { 0 = 0 })) {
+opened here there isn other = record (opened_actively 65535 here there isn (record { 0 = 0 })) {
   state = Established;
-  sending = record { held = []; una = wire isn 1; nxt = wire isn 1; window = 65535; max_window = 65535; wl1 = wire other 1; wl2 = wire isn 1; smss = 1460 };
+  sending = record { held = []; una = wire isn 1; nxt = wire isn 1; window = 65535; max_window = 65535; wl1 = wire other 1; wl2 = wire isn 1; smss = 1460; size = 65535 };
   receiving = receives other;
+  spoke = true;
   congestion = initial_window 1460 false;
   unheard = None;
 }
@@ -108,7 +110,7 @@ moves n fits = elim (eqb_tells n (wire n 1)) [ inl same ↦ let one = one_out n 
 
 -- The SYN.
 
-first_is_syn : (here there : Endpoint) (isn : ℕ) (at : Moment) → isn < 2 ^ 32 → first_due (opened_actively here there isn at) ≡ Some Syn
+first_is_syn : (here there : Endpoint) (isn : ℕ) (at : Moment) → isn < 2 ^ 32 → first_due (opened_actively 65535 here there isn at) ≡ Some Syn
 first_is_syn here there isn at fits = ap (λ n. if (n == 0) || false then Some Syn else None) (none_out isn fits)
 
 sent_first : (isn : ℕ) → isn < 2 ^ 32 → later_number isn isn (wire isn 1) ≡ wire isn 1
@@ -127,16 +129,16 @@ running_if v was now first out = record v {
 abbrev out_again : View → Moment → ℕ → View
 out_again v now out = let sent = if nat_lt 0 out then after_resent v 1 else after_first_sent v 1 now in if nat_lt 0 out then after_syn_again sent else sent
 
-syn_goes : (here there : Endpoint) (isn : ℕ) (at now : Moment) → isn < 2 ^ 32 → after_event (opened_actively here there isn at) (Emits now) ≡ waiting here there isn now
+syn_goes : (here there : Endpoint) (isn : ℕ) (at now : Moment) → isn < 2 ^ 32 → after_event (opened_actively 65535 here there isn at) (Emits now) ≡ waiting here there isn now
 syn_goes here there isn at now fits =
-    let v = opened_actively here there isn at in
+    let v = opened_actively 65535 here there isn at in
     ap (λ d. after_first v d now) (first_is_syn here there isn at fits)
     ∙ (ap (λ n. clocked false (out_again v now n) now) (none_out isn fits)
-    ∙ (ap (λ n. clocked false (record v { sending = record (sending_from isn) { nxt = n }; resend = record first_resend { timed = Some (record { end = record { 0 = n }; since = now }) } }) now) (sent_first isn fits)
+    ∙ (ap (λ n. clocked false (record v { sending = record (sending_from 65535 isn) { nxt = n }; resend = record first_resend { timed = Some (record { end = record { 0 = n }; since = now }) } }) now) (sent_first isn fits)
     ∙ ap (running_if (waiting here there isn now) (Some at) now now) (one_out isn fits)))
 
 abbrev syn_of : Endpoint → Endpoint → ℕ → Segment
-syn_of here there isn = sent_segment (head_of (opened_actively here there isn (record { 0 = 0 })) Syn) []
+syn_of here there isn = sent_segment (head_of (opened_actively 65535 here there isn (record { 0 = 0 })) Syn) []
 
 syn_comes : (here there : Endpoint) (isn other : ℕ) (first now : Moment) → isn < 2 ^ 32
     → after_event (waiting here there isn first) (Hears (syn_of there here other) now) ≡ again_due here there isn other first
@@ -156,10 +158,10 @@ first_is_syn_ack : (here there : Endpoint) (isn other : ℕ) (first : Moment) �
 first_is_syn_ack here there isn other first fits = ap (λ n. if (n == 0) || true then Some Syn else None) (one_out isn fits)
 
 syn_ack_goes : (here there : Endpoint) (isn other : ℕ) (first now : Moment) → isn < 2 ^ 32 → other < 2 ^ 32
-    → after_event (again_due here there isn other first) (Emits now) ≡ again_sent here there isn other false first
+    → after_event (again_due here there isn other first) (Emits now) ≡ again_sent here there isn other false false first
 syn_ack_goes here there isn other first now fits other_fits =
     let v = again_due here there isn other first in
-    let w = again_sent here there isn other false first in
+    let w = again_sent here there isn other false false first in
     ap (λ d. after_first v d now) (first_is_syn_ack here there isn other first fits)
     ∙ (ap (λ n. clocked false (after_ack_paid (out_again v now n)) now) (one_out isn fits)
     ∙ (ap (λ n. clocked false (after_ack_paid (record w { sending = record w.sending { nxt = n }; resend = record first_resend { mark = mark_past 1 (past n isn) } })) now) (sent_again isn)
@@ -179,10 +181,10 @@ unacceptable other fits =
     ap (λ b. b || is_in_window (receives other) ((other + 0) % 2 ^ 32)) (outside other fits) ∙ (ap (is_in_window (receives other)) same ∙ outside other fits)
 
 syn_ack_comes : (here there : Endpoint) (isn other : ℕ) (first now : Moment) → isn < 2 ^ 32 → other < 2 ^ 32
-    → after_event (again_sent here there isn other false first) (Hears (syn_ack_of there here other isn first) now) ≡ again_sent here there isn other true first
+    → after_event (again_sent here there isn other false false first) (Hears (syn_ack_of there here other isn first) now) ≡ again_sent here there isn other true false first
 syn_ack_comes here there isn other first now fits other_fits =
-    let v = again_sent here there isn other false first in
-    let w = again_sent here there isn other true first in
+    let v = again_sent here there isn other false false first in
+    let w = again_sent here there isn other true false first in
     let s = syn_ack_of there here other isn first in
     let b = before v s in
     comes_to v s now refl (and_no (acknowledges_unsent v s) (is_acceptable_to v s && false) (and_no (is_acceptable_to v s) false refl))
@@ -190,19 +192,19 @@ syn_ack_comes here there isn other first now fits other_fits =
 
 -- The acknowledgement.
 
-first_is_ack : (here there : Endpoint) (isn other : ℕ) (first : Moment) → isn < 2 ^ 32 → first_due (again_sent here there isn other true first) ≡ Some Ack
+first_is_ack : (here there : Endpoint) (isn other : ℕ) (first : Moment) → isn < 2 ^ 32 → first_due (again_sent here there isn other true false first) ≡ Some Ack
 first_is_ack here there isn other first fits = ap (λ n. if (n == 0) || false then Some Syn else Some Ack) (one_out isn fits)
 
 ack_goes : (here there : Endpoint) (isn other : ℕ) (first now : Moment) → isn < 2 ^ 32 → other < 2 ^ 32
-    → after_event (again_sent here there isn other true first) (Emits now) ≡ again_sent here there isn other false first
+    → after_event (again_sent here there isn other true false first) (Emits now) ≡ again_sent here there isn other false true first
 ack_goes here there isn other first now fits other_fits =
-    let v = again_sent here there isn other true first in
-    let w = again_sent here there isn other false first in
+    let v = again_sent here there isn other true false first in
+    let w = again_sent here there isn other false true first in
     ap (λ d. after_first v d now) (first_is_ack here there isn other first fits)
     ∙ (ap (λ r. clocked false (record w { receiving = r }) now) (still_told other other_fits) ∙ ap (running_if w None now first) (one_out isn fits))
 
 abbrev ack_of : Endpoint → Endpoint → ℕ → ℕ → Segment
-ack_of here there isn other = sent_segment (head_of (again_sent here there isn other true (record { 0 = 0 })) Ack) []
+ack_of here there isn other = sent_segment (head_of (again_sent here there isn other true false (record { 0 = 0 })) Ack) []
 
 in_order : (other : ℕ) → other < 2 ^ 32 → is_acceptable (receives other) (wire other 1) 0 ≡ true
 in_order other fits =
@@ -220,7 +222,7 @@ not_behind : (n : ℕ) → n < 2 ^ 32 → is_before n n ≡ false
 not_behind n fits = lt-leb (2 ^ 31) (past n n) (omega (arith, none_out n fits))
 
 updates : (isn other : ℕ) → other < 2 ^ 32
-    → updates_window (record (sending_from isn) { una = wire isn 1; nxt = wire isn 1; window = 65535; max_window = 65535; wl1 = other; wl2 = wire isn 1; smss = 1460 }) (wire other 1) (wire isn 1) ≡ true
+    → updates_window (record (sending_from 65535 isn) { una = wire isn 1; nxt = wire isn 1; window = 65535; max_window = 65535; wl1 = other; wl2 = wire isn 1; smss = 1460 }) (wire other 1) (wire isn 1) ≡ true
 updates isn other fits =
     let same = is_before (wire isn 1) (wire isn 1) in
     both (not same) (is_before other (wire other 1) || (other == wire other 1 && not same))
@@ -228,9 +230,9 @@ updates isn other fits =
 
 -- what the acknowledgement makes of the connection without the clock
 ack_heard : (here there : Endpoint) (isn other : ℕ) (first : Moment) → isn < 2 ^ 32 → other < 2 ^ 32
-    → after_heard (again_sent here there isn other false first) (ack_of there here other isn) ≡ heard here there isn other first
+    → after_heard (again_sent here there isn other false true first) (ack_of there here other isn) ≡ heard here there isn other first
 ack_heard here there isn other first fits other_fits =
-    let v = again_sent here there isn other false first in
+    let v = again_sent here there isn other false true first in
     let s = ack_of there here other isn in
     let w = heard here there isn other first in
     let e = after_establishment v in
@@ -253,9 +255,9 @@ at_rest here there isn other first now =
     }) (none_out (wire isn 1) (omega arith))
 
 ack_comes : (here there : Endpoint) (isn other : ℕ) (first now : Moment) → isn < 2 ^ 32 → other < 2 ^ 32
-    → after_event (again_sent here there isn other false first) (Hears (ack_of there here other isn) now) ≡ opened here there isn other
+    → after_event (again_sent here there isn other false true first) (Hears (ack_of there here other isn) now) ≡ opened here there isn other
 ack_comes here there isn other first now fits other_fits =
-    let v = again_sent here there isn other false first in
+    let v = again_sent here there isn other false true first in
     let s = ack_of there here other isn in
     let b = before v s in
     let w = heard here there isn other first in
@@ -284,39 +286,39 @@ segment_due : (v : View) (due : Due) → first_due v ≡ Some due → first_segm
 segment_due v due is = ap (λ o. option_map (λ d. sent_segment (head_of v d) (octets_of v d)) o) is
 
 syns_cross : (here there : Endpoint) (isn other : ℕ) (one two now : Moment) → isn < 2 ^ 32 → other < 2 ^ 32
-    → after_coming (after_event (opened_actively here there isn one) (Emits now)) (first_segment (opened_actively there here other two)) now ≡ again_due here there isn other now
+    → after_coming (after_event (opened_actively 65535 here there isn one) (Emits now)) (first_segment (opened_actively 65535 there here other two)) now ≡ again_due here there isn other now
 syns_cross here there isn other one two now fits other_fits =
-    crosses (opened_actively here there isn one) (opened_actively there here other two) (waiting here there isn now) (syn_of there here other) (again_due here there isn other now) now
-    (syn_goes here there isn one now fits) (segment_due (opened_actively there here other two) Syn (first_is_syn there here other two other_fits)) (syn_comes here there isn other now now fits)
+    crosses (opened_actively 65535 here there isn one) (opened_actively 65535 there here other two) (waiting here there isn now) (syn_of there here other) (again_due here there isn other now) now
+    (syn_goes here there isn one now fits) (segment_due (opened_actively 65535 there here other two) Syn (first_is_syn there here other two other_fits)) (syn_comes here there isn other now now fits)
 
 syn_acks_cross : (here there : Endpoint) (isn other : ℕ) (first now : Moment) → isn < 2 ^ 32 → other < 2 ^ 32
-    → after_coming (after_event (again_due here there isn other first) (Emits now)) (first_segment (again_due there here other isn first)) now ≡ again_sent here there isn other true first
+    → after_coming (after_event (again_due here there isn other first) (Emits now)) (first_segment (again_due there here other isn first)) now ≡ again_sent here there isn other true false first
 syn_acks_cross here there isn other first now fits other_fits =
     let v = again_due here there isn other first in
     let w = again_due there here other isn first in
-    crosses v w (again_sent here there isn other false first) (syn_ack_of there here other isn first) (again_sent here there isn other true first) now
+    crosses v w (again_sent here there isn other false false first) (syn_ack_of there here other isn first) (again_sent here there isn other true false first) now
     (syn_ack_goes here there isn other first now fits other_fits) (segment_due w Syn (first_is_syn_ack there here other isn first other_fits)) (syn_ack_comes here there isn other first now fits other_fits)
 
 acks_cross : (here there : Endpoint) (isn other : ℕ) (first now : Moment) → isn < 2 ^ 32 → other < 2 ^ 32
-    → after_coming (after_event (again_sent here there isn other true first) (Emits now)) (first_segment (again_sent there here other isn true first)) now ≡ opened here there isn other
+    → after_coming (after_event (again_sent here there isn other true false first) (Emits now)) (first_segment (again_sent there here other isn true false first)) now ≡ opened here there isn other
 acks_cross here there isn other first now fits other_fits =
-    let v = again_sent here there isn other true first in
-    let w = again_sent there here other isn true first in
-    crosses v w (again_sent here there isn other false first) (ack_of there here other isn) (opened here there isn other) now
+    let v = again_sent here there isn other true false first in
+    let w = again_sent there here other isn true false first in
+    crosses v w (again_sent here there isn other false true first) (ack_of there here other isn) (opened here there isn other) now
     (ack_goes here there isn other first now fits other_fits) (segment_due w Ack (first_is_ack there here other isn first other_fits)) (ack_comes here there isn other first now fits other_fits)
 
 abbrev both_open : Endpoint → Endpoint → ℕ → ℕ → Moment → Moment → Ends
-both_open here there isn other one two = record { one = opened_actively here there isn one; other = opened_actively there here other two }
+both_open here there isn other one two = record { one = opened_actively 65535 here there isn one; other = opened_actively 65535 there here other two }
 
 abbrev both_due : Endpoint → Endpoint → ℕ → ℕ → Moment → Ends
 both_due here there isn other first = record { one = again_due here there isn other first; other = again_due there here other isn first }
 
 abbrev both_sent : Endpoint → Endpoint → ℕ → ℕ → Moment → Ends
-both_sent here there isn other first = record { one = again_sent here there isn other true first; other = again_sent there here other isn true first }
+both_sent here there isn other first = record { one = again_sent here there isn other true false first; other = again_sent there here other isn true false first }
 
 first_crossing : (here there : Endpoint) (isn other : ℕ) (one two now : Moment) → isn < 2 ^ 32 → other < 2 ^ 32 → crossed (both_open here there isn other one two) now ≡ both_due here there isn other now
 first_crossing here there isn other one two now fits other_fits =
-    ap (λ v. record { one = v; other = after_coming (after_event (opened_actively there here other two) (Emits now)) (first_segment (opened_actively here there isn one)) now }) (syns_cross here there isn other one two now fits other_fits)
+    ap (λ v. record { one = v; other = after_coming (after_event (opened_actively 65535 there here other two) (Emits now)) (first_segment (opened_actively 65535 here there isn one)) now }) (syns_cross here there isn other one two now fits other_fits)
     ∙ ap (λ w. record { one = again_due here there isn other now; other = w }) (syns_cross there here other isn two one now other_fits fits)
 
 second_crossing : (here there : Endpoint) (isn other : ℕ) (first now : Moment) → isn < 2 ^ 32 → other < 2 ^ 32 → crossed (both_due here there isn other first) now ≡ both_sent here there isn other first
@@ -324,13 +326,13 @@ second_crossing here there isn other first now fits other_fits =
     let v = again_due here there isn other first in
     let w = again_due there here other isn first in
     ap (λ x. record { one = x; other = after_coming (after_event w (Emits now)) (first_segment v) now }) (syn_acks_cross here there isn other first now fits other_fits)
-    ∙ ap (λ x. record { one = again_sent here there isn other true first; other = x }) (syn_acks_cross there here other isn first now other_fits fits)
+    ∙ ap (λ x. record { one = again_sent here there isn other true false first; other = x }) (syn_acks_cross there here other isn first now other_fits fits)
 
 third_crossing : (here there : Endpoint) (isn other : ℕ) (first now : Moment) → isn < 2 ^ 32 → other < 2 ^ 32
     → crossed (both_sent here there isn other first) now ≡ record { one = opened here there isn other; other = opened there here other isn }
 third_crossing here there isn other first now fits other_fits =
-    let v = again_sent here there isn other true first in
-    let w = again_sent there here other isn true first in
+    let v = again_sent here there isn other true false first in
+    let w = again_sent there here other isn true false first in
     ap (λ x. record { one = x; other = after_coming (after_event w (Emits now)) (first_segment v) now }) (acks_cross here there isn other first now fits other_fits)
     ∙ ap (λ x. record { one = opened here there isn other; other = x }) (acks_cross there here other isn first now other_fits fits)
 

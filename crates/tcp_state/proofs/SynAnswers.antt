@@ -5,7 +5,6 @@ use Rattle.std.proofs.lemmas.Bool.Decides.{eqb_tells}
 use Rattle.clock.specs.declared.moment.Moment.{Moment}
 use Rattle.clock.specs.Moments.{sooner}
 use Rattle.retransmit.specs.Deadlines.{next_of}
-use Rattle.tcp_halves.specs.declared.buffers.TheConstants.{CAPACITY}
 use Rattle.tcp_segment.specs.Segment.{Segment, span_of}
 use Rattle.tcp_segment.specs.Wire.{wire, past}
 use Rattle.tcp_state.specs.declared.calls.Refusal.TheVariants.{ECONNREFUSED}
@@ -70,7 +69,7 @@ answers v s now sound opens =
     let due : first_due w ≡ Some Syn =
     ap (λ b. if b then Some Rst else (if (out == 0) || is_some (resend_after (before v s) u now).mark then Some Syn else ack_due w)) o.quiet
     ∙ (ap (λ m. if (out == 0) || is_some m then Some Syn else ack_due w) (marks_kept (before v s) u now (repeats_none v s (ap is_opening opens))) ∙ ap (λ b. if b then Some Syn else ack_due w) (goes_at_once out)) in
-    let few : out ≤ 1 = one_out v.state (length v.sending.held) out o.waits sound.held sound.flight in
+    let few : out ≤ 1 = one_out v.sending.size v.state (length v.sending.held) out o.waits sound.held sound.flight in
     record {
       state = refl;
       due = due;
@@ -147,7 +146,7 @@ refused v s now sound is quiet =
       send = λ octets. refl;
       recv = λ len. refl;
       held = refl;
-      readable = none_listed v.receiving.readable (subst (λ t. length v.receiving.readable ≤ (if is_opening t then 0 else CAPACITY)) is sound.readable);
+      readable = none_listed v.receiving.readable (subst (λ t. length v.receiving.readable ≤ (if is_opening t then 0 else v.receiving.size)) is sound.readable);
       due = silent v timed.resend quiet (marks_kept b w now (repeats_none v s (ap is_opening is))) (ap (λ b. b && probes (record w { resend = resend })) (probes_kept b w now));
       timer = ap (λ t. sooner (next_of t) None) (at_rest v resend (is_moved b w) now sound.nxt);
     }

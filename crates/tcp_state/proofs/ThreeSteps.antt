@@ -29,9 +29,9 @@ use Rattle.tcp_state.proofs.Unreachable.{opening}
 none_out : (n : ℕ) → n < 2 ^ 32 → past n n ≡ 0
 none_out n fits = omega (arith, fits)
 
-pub listener_answers : (local peer : Endpoint) (isn : ℕ) (syn : Segment) (at : Moment) → isn < 2 ^ 32 → AnswersSyn isn syn.number (opened_passively local peer isn syn at)
-listener_answers local peer isn syn at fits =
-    let v = opened_passively local peer isn syn at in
+pub listener_answers : (capacity : ℕ) (local peer : Endpoint) (isn : ℕ) (syn : Segment) (at : Moment) → isn < 2 ^ 32 → AnswersSyn isn syn.number (opened_passively capacity local peer isn syn at)
+listener_answers capacity local peer isn syn at fits =
+    let v = opened_passively capacity local peer isn syn at in
     let due : first_due v ≡ Some Syn = ap (λ n. if (n == 0) || false then Some Syn else None) (none_out isn fits) in
     record {
       state = refl;

@@ -219,12 +219,12 @@ stays_timed v e sound keeps = by_event (λ e w. KeepsTime w) v (record {
 
 -- A connection that opens: nothing is outstanding, and its SYN is due.
 
-pub opened_timed : (local peer : Endpoint) (isn : ℕ) (now : Moment) → isn < 2 ^ 32 → KeepsTime (opened_actively local peer isn now)
-opened_timed local peer isn now small =
+pub opened_timed : (capacity : ℕ) (local peer : Endpoint) (isn : ℕ) (now : Moment) → isn < 2 ^ 32 → KeepsTime (opened_actively capacity local peer isn now)
+opened_timed capacity local peer isn now small =
     let none : past isn isn ≡ 0 = omega (arith, small) in
     record { retransmission = sym (ap (λ n. nat_lt 0 n && true) none); probe = refl; delayed_ack = refl; overriding = λ waits. cc; interval = λ none_runs. refl; owed = λ owes. cc; closed = λ closed. refl; unheard = sym (ap (λ n. (n == 0) && true) none) }
 
-pub accepted_timed : (local peer : Endpoint) (isn : ℕ) (syn : Segment) (now : Moment) → isn < 2 ^ 32 → KeepsTime (opened_passively local peer isn syn now)
-accepted_timed local peer isn syn now small =
+pub accepted_timed : (capacity : ℕ) (local peer : Endpoint) (isn : ℕ) (syn : Segment) (now : Moment) → isn < 2 ^ 32 → KeepsTime (opened_passively capacity local peer isn syn now)
+accepted_timed capacity local peer isn syn now small =
     let none : past isn isn ≡ 0 = omega (arith, small) in
     record { retransmission = sym (ap (λ n. nat_lt 0 n && true) none); probe = refl; delayed_ack = refl; overriding = λ waits. cc; interval = λ none_runs. refl; owed = λ owes. cc; closed = λ closed. refl; unheard = sym (ap (λ n. (n == 0) && true) none) }

@@ -1,5 +1,5 @@
 -- Why the window is told in steps of a segment at least, and such a step with what goes out next.
-use Rattle.std.proofs.Common.{◌≡◌, ℕ, ◌+◌, ◌-◌, ◌%◌, ◌^◌, ◌<◌, ◌≤◌, ◌==◌, ◌&&◌, ◌||◌, ◌⊎◌, not, if◌then◌else◌, true, false, length, Option, Some, None, inl, inr, arith, refl, ◌∙◌, ap}
+use Rattle.std.proofs.Common.{◌≡◌, ◌≢◌, ℕ, ◌+◌, ◌-◌, ◌%◌, ◌^◌, ◌<◌, ◌≤◌, ◌==◌, ◌&&◌, ◌||◌, ◌⊎◌, not, if◌then◌else◌, true, false, length, Option, Some, None, inl, inr, arith, refl, ◌∙◌, ap}
 use Rattle.std.proofs.lemmas.Bool.{leb-true, le-leb}
 use Rattle.tcp_segment.specs.Segment.{Segment}
 use Rattle.tcp_segment.specs.Wire.{past}
@@ -44,10 +44,10 @@ emitted v Ack now = inr refl
 
 abbrev Steps : View → View → Type 0
 Steps v w = (w.receiving.edge ≡ v.receiving.edge)
-    ⊎ ((1460 ≤ past w.receiving.edge v.receiving.edge) × (w.receiving.edge ≡ (v.receiving.rnext + (65535 - length v.receiving.readable)) % 2 ^ 32))
+    ⊎ ((1460 ≤ past w.receiving.edge v.receiving.edge) × (w.receiving.edge ≡ (v.receiving.rnext + (v.receiving.size - length v.receiving.readable)) % 2 ^ 32))
 
 -- the end of the free room lies as far past the edge as the window has grown
-grown : (rnext edge room : ℕ) → rnext < 2 ^ 32 → edge < 2 ^ 32 → room ≤ 65535 → past edge rnext + 1460 ≤ room → 1460 ≤ past ((rnext + room) % 2 ^ 32) edge
+grown : (rnext edge room : ℕ) → rnext < 2 ^ 32 → edge < 2 ^ 32 → room ≤ 1048576 → past edge rnext + 1460 ≤ room → 1460 ≤ past ((rnext + room) % 2 ^ 32) edge
 grown rnext edge room r e few much = omega (arith, r, e, few, much)
 
 advertised : (v w : View) → IsSound v → v.receiving.edge < 2 ^ 32 → w.receiving ≡ after_advertisement v.receiving → Steps v w
@@ -58,7 +58,7 @@ advertised v w sound small same =
     (λ has is.
     let much : past r.edge r.rnext + 1460 ≤ receive_room r = leb-true (past r.edge r.rnext + 1460) (receive_room r) has in
     let edge : w.receiving.edge ≡ (r.rnext + receive_room r) % 2 ^ 32 = ap (λ (t : Receiving). t.edge) is in
-    let step = grown r.rnext r.edge (receive_room r) sound.rnext small (omega arith) much in
+    let step = grown r.rnext r.edge (receive_room r) sound.rnext small (omega (arith, sound.receive_size)) much in
     inr (subst_step (past w.receiving.edge r.edge) (past ((r.rnext + receive_room r) % 2 ^ 32) r.edge) (ap (λ n. past n r.edge) edge) step, edge))
     (λ keeps is. inl (ap (λ (t : Receiving). t.edge) is)) same
   where
@@ -111,25 +111,26 @@ in_steps v e sound past_opening small = by_event (λ e w. Steps v w) v (record {
 
 -- A step that can be told is told with what goes out next.
 
-pub told_next : (v : View) (now : Moment) → IsSound v → (is_opening v.state || is_closed v.state) ≡ false → past v.receiving.edge v.receiving.rnext + 1460 + length v.receiving.readable ≤ 65535
-    → (after_event v (Emits now)).receiving.edge ≡ (v.receiving.rnext + (65535 - length v.receiving.readable)) % 2 ^ 32
-told_next v now sound opened much =
+pub told_next : (v : View) (now : Moment) → IsSound v → (is_opening v.state || is_closed v.state) ≡ false → (v.spoke ≡ true) ⊎ (first_due v ≢ None) → past v.receiving.edge v.receiving.rnext + 1460 + length v.receiving.readable ≤ v.receiving.size
+    → (after_event v (Emits now)).receiving.edge ≡ (v.receiving.rnext + (v.receiving.size - length v.receiving.readable)) % 2 ^ 32
+told_next v now sound opened goes_out much =
     let r = v.receiving in
     let lives = neither (is_opening v.state) (is_closed v.state) opened in
     let has : has_grown r ≡ true = le-leb (past r.edge r.rnext + 1460) (receive_room r) (omega (arith, much)) in
-    let due : is_ack_due v ≡ true =
-    or_right v.owes_ack (not (is_opening v.state) && not (is_closed v.state) && has_grown r)
-    (both (not (is_opening v.state) && not (is_closed v.state)) (has_grown r) (both (not (is_opening v.state)) (not (is_closed v.state)) (of_false (is_opening v.state) lives.0) (of_false (is_closed v.state) lives.1)) has) in
-    let P : Option Due → Type 0 = λ o. (after_first v o now).receiving ≡ after_advertisement r in
-    let text : (stretch : Stretch) → P (Some (Text stretch)) = λ stretch. told v (after_stretch v stretch now) (stretch_receives v stretch now) in
+    let due : v.spoke ≡ true → is_ack_due v ≡ true = λ spoke.
+    or_right v.owes_ack (not (is_opening v.state) && not (is_closed v.state) && v.spoke && has_grown r)
+    (both (not (is_opening v.state) && not (is_closed v.state) && v.spoke) (has_grown r)
+    (both (not (is_opening v.state) && not (is_closed v.state)) v.spoke (both (not (is_opening v.state)) (not (is_closed v.state)) (of_false (is_opening v.state) lives.0) (of_false (is_closed v.state) lives.1)) spoke) has) in
+    let P : Option Due → Type 0 = λ o. (v.spoke ≡ true) ⊎ (o ≢ None) → (after_first v o now).receiving ≡ after_advertisement r in
+    let text : (stretch : Stretch) → P (Some (Text stretch)) = λ stretch goes. told v (after_stretch v stretch now) (stretch_receives v stretch now) in
     let all : P (first_due v) = by_due P v (record {
-      nothing = λ quiet. clash (is_ack_due v) due quiet;
-      rst = λ owes. clash (is_closed v.state) (owed_where_closed v.owes_reset (is_closed v.state) v.released sound.reset owes) lives.1;
-      syn = λ opening goes. clash (is_opening v.state) opening lives.0;
-      once_more = λ past mark is goes. text (again v mark);
+      nothing = λ quiet goes. elim goes [ inl spoke ↦ clash (is_ack_due v) (due spoke) quiet | inr some ↦ absurd (some refl) ];
+      rst = λ owes goes. clash (is_closed v.state) (owed_where_closed v.owes_reset (is_closed v.state) v.released sound.reset owes) lives.1;
+      syn = λ opening waits goes. clash (is_opening v.state) opening lives.0;
+      once_more = λ past mark is again_goes. text (again v mark);
       octets = λ past sends. text (new_octets v);
       fin = λ past sends. text (fin_alone v);
-      probe = λ past owes goes. told v (after_probe v) (probe_receives v);
-      ack = λ owes. refl;
+      probe = λ past owes probes goes. told v (after_probe v) (probe_receives v);
+      ack = λ owes goes. refl;
     }) in
-    ap (λ (t : Receiving). t.edge) all ∙ ap (λ b. let t = if b then record r { edge = (r.rnext + receive_room r) % 2 ^ 32 } else r in t.edge) has
+    ap (λ (t : Receiving). t.edge) (all goes_out) ∙ ap (λ b. let t = if b then record r { edge = (r.rnext + receive_room r) % 2 ^ 32 } else r in t.edge) has

@@ -106,23 +106,23 @@ pub record IsQuiet (v : View) : Type 0 where
   pub closed : is_closed v.state ≡ true
   pub ack : v.owes_ack ≡ false
 
-none_new : (octets fin owed probe owes opened closed grown : Bool) (text end : Due) → octets ≡ false → fin ≡ false → probe ≡ false → owes ≡ false → closed ≡ true
-    → (if octets then Some text else if fin then Some end else if owed && probe then Some Probe else if owes || (opened && not closed && grown) then Some Ack else None) ≡ None
-none_new false false true false false true true grown text end o f p a c = refl
-none_new false false true false false false true grown text end o f p a c = refl
-none_new false false false false false true true grown text end o f p a c = refl
-none_new false false false false false false true grown text end o f p a c = refl
-none_new true fin owed probe owes opened closed grown text end o f p a c = cc
-none_new false true owed probe owes opened closed grown text end o f p a c = cc
-none_new false false owed true owes opened closed grown text end o f p a c = cc
-none_new false false owed false true opened closed grown text end o f p a c = cc
-none_new false false owed false false opened false grown text end o f p a c = cc
+none_new : (octets fin owed probe owes opened closed spoke grown : Bool) (text end : Due) → octets ≡ false → fin ≡ false → probe ≡ false → owes ≡ false → closed ≡ true
+    → (if octets then Some text else if fin then Some end else if owed && probe then Some Probe else if owes || (opened && not closed && spoke && grown) then Some Ack else None) ≡ None
+none_new false false true false false true true spoke grown text end o f p a c = refl
+none_new false false true false false false true spoke grown text end o f p a c = refl
+none_new false false false false false true true spoke grown text end o f p a c = refl
+none_new false false false false false false true spoke grown text end o f p a c = refl
+none_new true fin owed probe owes opened closed spoke grown text end o f p a c = cc
+none_new false true owed probe owes opened closed spoke grown text end o f p a c = cc
+none_new false false owed true owes opened closed spoke grown text end o f p a c = cc
+none_new false false owed false true opened closed spoke grown text end o f p a c = cc
+none_new false false owed false false opened false spoke grown text end o f p a c = cc
 
 pub none_due : (v : View) → IsQuiet v → first_due v ≡ (if v.owes_reset then Some Rst else None)
 none_due v quiet =
     let octets = ap (λ n. nat_lt 0 n && is_worth_sending v.sending v.congestion.cwnd v.resend.overridden) quiet.octets in
     let fin = ap (λ b. b && (outstanding v.sending == length v.sending.held) && nat_lt (outstanding v.sending) v.sending.window) quiet.fin in
-    let new : new_due v ≡ None = none_new _ (sends_fin v) v.resend.owes_probe (probes v) v.owes_ack (not (is_opening v.state)) (is_closed v.state) (has_grown v.receiving) (Text (new_octets v)) (Text (fin_alone v)) octets fin quiet.probe quiet.ack quiet.closed in
+    let new : new_due v ≡ None = none_new _ (sends_fin v) v.resend.owes_probe (probes v) v.owes_ack (not (is_opening v.state)) (is_closed v.state) v.spoke (has_grown v.receiving) (Text (new_octets v)) (Text (fin_alone v)) octets fin quiet.probe quiet.ack quiet.closed in
     ap (λ b. if v.owes_reset then Some Rst else if b then (if (outstanding v.sending == 0) || is_some v.resend.mark then Some Syn else ack_due v) else option_or (again_from v v.resend.mark) (new_due v)) quiet.opened
     ∙ ap (λ m. if v.owes_reset then Some Rst else option_or (again_from v m) (new_due v)) quiet.mark
     ∙ ap (λ d. if v.owes_reset then Some Rst else d) new
@@ -135,7 +135,7 @@ closed_plain _ e = cc
 pub closed_holds : (v : View) → IsSound v → is_closed v.state ≡ true → (length v.sending.held ≡ 0) × (outstanding v.sending ≡ 0)
 closed_holds v sound closed =
     let plain = closed_plain v.state closed in
-    let held : length v.sending.held ≤ 0 = subst (λ b. length v.sending.held ≤ (if b then 0 else 65535)) (ap (λ b. b || is_write_finished v.state) plain.0 ∙ plain.2) sound.held in
+    let held : length v.sending.held ≤ 0 = subst (λ b. length v.sending.held ≤ (if b then 0 else v.sending.size)) (ap (λ b. b || is_write_finished v.state) plain.0 ∙ plain.2) sound.held in
     let flight : outstanding v.sending ≤ length v.sending.held + 0 = subst (λ b. outstanding v.sending ≤ length v.sending.held + (if b then 1 else 0)) plain.3 sound.flight in
     (omega (arith, held), omega (arith, held, flight))
 

@@ -74,7 +74,7 @@ opening v sound opens = record {
   waits = ap is_syn_sent opens;
   kept = unleft v.state v.released opens sound.release;
   quiet = unowed v.owes_reset (is_closed v.state) v.released (ap is_closed opens) sound.reset;
-  readable = none_listed v.receiving.readable (subst (λ t. length v.receiving.readable ≤ (if is_opening t then 0 else 65535)) opens sound.readable);
+  readable = none_listed v.receiving.readable (subst (λ t. length v.receiving.readable ≤ (if is_opening t then 0 else v.receiving.size)) opens sound.readable);
 }
 
 hit : (v : View) → IsSound v → is_syn_sent v.state ≡ true → v.sending.nxt ≢ v.sending.una → is_unreachable v v.sending.una ≡ true

@@ -213,7 +213,7 @@ none_come (Some moment) now e = cc
 never_gives_up : (v : View) (now : Moment) → IsSound v → KeepsTime v → WaitsForEnd v.state → gives_up v now ≡ false
 never_gives_up v now sound keeps waits =
     let p = plain v.state waits in
-    let held : length v.sending.held ≤ 0 = subst (λ b. length v.sending.held ≤ (if b then 0 else 65535)) (ap (λ b. b || is_write_finished v.state) p.0 ∙ p.2) sound.held in
+    let held : length v.sending.held ≤ 0 = subst (λ b. length v.sending.held ≤ (if b then 0 else v.sending.size)) (ap (λ b. b || is_write_finished v.state) p.0 ∙ p.2) sound.held in
     let flight : outstanding v.sending ≤ length v.sending.held + 0 = subst (λ b. outstanding v.sending ≤ length v.sending.held + (if b then 1 else 0)) p.3 sound.flight in
     let empty : length v.sending.held ≡ 0 = omega (arith, held) in
     let none : outstanding v.sending ≡ 0 = omega (arith, held, flight) in

@@ -7,11 +7,10 @@ use Rattle.tcp_segment.specs.Segment.{Segment, smss_of, span_of}
 use Rattle.tcp_halves.specs.Numbers.{is_before}
 use Rattle.tcp_state.specs.declared.connection.Fate.{Fate}
 use Rattle.tcp_state.specs.declared.connection.Fate.TheVariants.{Stays, Removed, Rejected}
-use Rattle.tcp_halves.specs.declared.buffers.TheConstants.{CAPACITY}
 use Rattle.clock.specs.declared.moment.Moment.{Moment}
 use Rattle.tcp_state.specs.declared.state.State.{State}
 use Rattle.tcp_state.specs.declared.state.State.TheVariants.{SynSent, SynReceived, Established, FinWait1, FinWait2, CloseWait, Closing, LastAck, TimeWait, Closed}
-use Rattle.tcp_halves.specs.Stream.{outstanding, is_new_ack, sending_from, receiving_nothing, after_syn_acknowledged, after_acknowledged, is_in_window, is_acceptable, after_syn, after_octets, stands_next, after_end}
+use Rattle.tcp_halves.specs.Stream.{size_of, outstanding, is_new_ack, sending_from, receiving_nothing, after_syn_acknowledged, after_acknowledged, is_in_window, is_acceptable, after_syn, after_octets, stands_next, after_end}
 use Rattle.tcp_halves.specs.Windows.{after_syn_heard, after_window_update}
 use Rattle.tcp_state.specs.View.{View, first_congestion, is_opening, is_syn_sent, is_syn_received, is_closed, is_fin_wait_2, is_time_wait, awaits_fin_ack, after_reset, is_over}
 use Rattle.tcp_state.specs.Resend.{Resend, first_resend, stopped, mark_past, mark_moved, unmarked, resend_acknowledged, resend_lost}
@@ -29,17 +28,18 @@ use Rattle.tcp_state.specs.Calls.{aborted}
 abbrev pub owing_ack : View → View
 owing_ack v = record v { owes_ack = true }
 
--- a connection that a SYN opens at a listener at this moment (section 3.10.7.2): no window is advertised yet
-abbrev pub opened_passively : Endpoint → Endpoint → ℕ → Segment → Moment → View
-opened_passively local peer isn syn now = record {
+-- a connection that a SYN opens at a listener at this moment (section 3.10.7.2), in buffers of so many octets each: no window is advertised yet
+abbrev pub opened_passively : ℕ → Endpoint → Endpoint → ℕ → Segment → Moment → View
+opened_passively capacity local peer isn syn now = record {
   local = local;
   peer = peer;
   state = SynReceived;
   passive = true;
-  sending = after_syn_heard (sending_from isn) syn.number syn.window (smss_of syn);
-  receiving = after_syn receiving_nothing syn.number 0;
+  sending = after_syn_heard (sending_from (size_of capacity) isn) syn.number syn.window (smss_of syn);
+  receiving = after_syn (receiving_nothing capacity) syn.number 0;
   owes_ack = false;
   delays_ack = false;
+  spoke = false;
   resend = first_resend;
   timers = no_timers;
   congestion = first_congestion;
@@ -74,7 +74,7 @@ after_syn_ack v s =
     if is_right_syn_ack v s then record v {
       state = Established;
       sending = after_syn_acknowledged (after_syn_heard v.sending s.number s.window (smss_of s));
-      receiving = after_syn v.receiving s.number CAPACITY;
+      receiving = after_syn v.receiving s.number v.receiving.size;
       owes_ack = true;
       resend = unmarked v.resend;
     } else v
@@ -88,7 +88,7 @@ abbrev pub after_simultaneous_syn : View → Segment → View
 after_simultaneous_syn v s = record v {
   state = SynReceived;
   sending = after_syn_heard v.sending s.number s.window (smss_of s);
-  receiving = after_syn v.receiving s.number (if outstanding v.sending == 0 then 0 else CAPACITY);
+  receiving = after_syn v.receiving s.number (if outstanding v.sending == 0 then 0 else v.receiving.size);
   resend = record v.resend { mark = mark_past 0 (outstanding v.sending) };
 }
 

@@ -85,6 +85,7 @@ head_of v due =
       acknowledgement = record { 0 = if flags.ack then v.receiving.rnext else 0 };
       flags = flags;
       window = window_of v due;
+      scales = false;
     }
 
 -- how many octets the segment has
@@ -108,6 +109,10 @@ sends_again v Ack = false
 -- an acknowledgement that goes out advertises the window, and none is owed any more
 abbrev pub after_ack_paid : View → View
 after_ack_paid v = record v { receiving = after_advertisement v.receiving; owes_ack = false; delays_ack = false }
+
+-- a segment with ACK and without SYN went out: from then on the connection has spoken
+abbrev pub after_speaking : View → View
+after_speaking v = record (after_ack_paid v) { spoke = true }
 
 -- so many numbers from SND.UNA on went out before, in part at least: once more
 abbrev pub after_resent : View → ℕ → View
@@ -151,9 +156,9 @@ after_syn_out v now = let sent = after_numbers v 0 1 now in if nat_lt 0 (outstan
 abbrev pub after_going_out : View → Due → Moment → View
 after_going_out v Rst now = record v { owes_reset = false }
 after_going_out v Syn now = if is_syn_received v.state then after_ack_paid (after_syn_out v now) else after_syn_out v now
-after_going_out v (Text stretch) now = after_ack_paid (after_stretch v stretch now)
-after_going_out v Probe now = after_ack_paid (after_probe v)
-after_going_out v Ack now = after_ack_paid v
+after_going_out v (Text stretch) now = after_speaking (after_stretch v stretch now)
+after_going_out v Probe now = after_speaking (after_probe v)
+after_going_out v Ack now = after_speaking v
 
 abbrev pub after_emitted : View → Due → Moment → View
 after_emitted v due now = clocked false (after_going_out v due now) now
@@ -177,9 +182,10 @@ MayGoOut v Ack = (is_syn_sent v.state || is_closed v.state) ≡ false
 
 -- Which of them goes out first.
 
--- an acknowledgement is owed, or the window to advertise has grown by enough to be told
+-- an acknowledgement is owed, or the window to advertise has grown by enough to be told: past the opening, and once the connection has spoken, or what a listener opened
+-- would answer its handshake by a window
 abbrev pub is_ack_due : View → Bool
-is_ack_due v = v.owes_ack || (not (is_opening v.state) && not (is_closed v.state) && has_grown v.receiving)
+is_ack_due v = v.owes_ack || (not (is_opening v.state) && not (is_closed v.state) && v.spoke && has_grown v.receiving)
 
 abbrev pub ack_due : View → Option Due
 ack_due v = if is_ack_due v then Some Ack else None

@@ -12,6 +12,7 @@ view_of c = record {
   receiving = c.receiver;
   owes_ack = c.owes_ack;
   delays_ack = c.delays_ack;
+  spoke = c.has_spoken;
   resend = c.resend;
   timers = c.timers;
   congestion = c.congestion;

@@ -23,3 +23,4 @@ pub mod Opening
 pub mod Said
 pub mod Counted
 pub mod Duties
+pub mod Progress

@@ -37,7 +37,7 @@ pub record HasFlags (v : View) (due : Due) (f : Flags) : Type 0 where
   pub urg : f.urg ≡ false
 
 -- What a segment says is so. Each of its octets is the one that is held for its number, and its FIN has the number behind all that is held. It acknowledges RCV.NXT, and tells the window
--- from there up to the right edge that the connection keeps; the SYN that acknowledges nothing tells all of the receive buffer. A reset has the number SND.NXT and a SYN that of our SYN, and
+-- from there up to the right edge that the connection keeps; the SYN that acknowledges nothing tells the whole size of the receiving half. A reset has the number SND.NXT and a SYN that of our SYN, and
 -- neither has octets. The one option is that of a SYN, the size of the segments that this stack takes (section 3.7.1).
 pub record IsSo (v : View) (edge : ℕ) (s : Segment) : Type 0 where
   pub source : s.source ≡ v.local.port
@@ -48,7 +48,7 @@ pub record IsSo (v : View) (edge : ℕ) (s : Segment) : Type 0 where
   pub acknowledgement : s.flags.ack ≡ true → s.acknowledgement ≡ v.receiving.rnext
   pub window : s.flags.ack ≡ true → s.window ≡ past edge v.receiving.rnext
   pub unacknowledging : s.flags.ack ≡ false → s.acknowledgement ≡ 0
-  pub first : s.flags.syn ≡ true → s.flags.ack ≡ false → s.window ≡ 65535
+  pub first : s.flags.syn ≡ true → s.flags.ack ≡ false → s.window ≡ v.receiving.size
   pub syn : s.flags.syn ≡ true → (s.number ≡ v.sending.una) × (s.octets ≡ []) × (s.options ≡ MaximumSegmentSize 1460 ∷ [])
   pub plain : s.flags.syn ≡ false → s.options ≡ []
   pub rst : s.flags.rst ≡ true → (s.number ≡ v.sending.nxt) × (s.window ≡ 0) × (s.octets ≡ [])

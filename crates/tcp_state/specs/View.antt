@@ -2,7 +2,7 @@
 use Rattle.std.specs.Prelude.{◌≡◌, ℕ, ◌+◌, ◌≤◌, ◌^◌, ◌==◌, ◌&&◌, ◌||◌, ◌<◌, not, Bool, true, false, if◌then◌else◌, [], length, Option, Some, None, is_some}
 use Rattle.ipv4.specs.declared.addr.Endpoint.{Endpoint}
 use Rattle.tcp_segment.specs.declared.TheConstants.{MSS, DEFAULT_MSS, LEAST_MSS}
-use Rattle.tcp_halves.specs.declared.buffers.TheConstants.{CAPACITY}
+use Rattle.tcp_halves.specs.declared.buffers.TheConstants.{CAPACITY, LARGEST_CAPACITY}
 use Rattle.tcp_state.specs.declared.state.State.{State}
 use Rattle.tcp_state.specs.declared.state.State.TheVariants.{Closed, Listen, SynSent, SynReceived, FinWait1, FinWait2, CloseWait, Closing, LastAck, TimeWait}
 use Rattle.tcp_state.specs.declared.ending.TheConstants.{TIME_WAIT, FIN_WAIT_2}
@@ -16,7 +16,7 @@ use Rattle.tcp_state.specs.Resend.{Resend, IsSoundResend, first_resend, stopped}
 use Rattle.std.specs.Option.{ForSome}
 use Rattle.tcp_halves.specs.Halves.{Sending, Receiving}
 use Rattle.stream_buf.specs.Receiving.{IsReceiving}
-use Rattle.tcp_halves.specs.Stream.{outstanding, sending_from, receiving_nothing, receive_window, buffer_of, ReceivingFits, KeptInWindow}
+use Rattle.tcp_halves.specs.Stream.{size_of, outstanding, sending_from, receiving_nothing, receive_window, buffer_of, ReceivingFits, KeptInWindow}
 
 pub record View : Type 0 where
   pub local : Endpoint
@@ -30,6 +30,8 @@ pub record View : Type 0 where
   pub owes_ack : Bool
   -- octets came since the last acknowledgement went out, and theirs may wait
   pub delays_ack : Bool
+  -- a segment with ACK and without SYN went out
+  pub spoke : Bool
   -- what goes out again, and what is measured
   pub resend : Resend
   -- the deadlines of its timers
@@ -148,17 +150,18 @@ reset_since v = if v.owes_reset then Some v.since else None
 abbrev pub first_congestion : Window
 first_congestion = initial_window DEFAULT_MSS false
 
--- a connection that its caller opens at this moment (RFC 9293 section 3.10.1)
-abbrev pub opened_actively : Endpoint → Endpoint → ℕ → Moment → View
-opened_actively local peer isn now = record {
+-- a connection that its caller opens at this moment (RFC 9293 section 3.10.1), in buffers of so many octets each
+abbrev pub opened_actively : ℕ → Endpoint → Endpoint → ℕ → Moment → View
+opened_actively capacity local peer isn now = record {
   local = local;
   peer = peer;
   state = SynSent;
   passive = false;
-  sending = sending_from isn;
-  receiving = receiving_nothing;
+  sending = sending_from (size_of capacity) isn;
+  receiving = receiving_nothing capacity;
   owes_ack = false;
   delays_ack = false;
+  spoke = false;
   resend = first_resend;
   timers = no_timers;
   congestion = first_congestion;
@@ -180,13 +183,14 @@ most_outstanding v = length v.sending.held + (if takes_flag_number v.state then 
 -- What holds of every connection. While it opens, nothing is held or readable, and before the peer's SYN came no window is advertised; nothing is held once our FIN is acknowledged or all is closed. What is
 -- outstanding is of what is held, with the SYN or the FIN; the resend mark stands within it. A segment may
 -- have `LEAST_MSS` octets at least, so that what is held can always go out. An acknowledgement is owed once a SYN came, and none when all is closed.
--- An error is pending, and a reset owed, only where all is closed; what its caller closed is closed on our side.
+-- An error is pending, and a reset owed, only where all is closed; what its caller closed is closed on our side. The receiving half is no larger than the places that were made for it, nor than a window can be
+-- told, and has room for a segment, so that its window is told.
 pub record IsSound (v : View) : Type 0 where
   pub una : v.sending.una < 2 ^ 32
   pub nxt : v.sending.nxt < 2 ^ 32
   pub rnext : v.receiving.rnext < 2 ^ 32
-  pub held : length v.sending.held ≤ (if is_opening v.state || is_write_finished v.state then 0 else CAPACITY)
-  pub readable : length v.receiving.readable ≤ (if is_opening v.state then 0 else CAPACITY)
+  pub held : length v.sending.held ≤ (if is_opening v.state || is_write_finished v.state then 0 else v.sending.size)
+  pub readable : length v.receiving.readable ≤ (if is_opening v.state then 0 else v.receiving.size)
   pub window : ReceivingFits v.receiving
   pub untold : (is_syn_sent v.state && not (receive_window v.receiving == 0)) ≡ false
   pub buffer : IsReceiving (buffer_of v.receiving)
@@ -201,3 +205,8 @@ pub record IsSound (v : View) : Type 0 where
   pub error : (is_some v.pending_error && not (is_closed v.state)) ≡ false
   pub reset : (v.owes_reset && not (is_closed v.state && v.released)) ≡ false
   pub release : (v.released && not (is_write_closed v.state)) ≡ false
+  pub send_size : v.sending.size ≤ LARGEST_CAPACITY
+  pub receive_least : MSS ≤ v.receiving.size
+  pub receive_size : v.receiving.size ≤ CAPACITY
+  pub places : v.receiving.size ≤ v.receiving.capacity
+  pub capacity : v.receiving.capacity ≤ LARGEST_CAPACITY

@@ -18,7 +18,6 @@ use crate::state::State;
 use clock::Moment;
 use congestion::Cwnd;
 use retransmit::Timers;
-use tcp_halves::CAPACITY;
 use tcp_segment::{Seq, TcpView};
 
 /// What the clock and the congestion window have to know of a connection before a segment and of the segment.
@@ -368,13 +367,15 @@ impl Connection {
         ensures { self.new ≡ after_simultaneous_syn self.old segment.now }
     {
         let was_sent = self.sender.outstanding() != 0;
-        self.take_syn(segment, if was_sent { CAPACITY as u16 } else { 0 });
+        let size = self.receiver.size();
+        self.take_syn(segment, if was_sent { size } else { 0 });
         self.resend.mark_all(self.sender.outstanding());
     }
 
     /// Takes what the peer's SYN says, which leads to SYN-RECEIVED. Our SYN advertised a window of so many octets to it.
-    pub(crate) fn take_syn(&mut self, syn: &TcpView<'_>, advertised: u16)
-        requires { is_syn_sent self.old.state ≡ true }
+    pub(crate) fn take_syn(&mut self, syn: &TcpView<'_>, advertised: u32)
+        requires waits { is_syn_sent self.old.state ≡ true }
+        requires size { advertised ≤ self.old.receiving.size }
         ensures { self.new ≡ record self.old { state = State.SynReceived; sending = after_syn_heard self.old.sending syn.now.number syn.now.window (smss_of syn.now); receiving = after_syn self.old.receiving syn.now.number advertised } }
     {
         self.sender.hear_syn(syn.number(), syn.window(), syn.smss());
@@ -388,7 +389,8 @@ impl Connection {
         requires right { is_right_syn_ack self.old segment.now ≡ true }
         ensures { self.new ≡ after_syn_ack self.old segment.now }
     {
-        self.take_syn(segment, CAPACITY as u16);
+        let size = self.receiver.size();
+        self.take_syn(segment, size);
         self.sender.acknowledge_syn();
         self.state = State::Established;
         self.resend.unmark();

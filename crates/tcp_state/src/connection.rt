@@ -47,6 +47,8 @@ pub struct Connection {
     pub(crate) owes_ack: bool,
     /// Whether octets came since the last acknowledgement went out, so that one is due at a second segment or after a while.
     pub(crate) delays_ack: bool,
+    /// Whether a segment with ACK and without SYN went out.
+    pub(crate) has_spoken: bool,
     /// What goes out again, and what is measured of a round trip.
     pub(crate) resend: Resend,
     /// When each of its timers expires.
@@ -86,7 +88,7 @@ impl Connection {
         isn: Seq,
         now: Moment,
     ) -> Connection
-        ensures { result ≡ opened_actively local peer isn.0 now }
+        ensures { result ≡ opened_actively buffers local peer isn.0 now }
     {
         let (sender, receiver) = buffers.into_halves(isn);
         Connection {
@@ -98,6 +100,7 @@ impl Connection {
             receiver,
             owes_ack: false,
             delays_ack: false,
+            has_spoken: false,
             resend: Resend::new(),
             timers: Timers::new(),
             congestion: Cwnd::new(DEFAULT_MSS, false),
@@ -118,7 +121,7 @@ impl Connection {
         syn: &TcpView<'_>,
         now: Moment,
     ) -> Connection
-        ensures { result ≡ opened_passively local peer isn.0 syn.now now }
+        ensures { result ≡ opened_passively buffers local peer isn.0 syn.now now }
     {
         let mut connection = Connection::active(buffers, local, peer, isn, now);
         connection.take_syn(syn, 0);

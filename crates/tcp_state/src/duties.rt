@@ -81,12 +81,12 @@ pub fn aborts_owe_a_reset()
     ensures removes { (v : View) (now : Moment) → v.state ≡ State.Closed → fate_by v (Event.Aborts now) ≡ Fate.Removed }
 {}
 
-/// Once a connection is open, and while our side isn't closed, a `send` takes the first octets, as many as the buffer of 65,535 has room for, behind those that are held, and answers how many (RFC 9293 section 3.10.2). Where
+/// Once a connection is open, and while our side isn't closed, a `send` takes the first octets, as many as the sending half has room for, behind those that are held, and answers how many (RFC 9293 section 3.10.2). Where
 /// there is room for none of them, it answers EAGAIN and changes nothing.
 pub fn sends_take_what_fits()
-    ensures takes { (v : View) (octets : List ℕ) (now : Moment) → IsSound v → (is_opening v.state || is_write_closed v.state) ≡ false → (0 < length octets → length v.sending.held < 65535)
-        → (let count = min (length octets) (65535 - length v.sending.held) in (send_answer v octets ≡ Ok count) × TakesBehind (take count octets) v (after_event v (Event.Sends octets now))) }
-    ensures full { (v : View) (octets : List ℕ) (now : Moment) → IsSound v → (is_opening v.state || is_write_closed v.state) ≡ false → 0 < length octets → length v.sending.held ≡ 65535
+    ensures takes { (v : View) (octets : List ℕ) (now : Moment) → IsSound v → (is_opening v.state || is_write_closed v.state) ≡ false → (0 < length octets → length v.sending.held < v.sending.size)
+        → (let count = min (length octets) (v.sending.size - length v.sending.held) in (send_answer v octets ≡ Ok count) × TakesBehind (take count octets) v (after_event v (Event.Sends octets now))) }
+    ensures full { (v : View) (octets : List ℕ) (now : Moment) → IsSound v → (is_opening v.state || is_write_closed v.state) ≡ false → 0 < length octets → length v.sending.held ≡ v.sending.size
         → (send_answer v octets ≡ Err Refusal.EAGAIN) × (after_event v (Event.Sends octets now) ≡ v) }
 {}
 

@@ -7,7 +7,7 @@ ghost use Rattle.tcp_halves.specs.Stream.{outstanding};
 ghost use Rattle.tcp_segment.specs.declared.TheConstants.{MSS};
 ghost use Rattle.tcp_state.specs.New.{sends_new, sends_fin};
 ghost use Rattle.tcp_state.specs.Timing.{probes};
-ghost use Rattle.tcp_state.specs.Due.{MayGoOut, IsHeld, first_due, ack_due, again, goes_again, again_from, new_octets, fin_alone, new_due, probe_stretch, numbers_of, end_of, flags_of, flags_of_stretch, ack_number, number_of, octets_of, window_of, head_of, segment_octets, emitted_len, after_emitted, after_going_out, after_ack_paid, after_numbers, after_resent, after_first_sent, after_new_octets, brings_new_octets, after_stretch, after_probe, after_syn_out};
+ghost use Rattle.tcp_state.specs.Due.{MayGoOut, IsHeld, first_due, ack_due, again, goes_again, again_from, new_octets, fin_alone, new_due, probe_stretch, numbers_of, end_of, flags_of, flags_of_stretch, ack_number, number_of, octets_of, window_of, head_of, segment_octets, emitted_len, after_emitted, after_going_out, after_ack_paid, after_speaking, after_numbers, after_resent, after_first_sent, after_new_octets, brings_new_octets, after_stretch, after_probe, after_syn_out};
 
 use crate::connection::Connection;
 use crate::state::State;
@@ -85,13 +85,14 @@ impl Connection {
         self.ack_due()
     }
 
-    /// An acknowledgement alone, where one is owed or the window to advertise has grown by enough.
+    /// An acknowledgement alone, where one is owed, or where the window to advertise has grown by enough and the connection has spoken.
     fn ack_due(&self) -> Option<Due>
         ensures first { result ≡ ack_due self.now }
         ensures may { IfSome result (MayGoOut self.now) }
     {
         let advertises_window = !self.state.is_opening()
             && self.state != State::Closed
+            && self.has_spoken
             && self.receiver.has_grown();
         (self.owes_ack || advertises_window).then_some(Due::Ack)
     }
@@ -296,6 +297,7 @@ impl Connection {
             },
             flags,
             window: self.window(due),
+            scales: false,
         }
     }
 
@@ -330,7 +332,7 @@ impl Connection {
     {
         match due {
             Due::Rst => 0,
-            Due::Syn | Due::Text(_) | Due::Probe | Due::Ack => self.receiver.next_window(),
+            Due::Syn | Due::Text(_) | Due::Probe | Due::Ack => self.receiver.next_window() as u16,
         }
     }
 
@@ -380,13 +382,13 @@ impl Connection {
             }
             Due::Text(stretch) => {
                 self.note_stretch(stretch, now);
-                self.pay_ack();
+                self.speak();
             }
             Due::Probe => {
                 self.note_probe();
-                self.pay_ack();
+                self.speak();
             }
-            Due::Ack => self.pay_ack(),
+            Due::Ack => self.speak(),
         }
     }
 
@@ -477,5 +479,14 @@ impl Connection {
         self.receiver.advertise();
         self.owes_ack = false;
         self.delays_ack = false;
+    }
+
+    /// A segment with ACK and without SYN went out.
+    fn speak(&mut self)
+        requires { is_syn_sent self.old.state ≡ false }
+        ensures { self.new ≡ after_speaking self.old }
+    {
+        self.pay_ack();
+        self.has_spoken = true;
     }
 }

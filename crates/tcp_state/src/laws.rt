@@ -4,7 +4,7 @@ ghost use Rattle.std.specs.Prelude.{◌≡◌, ℕ, ◌+◌, ◌-◌, ◌*◌, �
 ghost use Rattle.ipv4.specs.declared.addr.Endpoint.{Endpoint};
 ghost use Rattle.tcp_segment.specs.Segment.{Segment, span_of};
 ghost use Rattle.tcp_segment.specs.declared.TheConstants.{DEFAULT_MSS, LEAST_MSS, MSS};
-ghost use Rattle.tcp_halves.specs.declared.buffers.TheConstants.{CAPACITY};
+ghost use Rattle.tcp_halves.specs.declared.buffers.TheConstants.{CAPACITY, LARGEST_CAPACITY};
 ghost use Rattle.tcp_state.specs.declared.ending.TheConstants.{TIME_WAIT, FIN_WAIT_2};
 ghost use Rattle.tcp_state.specs.declared.hop.TheConstants.{HOP_PATIENCE};
 ghost use Rattle.tcp_state.specs.declared.timing.TheConstants.{DELAYED_ACK_WAIT};
@@ -47,7 +47,18 @@ pub fn constants()
     ensures least_size { LEAST_MSS ≡ 64 }
     ensures size { MSS ≡ 1460 }
     ensures capacity { CAPACITY ≡ 65535 }
+    ensures largest_capacity { LARGEST_CAPACITY ≡ 1048576 }
     ensures hop_patience { HOP_PATIENCE ≡ 483000 }
+{}
+
+/// Each half holds at most as many octets as its buffer when a connection opens, and no event changes that, nor how many places were made for what comes.
+pub fn sizes_stay()
+    ensures opened { (capacity : ℕ) (local peer : Endpoint) (isn : ℕ) (now : Moment) → capacity ≤ CAPACITY
+        → (let w = opened_actively capacity local peer isn now in (w.sending.size ≡ capacity) × (w.receiving.size ≡ capacity) × (w.receiving.capacity ≡ capacity)) }
+    ensures accepted { (capacity : ℕ) (local peer : Endpoint) (isn : ℕ) (syn : Segment) (now : Moment) → capacity ≤ CAPACITY
+        → (let w = opened_passively capacity local peer isn syn now in (w.sending.size ≡ capacity) × (w.receiving.size ≡ capacity) × (w.receiving.capacity ≡ capacity)) }
+    ensures stays { (v : View) (e : Event)
+        → ((after_event v e).sending.size ≡ v.sending.size) × ((after_event v e).receiving.size ≡ v.receiving.size) × ((after_event v e).receiving.capacity ≡ v.receiving.capacity) }
 {}
 
 /// One event joins only states that the table of edges joins, or leaves the state.
@@ -198,8 +209,8 @@ pub fn what_waits_goes_out()
 
 /// The timers run exactly where something waits for them: when a connection opens, and after each event (RFC 6298 section 5, RFC 9293 sections 3.8.1, 3.8.6.1 and 3.8.6.3).
 pub fn timers_run_as_they_should()
-    ensures opened { (local peer : Endpoint) (isn : ℕ) (now : Moment) → isn < 2 ^ 32 → KeepsTime (opened_actively local peer isn now) }
-    ensures accepted { (local peer : Endpoint) (isn : ℕ) (syn : Segment) (now : Moment) → isn < 2 ^ 32 → KeepsTime (opened_passively local peer isn syn now) }
+    ensures opened { (capacity : ℕ) (local peer : Endpoint) (isn : ℕ) (now : Moment) → isn < 2 ^ 32 → KeepsTime (opened_actively capacity local peer isn now) }
+    ensures accepted { (capacity : ℕ) (local peer : Endpoint) (isn : ℕ) (syn : Segment) (now : Moment) → isn < 2 ^ 32 → KeepsTime (opened_passively capacity local peer isn syn now) }
     ensures stays { (v : View) (e : Event) → IsSound v → KeepsTime v → KeepsTime (after_event v e) }
 {}
 
@@ -222,8 +233,8 @@ pub fn new_numbers_keep_the_window()
 /// The congestion window is one that events lead to, and counts in segments of the size that the peer takes: when a connection opens, and after each event. So it is never less than such a segment
 /// once it is open (RFC 5681 section 3.1).
 pub fn the_congestion_window_is_kept()
-    ensures opened { (local peer : Endpoint) (isn : ℕ) (now : Moment) → KeepsCongestion (opened_actively local peer isn now) }
-    ensures accepted { (local peer : Endpoint) (isn : ℕ) (syn : Segment) (now : Moment) → KeepsCongestion (opened_passively local peer isn syn now) }
+    ensures opened { (capacity : ℕ) (local peer : Endpoint) (isn : ℕ) (now : Moment) → KeepsCongestion (opened_actively capacity local peer isn now) }
+    ensures accepted { (capacity : ℕ) (local peer : Endpoint) (isn : ℕ) (syn : Segment) (now : Moment) → KeepsCongestion (opened_passively capacity local peer isn syn now) }
     ensures stays { (v : View) (e : Event) → IsSound v → KeepsCongestion v → KeepsCongestion (after_event v e) }
     ensures least { (v : View) → KeepsCongestion v → (is_opening v.state || is_closed v.state) ≡ false → v.sending.smss ≤ v.congestion.cwnd }
 {}
@@ -287,16 +298,16 @@ pub fn hard_errors_end_openings_alone()
 /// of its SYN; once the SYN-ACKs crossed, and then what is due for them, both are open, and each expects the number behind the other's SYN.
 pub fn simultaneous_openings_meet()
     ensures answers { (here there : Endpoint) (isn other : ℕ) (one two first : Moment) → isn < 2 ^ 32 → other < 2 ^ 32
-        → (let ends = crossed (record { one = opened_actively here there isn one; other = opened_actively there here other two }) first in AnswersSyn isn other ends.one × AnswersSyn other isn ends.other) }
+        → (let ends = crossed (record { one = opened_actively CAPACITY here there isn one; other = opened_actively CAPACITY there here other two }) first in AnswersSyn isn other ends.one × AnswersSyn other isn ends.other) }
     ensures opens { (here there : Endpoint) (isn other : ℕ) (one two first second third : Moment) → isn < 2 ^ 32 → other < 2 ^ 32
-        → (let ends = crossed (crossed (crossed (record { one = opened_actively here there isn one; other = opened_actively there here other two }) first) second) third in
+        → (let ends = crossed (crossed (crossed (record { one = opened_actively CAPACITY here there isn one; other = opened_actively CAPACITY there here other two }) first) second) third in
         HasOpened isn other ends.one × HasOpened other isn ends.other) }
 {}
 
 /// The three steps of an opening (RFC 9293 section 3.5, figure 6): what a SYN opens at a listener is to answer that by a SYN-ACK; a SYN-ACK that acknowledges our SYN opens the connection, and is to be
 /// acknowledged; and the acknowledgement of our SYN-ACK opens the listener's.
 pub fn openings_take_three_steps()
-    ensures answers { (local peer : Endpoint) (isn : ℕ) (syn : Segment) (now : Moment) → isn < 2 ^ 32 → AnswersSyn isn syn.number (opened_passively local peer isn syn now) }
+    ensures answers { (capacity : ℕ) (local peer : Endpoint) (isn : ℕ) (syn : Segment) (now : Moment) → isn < 2 ^ 32 → AnswersSyn isn syn.number (opened_passively capacity local peer isn syn now) }
     ensures opens { (v : View) (s : Segment) (now : Moment) → IsSound v → v.state ≡ State.SynSent → v.sending.nxt ≢ v.sending.una → s.flags.rst ≡ false → s.flags.syn ≡ true → s.flags.ack ≡ true
         → s.acknowledgement ≡ v.sending.nxt → OpenedBy s v (after_segment_at v s now) }
     ensures confirms { (v : View) (s : Segment) (now : Moment) → IsSound v → v.state ≡ State.SynReceived → v.sending.nxt ≢ v.sending.una → s.flags.rst ≡ false → s.flags.syn ≡ false → s.flags.fin ≡ false → s.flags.ack ≡ true
@@ -353,12 +364,24 @@ pub fn second_segments_are_acknowledged()
 {}
 
 /// The window is told in steps of a segment at least (RFC 1122 section 4.2.3.3, RFC 9293 section 3.8.6.2.2): its right edge stays, or moves on by 1,460 or more, up to the end of the free room. Such a step
-/// is told with what goes out next.
+/// is told with what goes out next, and by an acknowledgement alone where nothing else does, once the connection has spoken.
 pub fn windows_are_advertised_in_whole_steps()
     ensures steps { (v : View) (e : Event) → IsSound v → is_syn_sent v.state ≡ false → v.receiving.edge < 2 ^ 32 → ((after_event v e).receiving.edge ≡ v.receiving.edge)
-        ⊎ ((MSS ≤ past (after_event v e).receiving.edge v.receiving.edge) × ((after_event v e).receiving.edge ≡ (v.receiving.rnext + (CAPACITY - length v.receiving.readable)) % 2 ^ 32)) }
-    ensures told { (v : View) (now : Moment) → IsSound v → (is_opening v.state || is_closed v.state) ≡ false → past v.receiving.edge v.receiving.rnext + MSS + length v.receiving.readable ≤ CAPACITY
-        → (after_event v (Event.Emits now)).receiving.edge ≡ (v.receiving.rnext + (CAPACITY - length v.receiving.readable)) % 2 ^ 32 }
+        ⊎ ((MSS ≤ past (after_event v e).receiving.edge v.receiving.edge) × ((after_event v e).receiving.edge ≡ (v.receiving.rnext + (v.receiving.size - length v.receiving.readable)) % 2 ^ 32)) }
+    ensures told { (v : View) (now : Moment) → IsSound v → (is_opening v.state || is_closed v.state) ≡ false → (v.spoke ≡ true) ⊎ (first_due v ≢ None)
+        → past v.receiving.edge v.receiving.rnext + MSS + length v.receiving.readable ≤ v.receiving.size → (after_event v (Event.Emits now)).receiving.edge ≡ (v.receiving.rnext + (v.receiving.size - length v.receiving.readable)) % 2 ^ 32 }
+{}
+
+/// A connection has spoken once a segment with ACK and without SYN went out. Before, no acknowledgement goes out to tell its window alone, as what a listener opened would answer its handshake by one: it
+/// goes out alone only where it is owed, or where the connection has spoken and its window has grown by 1,460 or more. No octets stay unacknowledged by that: past the opening, an acknowledgement that
+/// waits does so until the connection has spoken, or is CLOSED.
+pub fn no_window_is_told_before_speaking()
+    ensures silent { (size : ℕ) (local peer : Endpoint) (isn : ℕ) (syn : Segment) (now : Moment) → ((opened_actively size local peer isn now).spoke ≡ false) × ((opened_passively size local peer isn syn now).spoke ≡ false) }
+    ensures speaks { (v : View) (e : Event) → ((after_event v e).spoke ≡ true)
+        ↔ ((v.spoke ≡ true) ⊎ ((now : Moment) × (due : Due) × (e ≡ Event.Emits now) × (first_due v ≡ Some due) × ((let f = flags_of v due in f.ack) ≡ true) × ((let f = flags_of v due in f.syn) ≡ false))) }
+    ensures alone { (v : View) → first_due v ≡ Some Due.Ack → (v.owes_ack ≡ true) ⊎ ((v.spoke ≡ true) × (past v.receiving.edge v.receiving.rnext + MSS + length v.receiving.readable ≤ v.receiving.size)) }
+    ensures waits { (v : View) (e : Event) → is_opening v.state ≡ false → v.delays_ack ≡ true → is_closed (after_event v e).state ≡ false
+        → ((after_event v e).delays_ack ≡ true) ⊎ ((after_event v e).spoke ≡ true) }
 {}
 
 /// The retransmission timer (RFC 6298 sections 5.1 and 5.3): an acknowledgement that moves SND.UNA starts it anew where something stays outstanding that isn't probed with, and so does any event by which it

@@ -1,9 +1,10 @@
 //! The timers: when each runs, and what a tick does (RFC 6298 section 5, RFC 9293 sections 3.8.1, 3.8.6 and 3.10.8).
 
-ghost use Rattle.std.specs.Prelude.{◌≡◌, false, None, if◌then◌else◌};
+ghost use Rattle.std.specs.Prelude.{◌≡◌, ◌&&◌, ◌||◌, not, false, None, if◌then◌else◌};
 ghost use Rattle.clock.specs.Moments.{has_come};
 ghost use Rattle.retransmit.specs.Deadlines.{next_of};
-ghost use Rattle.tcp_state.specs.Timing.{has_unacknowledged, probes, awaits_more, running, override_timer, awaits_first, unheard_since, clocked, expires, gives_up, retransmission_expired, probe_expired, after_expiry, delayed_ack_expired, override_expired, after_timers, after_tick, tick_fate, deadline};
+ghost use Rattle.tcp_state.specs.View.{IsSound, is_opening};
+ghost use Rattle.tcp_state.specs.Timing.{has_unacknowledged, probes, awaits_more, running, retransmission_timer, probe_timer, override_timer, interval_of, awaits_first, unheard_since, clocked, expires, gives_up, retransmission_expired, probe_expired, after_expiry, delayed_ack_expired, override_expired, after_timers, after_tick, tick_fate, deadline};
 
 use crate::calls::Refusal;
 use crate::connection::{Connection, Fate};
@@ -43,14 +44,56 @@ impl Connection {
                 .waits_for_more(self.congestion.window(), self.resend.is_overridden())
     }
 
+    /// Whether nothing of ours waits to go out or to be acknowledged: the connection is open, and no octet is held and no FIN unacknowledged.
+    fn is_idle(&self) -> bool
+        ensures value { result ≡ not (is_opening self.now.state || has_unacknowledged self.now) }
+        ensures sound { IsSound self.now }
+    {
+        self.sender.is_empty() && !self.state.is_opening() && !self.state.awaits_fin_ack()
+    }
+
     /// At the end of an event: the timers run, stop or begin as the connection wants them. `moved` tells whether the event moved
     /// SND.UNA.
     pub(crate) fn update_timers(&mut self, moved: bool, now: Moment)
         ensures { self.new ≡ clocked moved self.old now }
     {
+        let awaits_second = self.delays_ack && !self.owes_ack;
+        self.update_sending_timers(moved, now);
+        run_while(
+            awaits_second,
+            &mut self.timers.delayed_ack,
+            now,
+            DELAYED_ACK_WAIT,
+        );
+    }
+
+    /// The timers for what is sent run, stop or begin. Most connections have nothing to send at most events.
+    fn update_sending_timers(&mut self, moved: bool, now: Moment)
+        ensures { self.new ≡ record self.old { resend = record self.old.resend { interval = interval_of self.old; owes_probe = self.old.resend.owes_probe && probes self.old }; timers = record self.old.timers { retransmission = retransmission_timer self.old moved now; probe = probe_timer self.old now; overriding = override_timer self.old now }; unheard = unheard_since self.old now } }
+    {
+        if self.is_idle() {
+            self.stop_sending_timers();
+        } else {
+            self.run_sending_timers(moved, now);
+        }
+    }
+
+    /// No timer runs for what is sent, since there is nothing; that of octets that waited for more stays as it is.
+    fn stop_sending_timers(&mut self)
+        ensures { self.new ≡ record self.old { resend = record self.old.resend { interval = self.old.resend.timeout.rto; owes_probe = false }; timers = record self.old.timers { retransmission = None; probe = None }; unheard = None } }
+    {
+        self.resend.update_probing(false, false);
+        self.timers.retransmission = None;
+        self.timers.probe = None;
+        self.unheard = None;
+    }
+
+    /// The timers for what is sent run where it waits for something.
+    fn run_sending_timers(&mut self, moved: bool, now: Moment)
+        ensures { self.new ≡ record self.old { resend = record self.old.resend { interval = interval_of self.old; owes_probe = self.old.resend.owes_probe && probes self.old }; timers = record self.old.timers { retransmission = retransmission_timer self.old moved now; probe = probe_timer self.old now; overriding = override_timer self.old now }; unheard = unheard_since self.old now } }
+    {
         let is_probing = self.probes();
         let retransmits = self.sender.outstanding() > 0 && !is_probing;
-        let awaits_second = self.delays_ack && !self.owes_ack;
         let timeout = u64::from(self.resend.timeout());
         self.update_unheard(now);
         self.start_override(now);
@@ -61,12 +104,6 @@ impl Connection {
         }
         run_while(retransmits, &mut self.timers.retransmission, now, timeout);
         run_while(is_probing, &mut self.timers.probe, now, timeout);
-        run_while(
-            awaits_second,
-            &mut self.timers.delayed_ack,
-            now,
-            DELAYED_ACK_WAIT,
-        );
     }
 
     /// Whether a segment that takes numbers is due while nothing is outstanding.

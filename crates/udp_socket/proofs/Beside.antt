@@ -8,7 +8,7 @@ use Rattle.udp.specs.Waiting.{Waiting, Line, HasRoom, first_entry, first_octets}
 use Rattle.udp_socket.specs.declared.tag.Tag.{Tag}
 use Rattle.udp_socket.specs.SocketView.{Outgoing, SocketView, line_of, waiting_of}
 use Rattle.udp_socket.specs.Stored.{outgoing, outgoing_of, AreBeside, ArePartsOf, IsStored}
-use Rattle.udp_socket.specs.Emission.{due_peer, has_more}
+use Rattle.udp_socket.specs.Emission.{has_more}
 
 pub not_ok : {A B : Type 0} (r : Result A B) → IsErr r → IsOk r → ⊥
 not_ok (Ok x) err ok = cc
@@ -91,10 +91,6 @@ pub no_first : (tags : List Tag) (items : List Waiting) (tag : Tag) → AreBesid
 no_first [] items tag beside is none = cc
 no_first (t ∷ ts) [] tag beside is none = beside
 no_first (t ∷ ts) (w ∷ ws) tag beside is none = cc
-
-pub no_peer : (tags : List Tag) (items : List Waiting) → slice_get tags 0 ≡ None → None ≡ due_peer (outgoing_of tags items)
-no_peer [] items none = refl
-no_peer (tag ∷ tags) items none = cc
 
 -- at most 45 fragments, so their number has room
 pub few_parts : (tags : List Tag) (items : List Waiting) (parts : ℕ) → AreBeside tags items → ArePartsOf items parts → parts < 46

@@ -145,7 +145,7 @@ front_peer [] zs place peer is = cc
 front_peer (o ∷ os) zs zero peer is = is
 front_peer (o ∷ os) zs (suc place) peer is = front_peer os zs place peer is
 
-pub first_peer : (os : List Outgoing) → peer_at 0 os ≡ due_peer os
+first_peer : (os : List Outgoing) → peer_at 0 os ≡ due_peer os
 first_peer [] = refl
 first_peer (o ∷ os) = refl
 

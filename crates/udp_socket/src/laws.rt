@@ -75,7 +75,6 @@ pub fn others_stay_in_order()
     ensures later { (s : SocketView) (front back : List Outgoing) (o : Outgoing) → 0 < length front → s.outbox ≡ front ++ o ∷ back
         → brought (length front) s ≡ record s { outbox = o ∷ (front ++ back); parts = 0 } }
     ensures peer { (s : SocketView) (place : ℕ) (peer : Endpoint) → peer_at place s.outbox ≡ Some peer → due_peer (let b = brought place s in b.outbox) ≡ Some peer }
-    ensures first_peer { (outbox : List Outgoing) → peer_at 0 outbox ≡ due_peer outbox }
 {}
 
 /// Which datagrams are given up at a moment, but the last of the clock: those for lost addresses that have waited for 3,000 milliseconds or

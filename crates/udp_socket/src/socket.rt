@@ -44,7 +44,7 @@ impl Model for UdpSocket {
 impl UdpSocket {
     ghost use Rattle.ipv4.specs.Datagram.{HasPlace};
     ghost use Rattle.udp_socket.specs.SocketView.{has_room_in, has_room_out, new_socket, with_received, with_sent, read_answer, read_buffer, after_read};
-    ghost use Rattle.udp_socket.specs.Emission.{peer_at, due_peer, brought, due_part, due_octets, has_more, after_part};
+    ghost use Rattle.udp_socket.specs.Emission.{peer_at, brought, due_part, due_octets, has_more, after_part};
     ghost use Rattle.udp_socket.specs.Stored.{first_if};
     ghost use Rattle.udp_socket.specs.Waits.{is_given_up, after_giving_up, deadline};
 
@@ -123,14 +123,6 @@ impl UdpSocket {
         ensures { result ≡ peer_at place self.now.outbox }
     {
         let tag = self.tags.get(place).copied()?;
-        Some(tag.peer)
-    }
-
-    /// The endpoint that the first outgoing datagram is for. None where none is to go out.
-    pub fn due_peer(&self) -> Option<Endpoint>
-        ensures { result ≡ due_peer self.now.outbox }
-    {
-        let tag = self.tags.front().copied()?;
         Some(tag.peer)
     }
 

@@ -1,4 +1,4 @@
-use Rattle.udp_socket.proofs.Places.{brought_between, due_brought, first_peer}
+use Rattle.udp_socket.proofs.Places.{brought_between, due_brought}
 use Rattle.udp_socket.proofs.laws.others_stay_in_order.Goals as goal
 
 pub returns-clause-later : goal.returns-clause-later
@@ -6,6 +6,3 @@ returns-clause-later c = brought_between
 
 pub returns-clause-peer : goal.returns-clause-peer
 returns-clause-peer c = due_brought
-
-pub returns-clause-first_peer : goal.returns-clause-first_peer
-returns-clause-first_peer c = first_peer

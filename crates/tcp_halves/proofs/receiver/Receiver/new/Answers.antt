@@ -1,13 +1,22 @@
-use Rattle.std.proofs.Common.{ap, sym, subst}
-use Rattle.stream_buf.specs.Receiving.{ReceiveView}
+use Rattle.std.proofs.Common.{rules, ◌≡◌, sym, subst}
+use Rattle.tcp_halves.specs.Stream.{size_of}
 use Rattle.tcp_halves.proofs.Keeping.{IsKeeping, nothing_keeps, new_is}
 use Rattle.tcp_halves.proofs.receiver.Receiver.new.Goals as goal
 
 pub invariant_of-result : goal.invariant_of-result
-invariant_of-result c = let k = subst IsKeeping (new_is c.args.buffer c.requires) nothing_keeps in (ap (λ (b : ReceiveView). b.capacity) c.requires, k.fits, k.buffer, k.kept)
+invariant_of-result c =
+    let size : c.min-size.result ≡ size_of c.args.buffer.capacity = search rules in
+    let is = new_is c.args.buffer c.min-size.result c.requires.empty size in
+    let k = subst IsKeeping is (nothing_keeps c.args.buffer.capacity c.requires.most) in
+    (k.sized, k.most, k.fits, k.buffer, k.kept)
 
 pub returns-clause-value : goal.returns-clause-value
-returns-clause-value c = sym (new_is c.args.buffer c.requires)
+returns-clause-value c =
+    let size : c.min-size.result ≡ size_of c.args.buffer.capacity = search rules in
+    sym (new_is c.args.buffer c.min-size.result c.requires.empty size)
 
 pub returns-clause-kept : goal.returns-clause-kept
-returns-clause-kept c = (invariant_of-result c).3
+returns-clause-kept c = (invariant_of-result c).4
+
+pub returns-clause-buffer : goal.returns-clause-buffer
+returns-clause-buffer c = (invariant_of-result c).3

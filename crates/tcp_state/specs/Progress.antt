@@ -1,0 +1,36 @@
+-- What a connection that waits brings its peer, and what it hears (RFC 9293 sections 3.4, 3.8.1, 3.8.6 and 3.10.7.4).
+use Rattle.std.specs.Prelude.{◌≡◌, ◌<◌, ◌≤◌, true, false, [], length, take, Some}
+use Rattle.tcp_segment.specs.Segment.{Segment}
+use Rattle.clock.specs.declared.moment.Moment.{Moment}
+use Rattle.retransmit.specs.declared.timers.Timers.{Timers}
+use Rattle.retransmit.specs.declared.timers.TimerKind.{TimerKind}
+use Rattle.retransmit.specs.Deadlines.{deadline_of}
+use Rattle.tcp_state.specs.View.{View, awaits_fin_ack}
+
+-- no timer that runs lies past this moment
+abbrev pub AllCome : Timers → Moment → Type 0
+AllCome timers now = (kind : TimerKind) (deadline : Moment) → deadline_of timers kind ≡ Some deadline → deadline.0 ≤ now.0
+
+-- A segment with ACK, and without RST and SYN: what it acknowledges counts, and its octets and its FIN do.
+pub record IsOrdinary (s : Segment) : Type 0 where
+  pub ack : s.flags.ack ≡ true
+  pub no_rst : s.flags.rst ≡ false
+  pub no_syn : s.flags.syn ≡ false
+
+-- It begins at SND.UNA, and has the oldest of the octets that are held, one at least and no more than the peer takes. It acknowledges all that came in order, and has a FIN only where one waits to be acknowledged.
+pub record BringsOldest (v : View) (s : Segment) : Type 0 where
+  pub number : s.number ≡ v.sending.una
+  pub some : 0 < length s.octets
+  pub size : length s.octets ≤ v.sending.smss
+  pub octets : s.octets ≡ take (length s.octets) v.sending.held
+  pub acknowledgement : s.acknowledgement ≡ v.receiving.rnext
+  pub no_fin : awaits_fin_ack v.state ≡ false → s.flags.fin ≡ false
+  pub ordinary : IsOrdinary s
+
+-- an acknowledgement of all that came in order, at SND.NXT, and nothing else
+pub record IsAckAlone (v : View) (s : Segment) : Type 0 where
+  pub number : s.number ≡ v.sending.nxt
+  pub acknowledgement : s.acknowledgement ≡ v.receiving.rnext
+  pub octets : s.octets ≡ []
+  pub no_fin : s.flags.fin ≡ false
+  pub ordinary : IsOrdinary s
