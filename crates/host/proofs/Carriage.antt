@@ -8,6 +8,7 @@ use Rattle.clock.specs.declared.moment.Moment.{Moment}
 use Rattle.tcp_segment.specs.declared.head.Head.{Head}
 use Rattle.tcp_segment.specs.Segment.{Segment}
 use Rattle.tcp_segment.specs.Sent.{CanBeSent, sent_segment, sent_octets, sent_offset}
+use Rattle.tcp_segment.proofs.Sending.{most_offset}
 use Rattle.tcp_state.specs.declared.emission.Due.{Due}
 use Rattle.tcp_state.specs.View.{View}
 use Rattle.tcp_state.specs.Due.{emitted_len, first_due, head_of, octets_of as text_of, segment_octets as connection_octets}
@@ -108,10 +109,6 @@ reset-frame : (i : InterfaceView) (mac : Mac) (to : Addr) (head : Head) → repl
 unfolding reply_frame
 reset-frame i mac to head = refl
 
-offset_most : (b : Bool) → 4 * cond b 6 5 + 0 ≤ 1480
-offset_most true = omega arith
-offset_most false = omega arith
-
 reply-goes : (h : HostView) (moment : Moment) → IsSoundHost h → (reply : Reply) → IsSoundReply h.interface.addr reply → (w : Way) → way_of h.interface moment reply ≡ w
     → Carry h.interface (frame_by h.interface reply w) (carried_reply reply w)
 reply-goes h moment sound (Arp packet) solid (To theirs) is = record {
@@ -127,7 +124,7 @@ reply-goes h moment sound (Reset to head) solid (To theirs) is = record {
   segment = refl;
   can = solid.sendable;
   whole = way-mac h.interface moment to theirs sound.interface is;
-  fits = offset_most head.flags.syn;
+  fits = omega (arith, most_offset head);
 }
 reply-goes h moment sound (Reset to head) solid (Ask hop) is = request-goes h.interface hop sound.interface.mac
 reply-goes h moment sound (Reset to head) solid Waits is = nothing-goes

@@ -2,6 +2,7 @@
 use Rattle.std.proofs.Common.{ℕ, ◌+◌, ◌*◌, ◌%◌, ◌<◌, ◌≤◌, ◌^◌, if◌then◌else◌, Bool, true, false, length, drop, arith, length-take}
 use Rattle.tcp_segment.specs.Segment.{FieldsFit}
 use Rattle.tcp_segment.specs.Sent.{CanBeSent, sent_segment, sent_offset}
+use Rattle.tcp_segment.proofs.Sending.{most_offset}
 use Rattle.tcp_state.specs.declared.emission.Due.{Due}
 use Rattle.tcp_state.specs.declared.emission.Due.TheVariants.{Rst, Syn, Text, Probe, Ack}
 use Rattle.tcp_state.specs.declared.emission.Stretch.{Stretch}
@@ -35,24 +36,20 @@ text_fits v (Text stretch) may = stretch_fits v stretch may
 text_fits v Probe may = stretch_fits v (probe_stretch v) may
 text_fits v Ack may = omega arith
 
-offset_fits : (b : Bool) → (if b then 6 else 5) ≤ 6
-offset_fits true = omega arith
-offset_fits false = omega arith
-
 -- the window up to the edge that is told with a segment
-told_fits : (r : Receiving) → r.rnext < 2 ^ 32 → ReceivingFits r → receive_window (after_advertisement r) < 2 ^ 16
-told_fits r small fits = by_growth (has_grown r)
+told_fits : (r : Receiving) → r.rnext < 2 ^ 32 → r.size ≤ 65535 → ReceivingFits r → receive_window (after_advertisement r) < 2 ^ 16
+told_fits r small told fits = by_growth (has_grown r)
   where
     by_growth : (grown : Bool) → receive_window (if grown then record r { edge = (r.rnext + receive_room r) % 2 ^ 32 } else r) < 2 ^ 16
-    by_growth true = omega (arith, small)
-    by_growth false = omega (arith, fits)
+    by_growth true = omega (arith, small, told)
+    by_growth false = omega (arith, told, fits)
 
 window_fits : (v : View) (due : Due) → IsSound v → window_of v due < 2 ^ 16
 window_fits v Rst sound = omega arith
-window_fits v Syn sound = told_fits v.receiving sound.rnext sound.window
-window_fits v (Text stretch) sound = told_fits v.receiving sound.rnext sound.window
-window_fits v Probe sound = told_fits v.receiving sound.rnext sound.window
-window_fits v Ack sound = told_fits v.receiving sound.rnext sound.window
+window_fits v Syn sound = told_fits v.receiving sound.rnext sound.receive_size sound.window
+window_fits v (Text stretch) sound = told_fits v.receiving sound.rnext sound.receive_size sound.window
+window_fits v Probe sound = told_fits v.receiving sound.rnext sound.receive_size sound.window
+window_fits v Ack sound = told_fits v.receiving sound.rnext sound.receive_size sound.window
 
 fields_fit : (v : View) (due : Due) → IsSoundConnection v → FieldsFit (sent_segment (head_of v due) (octets_of v due))
 fields_fit v due k = record {
@@ -70,7 +67,7 @@ due-can v due k may = record {
   src_octets = k.local.addr;
   dst_octets = k.peer.addr;
   fields = fields_fit v due k;
-  len = omega (arith, text_fits v due may, offset_fits (head_of v due).flags.syn);
+  len = omega (arith, text_fits v due may, most_offset (head_of v due));
 }
 
 -- a segment with its header has 1,480 octets at most

@@ -162,23 +162,42 @@ past-place [] n at = drop-nil n
 past-place (y ∷ ys) zero at = cc
 past-place (y ∷ ys) (suc n) at = past-place ys n at
 
+-- the first of all it has due: nothing, one for which something is planned, or one that is passed
+
+pub first_nothing : (h : HostView) (now : Moment) (place : ℕ) (dues : List (Endpoint × Outgoing)) → slice_get dues 0 ≡ None → None ≡ plan_to h now place (first_from h now dues)
+first_nothing h now place [] none = refl
+first_nothing h now place (d ∷ rest) none = cc
+
+pub first_found : (h : HostView) (now : Moment) (place : ℕ) (dues : List (Endpoint × Outgoing)) (due : Endpoint × Outgoing) (p : Option Plan) → slice_get dues 0 ≡ Some due → p ≡ plan_by place due.1 due.0.addr (way h.interface now due.0.addr)
+    → is_some p ≡ true → p ≡ plan_to h now place (first_from h now dues)
+first_found h now place [] due p at is some = cc
+first_found h now place (d ∷ rest) due p at is some =
+    let same : d ≡ due = cc in sym (ap (λ (x : Endpoint × Outgoing). plan_to h now place (first_from h now (x ∷ rest))) same ∙ plan_here h now place due rest p is some)
+
+pub first_passed : (h : HostView) (now : Moment) (place : ℕ) (dues : List (Endpoint × Outgoing)) (due : Endpoint × Outgoing) (p behind : Option Plan) → slice_get dues 0 ≡ Some due → p ≡ plan_by place due.1 due.0.addr (way h.interface now due.0.addr)
+    → is_some p ≡ false → behind ≡ plan_to h now place (first_from h now (drop 1 dues)) → behind ≡ plan_to h now place (first_from h now dues)
+first_passed h now place [] due p behind at is none told = cc
+first_passed h now place (d ∷ rest) due p behind at is none told =
+    let same : d ≡ due = cc in
+    told ∙ sym (ap (plan_to h now place) (ap (λ (x : Endpoint × Outgoing). first_from h now (x ∷ rest)) same ∙ plan_further h now place due rest p is none))
+
 -- what the loop over them finds: something in a place, nothing there, nothing more, or the end
 
-pub plan_found : (h : HostView) (now : Moment) (place : ℕ) (dues : List (Endpoint × Outgoing)) (n : ℕ) (due : Endpoint × Outgoing) (p : Option Plan) → first_from h now dues ≡ first_from h now (drop n dues) → slice_get dues n ≡ Some due
-    → p ≡ plan_by place due.1 due.0.addr (way h.interface now due.0.addr) → is_some p ≡ true → p ≡ plan_to h now place (first_from h now dues)
-plan_found h now place dues n due p so_far at is some =
+pub plan_found : (h : HostView) (now : Moment) (place : ℕ) (dues : List (Endpoint × Outgoing)) (o : Option (Endpoint × Outgoing)) (n : ℕ) (due : Endpoint × Outgoing) (p : Option Plan) → o ≡ first_from h now (drop n dues) → slice_get dues n ≡ Some due
+    → p ≡ plan_by place due.1 due.0.addr (way h.interface now due.0.addr) → is_some p ≡ true → p ≡ plan_to h now place o
+plan_found h now place dues o n due p so_far at is some =
     sym (ap (plan_to h now place) (so_far ∙ ap (first_from h now) (from-place dues n due at)) ∙ plan_here h now place due (drop (n + 1) dues) p is some)
 
-pub plan_passed : (h : HostView) (now : Moment) (place : ℕ) (dues : List (Endpoint × Outgoing)) (n : ℕ) (due : Endpoint × Outgoing) (p : Option Plan) → first_from h now dues ≡ first_from h now (drop n dues) → slice_get dues n ≡ Some due
-    → p ≡ plan_by place due.1 due.0.addr (way h.interface now due.0.addr) → is_some p ≡ false → first_from h now dues ≡ first_from h now (drop (n + 1) dues)
-plan_passed h now place dues n due p so_far at is none =
+pub plan_passed : (h : HostView) (now : Moment) (place : ℕ) (dues : List (Endpoint × Outgoing)) (o : Option (Endpoint × Outgoing)) (n : ℕ) (due : Endpoint × Outgoing) (p : Option Plan) → o ≡ first_from h now (drop n dues) → slice_get dues n ≡ Some due
+    → p ≡ plan_by place due.1 due.0.addr (way h.interface now due.0.addr) → is_some p ≡ false → o ≡ first_from h now (drop (n + 1) dues)
+plan_passed h now place dues o n due p so_far at is none =
     so_far ∙ ap (first_from h now) (from-place dues n due at) ∙ plan_further h now place due (drop (n + 1) dues) p is none
 
-pub plan_nothing : (h : HostView) (now : Moment) (place : ℕ) (dues : List (Endpoint × Outgoing)) (n : ℕ) → first_from h now dues ≡ first_from h now (drop n dues) → slice_get dues n ≡ None → None ≡ plan_to h now place (first_from h now dues)
-plan_nothing h now place dues n so_far none = sym (ap (plan_to h now place) (so_far ∙ ap (first_from h now) (past-place dues n none)))
+pub plan_nothing : (h : HostView) (now : Moment) (place : ℕ) (dues : List (Endpoint × Outgoing)) (o : Option (Endpoint × Outgoing)) (n : ℕ) → o ≡ first_from h now (drop n dues) → slice_get dues n ≡ None → None ≡ plan_to h now place o
+plan_nothing h now place dues o n so_far none = sym (ap (plan_to h now place) (so_far ∙ ap (first_from h now) (past-place dues n none)))
 
-pub plan_ended : (h : HostView) (now : Moment) (place : ℕ) (dues : List (Endpoint × Outgoing)) (n : ℕ) → first_from h now dues ≡ first_from h now (drop n dues) → length dues ≤ n → None ≡ plan_to h now place (first_from h now dues)
-plan_ended h now place dues n so_far past = plan_nothing h now place dues n so_far (slice_get_past dues n past)
+pub plan_ended : (h : HostView) (now : Moment) (place : ℕ) (dues : List (Endpoint × Outgoing)) (o : Option (Endpoint × Outgoing)) (n : ℕ) → o ≡ first_from h now (drop n dues) → length dues ≤ n → None ≡ plan_to h now place o
+plan_ended h now place dues o n so_far past = plan_nothing h now place dues o n so_far (slice_get_past dues n past)
 
 -- it sends where something is planned
 plan_sends : (h : HostView) (now : Moment) (place : ℕ) (e : Entry) → sends (goes_out_from h now) e ≡ is_some (plan_to h now place (due_to (goes_out_from h now) e.role))

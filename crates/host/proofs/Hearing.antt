@@ -1,6 +1,6 @@
 -- What is heard of a frame that goes out: a segment or an ICMP message at its address, as it was meant, and neither in anything else, such as
 -- a part of a UDP datagram.
-use Rattle.std.proofs.Common.{◌≡◌, ℕ, ◌+◌, ◌*◌, ◌≤◌, Bool, true, false, cond, if◌then◌else◌, List, [], ◌++◌, length, append-nil, Option, Some, None, Ok, refl, ap, arith}
+use Rattle.std.proofs.Common.{◌≡◌, ℕ, ◌+◌, ◌*◌, ◌≤◌, Bool, true, false, if◌then◌else◌, List, [], ◌++◌, length, append-nil, Option, Some, None, Ok, refl, ap, arith}
 use Rattle.ether.specs.declared.mac.Mac.{Mac}
 use Rattle.ipv4.specs.declared.addr.Addr.{Addr}
 use Rattle.clock.specs.declared.moment.Moment.{Moment}
@@ -9,6 +9,7 @@ use Rattle.arp.specs.Packet.{request_of}
 use Rattle.arp.specs.Cache.{look, may_ask}
 use Rattle.tcp_segment.specs.declared.head.Head.{Head}
 use Rattle.tcp_segment.specs.Sent.{CanBeSent, sent_segment, sent_octets, sent_offset}
+use Rattle.tcp_segment.proofs.Sending.{most_offset}
 use Rattle.icmp.specs.Message.{Message, Spells, spelling}
 use Rattle.icmp.specs.Sent.{echo_reply, error_for}
 use Rattle.icmp.proofs.Answering.{echo_spelled, error_spelled}
@@ -90,30 +91,26 @@ unfolding segment_frame_to
 message-segment i theirs to head octets mac ours c can whole own fits e =
     no_message_in_segment (head_to i theirs to) (sent_octets i.addr to head octets) mac ours c can.src_octets can.dst_octets whole own (omega (arith, sent_octets_len i.addr to head octets, fits)) e
 
-offset_most : (b : Bool) → 4 * cond b 6 5 ≤ 1480
-offset_most true = omega arith
-offset_most false = omega arith
-
 -- a reset
 pub heard-reset : (i : InterfaceView) (theirs : Mac) (to : Addr) (head : Head) (mac : Mac) (ours : Addr) (r : ReceivedSegment) → CanBeSent i.addr to head [] → length theirs.0 ≡ 6 → length i.mac.0 ≡ 6
     → heard mac ours (reply_frame i theirs (Reset to head)) ≡ Ok (Tcp r) → (ours ≡ to) × (r ≡ record { source = i.addr; segment = sent_segment head [] })
 unfolding reply_frame
 heard-reset i theirs to head mac ours r can whole own e =
-    let most : 4 * sent_offset head ≤ 1480 = offset_most head.flags.syn in
+    let most : 4 * sent_offset head ≤ 1480 = omega (arith, most_offset head) in
     heard-segment i theirs to head [] mac ours r can whole own (omega (arith, most)) e
 
 pub pair-reset : (i : InterfaceView) (theirs : Mac) (to : Addr) (head : Head) → CanBeSent i.addr to head [] → length theirs.0 ≡ 6 → length i.mac.0 ≡ 6
     → pair_in (reply_frame i theirs (Reset to head)) ≡ Some (pair_between i.addr to (sent_segment head []))
 unfolding reply_frame
 pair-reset i theirs to head can whole own =
-    let most : 4 * sent_offset head ≤ 1480 = offset_most head.flags.syn in
+    let most : 4 * sent_offset head ≤ 1480 = omega (arith, most_offset head) in
     pair-segment i theirs to head [] can whole own (omega (arith, most))
 
 pub message-reset : (i : InterfaceView) (theirs : Mac) (to : Addr) (head : Head) (mac : Mac) (ours : Addr) (c : Control) → CanBeSent i.addr to head [] → length theirs.0 ≡ 6 → length i.mac.0 ≡ 6
     → heard mac ours (reply_frame i theirs (Reset to head)) ≡ Ok (Icmp c) → ⊥
 unfolding reply_frame
 message-reset i theirs to head mac ours c can whole own e =
-    let most : 4 * sent_offset head ≤ 1480 = offset_most head.flags.syn in
+    let most : 4 * sent_offset head ≤ 1480 = omega (arith, most_offset head) in
     message-segment i theirs to head [] mac ours c can whole own (omega (arith, most)) e
 
 -- An ICMP message.

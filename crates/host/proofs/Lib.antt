@@ -20,5 +20,6 @@ pub mod ComesUp
 pub mod Owed
 pub mod Late
 pub mod Hopless
+pub mod HopEnds
 pub mod RunsDry
 pub mod Quiet

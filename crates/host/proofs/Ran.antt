@@ -4,6 +4,7 @@ use Rattle.std.specs.Result.{result_err}
 use Rattle.ipv4.specs.Addresses.{IsUnicast}
 use Rattle.routes.specs.declared.route.Route.{Route}
 use Rattle.interface.specs.Sound.{IsSound}
+use Rattle.tcp_halves.specs.declared.buffers.TheConstants.{CAPACITY}
 use Rattle.sockets.specs.declared.entry.Kind.{Kind}
 use Rattle.sockets.specs.declared.entry.Kind.TheVariants.{Tcp, Udp}
 use Rattle.sockets.specs.declared.entry.SocketId.{SocketId}
@@ -73,7 +74,7 @@ has-place r true is fine = let refused : r ≡ Err EMFILE = is.1 refl in let no 
 pub made : {old layers host : HostView} (r : Result SocketId Refusal) (kind : Kind) (new : SocketsView) → old ≡ layers → layers ≡ host → IsSoundHost host → HasRun layers
     → (r ≡ Err EMFILE) ↔ IsTrue (is_table_full old.sockets) → IfOk r (λ id. (id.0 ≡ old.sockets.last_id + 1) × IsMade kind old.sockets new) → OnErr r (new ≡ old.sockets) → HasRun (with_sockets old new)
 made {old = old} (Ok id) Tcp new opened is sound run full new_one same =
-    called (Ok id) (table.Makes new_one.1.0) new opened is sound run tt tt (has-place (Ok id) (is_table_full old.sockets) full) new_one.1.1 tt
+    called (Ok id) (table.Makes CAPACITY) new opened is sound run tt tt (has-place (Ok id) (is_table_full old.sockets) full) new_one.1 tt
 made {old = old} (Ok id) Udp new opened is sound run full new_one same =
     called (Ok id) table.MakesDatagrams new opened is sound run tt tt (has-place (Ok id) (is_table_full old.sockets) full) new_one.1 tt
 made (Err refusal) kind new opened is sound run full new_one same = called {T = SocketId} (Err refusal) table.MakesDatagrams new opened is sound run tt tt (λ fine. let no : false ≡ true = fine in cc) tt same

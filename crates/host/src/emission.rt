@@ -1,9 +1,9 @@
 //! The frames that go out.
 
-ghost use Rattle.std.specs.Prelude.{◌≡◌, ◌≤◌, ◌++◌, drop, IfSome, Some};
+ghost use Rattle.std.specs.Prelude.{◌≡◌, ◌≤◌, ◌++◌, drop, find, IfSome, Some};
 ghost use Rattle.interface.specs.Ways.{way};
 ghost use Rattle.sockets.specs.Emission.{IsNextAt};
-ghost use Rattle.sockets.specs.Entries.{due_to, IsDueAt};
+ghost use Rattle.sockets.specs.Entries.{dues_of, due_to, IsDueAt};
 ghost use Rattle.host.specs.Emission.{Sends};
 
 use crate::layers::Layers;
@@ -122,11 +122,25 @@ impl Layers {
         None
     }
 
-    /// What can go out for the entry in this place: for the first of what it has due for which a frame can.
+    /// What can go out for the entry in this place: for the first of what it has due for which a frame can. For most entries that is the first of
+    /// all, or nothing is due.
     fn plan_for(&self, now: Moment, place: usize, entry: &Entry) -> Option<Plan>
         ensures { result ≡ plan_to self.now now place (due_to (goes_out_from self.now now) entry.now.role) }
     {
-        for number in 0..entry.due_places() {
+        let (peer, outgoing) = entry.due_at(0)?;
+        let plan = self.plan_by(now, place, outgoing, peer.addr);
+        if plan.is_some() {
+            return plan;
+        }
+        self.plan_behind(now, place, entry)
+    }
+
+    /// What can go out for the entry in this place: for the first of what it has due behind the first for which a frame can.
+    #[cold]
+    fn plan_behind(&self, now: Moment, place: usize, entry: &Entry) -> Option<Plan>
+        ensures { result ≡ plan_to self.now now place (find (λ due. goes_out_from self.now now due.0.addr) (drop 1 (dues_of entry.now.role))) }
+    {
+        for number in 1..entry.due_places() {
             let (peer, outgoing) = entry.due_at(number)?;
             let plan = self.plan_by(now, place, outgoing, peer.addr);
             if plan.is_some() {

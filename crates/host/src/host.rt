@@ -18,7 +18,7 @@ use tcp_segment::Seq;
 /// A host with one interface and one address. Its frame side is the interface, its sockets are a table over the same address, and in its pool
 /// fragments of datagrams are put together. The making of a host takes memory, for the control replies that will wait and for the four
 /// datagrams of the pool, and so do sockets and the connections that frames open; nothing else does. The 64 places of the table lie in the
-/// host itself, which has some 16 KiB.
+/// host itself, which has some 61 kB.
 #[derive(Drop)]
 pub struct Host {
     pub(crate) layers: Layers,

@@ -10,7 +10,7 @@ ghost use Rattle.ipv4.specs.declared.addr.Endpoint.{Endpoint};
 ghost use Rattle.ipv4.specs.Addresses.{IsUnicast};
 ghost use Rattle.ipv4.specs.Datagram.{Datagram, header_octets};
 ghost use Rattle.clock.specs.declared.moment.Moment.{Moment};
-ghost use Rattle.clock.specs.Moments.{has_come};
+ghost use Rattle.clock.specs.Moments.{after, has_come};
 ghost use Rattle.arp.specs.Cache.{after_age};
 ghost use Rattle.icmp.specs.declared.error.Reason.{Reason};
 ghost use Rattle.icmp.specs.declared.error.Reason.TheVariants.{ProtocolUnreachable, PortUnreachable};
@@ -43,10 +43,12 @@ ghost use Rattle.sockets.specs.declared.entry.SocketId.{SocketId};
 ghost use Rattle.sockets.specs.declared.role.Role.{Role};
 ghost use Rattle.sockets.specs.declared.role.Role.TheVariants.{Connected, Datagrams};
 ghost use Rattle.sockets.specs.Causes.{pending_error_in, TellsStill};
+ghost use Rattle.sockets.specs.Closing.{entry_of};
 ghost use Rattle.sockets.specs.Entries.{due_to, is_datagrams_at, sends};
 ghost use Rattle.sockets.specs.Offered.{IsReached};
 ghost use Rattle.sockets.specs.Order.{IsOrdered};
 ghost use Rattle.sockets.specs.Sound.{NoneIsOver};
+ghost use Rattle.sockets.specs.Steps.{connected};
 ghost use Rattle.sockets.specs.Timing.{EachKeepsTime, AreNear};
 ghost use Rattle.sockets.specs.SocketsView.{later_moment, role_of};
 ghost use Rattle.sockets.specs.Ticks.{least_deadline as timer_deadline};
@@ -55,7 +57,7 @@ ghost use Rattle.host.specs.HostView.{HostView, new_host, with_interface, with_s
 ghost use Rattle.host.specs.Arrival.{IsDelivered, MeetsSegment, heard_by, segment_arrival};
 ghost use Rattle.host.specs.Carried.{Carried, carried};
 ghost use Rattle.host.specs.Causes.{IsAbout};
-ghost use Rattle.host.specs.ComesUp.{IsDueSoon, IsQuiet, ComesUp, ConnectionComesUp, address_of, is_on_route};
+ghost use Rattle.host.specs.ComesUp.{IsDueSoon, IsQuiet, ComesUp, ConnectionComesUp, HasEnded, WaitsSince, address_of, is_on_route, most_wait};
 ghost use Rattle.host.specs.Emission.{Replies, Sends, Nothing, emission, emission_to, emission_len, after_emission, emission_octets, goes_out_from};
 ghost use Rattle.host.specs.Messages.{errors_of};
 ghost use Rattle.host.specs.Places.{Place, ReplyOf, EntryOf, places, can_go_out};
@@ -129,6 +131,10 @@ pub fn deadline_is_the_least()
 /// since a request of the clock's last moment stands in the way. Each control reply that waits is such a place, and so is each datagram that a UDP socket has to send. A connection with
 /// something to send is one, or the deadline is not after that of its own timers. So where no frame can go out and there is no deadline, nothing waits for which there is a way, but for
 /// an acknowledgement that is held at the end of the clock: who asks for frames until none goes out, and then sleeps until the deadline, leaves nothing behind.
+///
+/// No connection waits for its hop for ever (RFC 1122 section 4.2.3.5, RFC 9293 section 3.8.3): at a host that ticks at its deadlines none is in the table 483,000 ms after all of it that was to go out could not,
+/// and none of those that a listener opened and that are not established after 3,000 ms. Until its deadline has come none has waited so long; a tick ends each that has: it is out of the table, or it is CLOSED and
+/// each call is told ETIMEDOUT (`duties::waits_for_hops_end` says which); and so none is left by a tick that has.
 pub fn what_is_due_comes_up()
     ensures place { (h : HostView) (place : Place) → HasRun h → Contains (places h) place → is_on_route h.interface.routes (address_of place) ≡ true → ComesUp h place }
     ensures reply { (h : HostView) (w : Waiting) → HasRun h → Contains h.interface.replies w → IsDueSoon h (ReplyOf w) }
@@ -136,6 +142,12 @@ pub fn what_is_due_comes_up()
         → e.role ≡ Datagrams bound socket → slice_get socket.outbox place ≡ Some o → IsTrue (is_routed h.interface o.peer.addr) → IsDueSoon h (EntryOf e o.peer (due.Datagram place)) }
     ensures connection { (h : HostView) (e : Entry) (c : View) (listener : Option SocketId) → IsSoundHost h → HasRun h → Contains h.sockets.entries e → e.role ≡ Connected c listener
         → IsTrue (is_routed h.interface c.peer.addr) → HasToSend c → ConnectionComesUp h e c }
+    ensures in_time { (h : HostView) (now : Moment) (e : Entry) (c : View) (listener : Option SocketId) (since : Moment) → IsSoundHost h → HasRun h → Contains h.sockets.entries e → e.role ≡ Connected c listener
+        → WaitsSince h h.sockets.kept c since → has_come (least_deadline h) now ≡ false → now.0 < (let end = after since (most_wait c) in end.0) }
+    ensures ends { (h : HostView) (now : Moment) (id : SocketId) (c : View) (listener : Option SocketId) (since : Moment) → IsSoundHost h → HasRun h → entry_of h.sockets id ≡ Some (connected id c listener)
+        → WaitsSince h (later_moment h.sockets now) c since → (let end = after since (most_wait c) in end.0) ≤ (let at = later_moment h.sockets now in at.0) → HasEnded (after_tick h now) id listener }
+    ensures none_left { (h : HostView) (now : Moment) (e : Entry) (c : View) (listener : Option SocketId) (since : Moment) → IsSoundHost h → HasRun h → let left = after_tick h now in
+        Contains left.sockets.entries e → e.role ≡ Connected c listener → WaitsSince left left.sockets.kept c since → left.sockets.kept.0 < (let end = after since (most_wait c) in end.0) }
     ensures never_silent { (h : HostView) → IsSoundHost h → HasRun h → find (can_go_out h h.sockets.kept) (places h) ≡ None → least_deadline h ≡ None → IsQuiet h }
 {}
 

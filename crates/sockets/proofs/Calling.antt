@@ -70,14 +70,14 @@ module _ (h : SocketsView) (id : SocketId) (c : View) (is : role_of h id ≡ Som
       ap (λ b. not (false || b)) same ∙ held
 
   pub send_answered : (octets : List ℕ) → c.pending_error ≡ None → is_opening c.state ≡ false → is_write_closed c.state ≡ false
-      → (let room = 65535 - length c.sending.held in send_answer h id octets ≡ (if (room == 0) && not (length octets == 0) then Err EAGAIN else Ok (min (length octets) room)))
+      → (let room = c.sending.size - length c.sending.held in send_answer h id octets ≡ (if (room == 0) && not (length octets == 0) then Err EAGAIN else Ok (min (length octets) room)))
   send_answered octets told opened writes =
-      by_test ((65535 - length c.sending.held == 0) && not (length octets == 0)) (λ full. rw (is, told, opened, writes, full) refl) (λ room. rw (is, told, opened, writes, room) refl)
+      by_test ((c.sending.size - length c.sending.held == 0) && not (length octets == 0)) (λ full. rw (is, told, opened, writes, full) refl) (λ room. rw (is, told, opened, writes, room) refl)
 
   pub send_moved : (octets : List ℕ) → c.pending_error ≡ None → is_opening c.state ≡ false → is_write_closed c.state ≡ false
-      → (d : View) × (role_of (call.after_send h id octets) id ≡ Some (Connected d None)) × HoldsMore (take (min (length octets) (65535 - length c.sending.held)) octets) c d
+      → (d : View) × (role_of (call.after_send h id octets) id ≡ Some (Connected d None)) × HoldsMore (take (min (length octets) (c.sending.size - length c.sending.held)) octets) c d
   send_moved octets told opened writes =
-      let taken : List ℕ = take (min (length octets) (65535 - length c.sending.held)) octets in
+      let taken : List ℕ = take (min (length octets) (c.sending.size - length c.sending.held)) octets in
       let after : after_send c octets h.kept ≡ with_octets c taken h.kept = rw (told, opened, writes) refl in
       let moved : HoldsMore taken c (after_send c octets h.kept) = subst (HoldsMore taken c) (sym after) (holds taken) in
       (after_send c octets h.kept, socket_changed h id (role_after_send h.kept octets) (Connected c None) is (owned (after_send c octets h.kept) moved.left), moved)

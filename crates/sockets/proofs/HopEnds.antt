@@ -63,16 +63,16 @@ module _ (c : View) (since : Moment) (sound : IsSound c) (keeps : KeepsTime c) (
   -- where nothing of ours is left, nothing waits
   finished : (is_opening c.state ≡ false) × (awaits_fin_ack c.state ≡ false) × (is_write_finished c.state ≡ true) → true ≡ false
   finished t =
-      let held : length c.sending.held ≡ 0 = none_held (is_opening c.state) (is_write_finished c.state) (length c.sending.held) t.2 sound.held in
+      let held : length c.sending.held ≡ 0 = none_held c.sending.size (is_opening c.state) (is_write_finished c.state) (length c.sending.held) t.2 sound.held in
       sym awaited ∙ awaits_nothing c t.0 held t.1
     where
-      none_held : (opens closed : Bool) (n : ℕ) → closed ≡ true → n ≤ (if opens || closed then 0 else 65535) → n ≡ 0
-      none_held opens closed n e few = grind (arith, common_steps)
+      none_held : (size : ℕ) (opens closed : Bool) (n : ℕ) → closed ≡ true → n ≤ (if opens || closed then 0 else size) → n ≡ 0
+      none_held size opens closed n e few = grind (arith, common_steps)
 
   lives_on : (now : Moment) → is_at_end c now ≡ false
   lives_on now = by_test (is_at_end c now) (λ ends. let bad = finished (nothing_left c.state c.released c.since now ends) in cc) (λ on. on)
 
-  unowing : c.owes_reset ≡ false
+  pub unowing : c.owes_reset ≡ false
   unowing =
       by_test c.owes_reset
       (λ owes. let closed : is_closed c.state ≡ true = grind (arith, common_steps, sound.reset) in let bad = finished (closed_left c.state closed) in cc)
@@ -97,7 +97,7 @@ none_found lost now id (x ∷ xs) none =
     let rest = none_found lost now id xs (rw there at none) in
     by_test (is_kept (give_up_fate_of lost now x.role)) (λ kept. rw (kept, there) rest) (λ gone. rw gone rest))
 
-later_again : (k n : Moment) → let m : Moment = if nat_lt k.0 n.0 then n else k in ◌≡◌ {A = Moment} (if nat_lt m.0 n.0 then n else m) m
+pub later_again : (k n : Moment) → let m : Moment = if nat_lt k.0 n.0 then n else k in ◌≡◌ {A = Moment} (if nat_lt m.0 n.0 then n else m) m
 later_again k n = by_order (nat_lt k.0 n.0) refl
   where
     same : (b : Bool) → ◌≡◌ {A = Moment} (if b then n else n) n
@@ -190,7 +190,7 @@ module _ (h : SocketsView) (lost : Addr → Bool) (now : Moment) (id : SocketId)
       half_on = ap (λ (v : View). v.passive && is_syn_received v.state) like
 
       hopless_on : lost c.peer.addr ≡ true → is_hopless lost d ≡ true
-      hopless_on unreached = ap (λ (b : Bool). not b && lost d.peer.addr) unowing_on ∙ ap (λ (v : View). lost v.peer.addr) like ∙ unreached
+      hopless_on unreached = let far : lost d.peer.addr ≡ true = ap (λ (v : View). lost v.peer.addr) like ∙ unreached in rw (unowing_on, far) refl
 
       over_on : (m : Moment) → m.0 ≤ by_then.0 → m.0 ≤ (let later = later_moment timers now in later.0)
       over_on m over = subst (λ (at : Moment). m.0 ≤ at.0) (sym same_moment) over

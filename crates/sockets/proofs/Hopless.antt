@@ -16,7 +16,7 @@ use Rattle.sockets.specs.Causes.{Event, GivesUp}
 use Rattle.sockets.specs.Closing.{entry_of}
 use Rattle.sockets.specs.Entries.{is_kept}
 use Rattle.sockets.specs.Ids.{has_id}
-use Rattle.sockets.specs.Lost.{is_hopless, after_giving_up}
+use Rattle.sockets.specs.Lost.{is_hopless, after_giving_up, give_up_at}
 use Rattle.sockets.specs.Order.{IsOrdered}
 use Rattle.sockets.specs.Sound.{IsSoundRole, IsSoundTable}
 use Rattle.sockets.specs.SocketsView.{SocketsView, later_moment}
@@ -44,11 +44,11 @@ module _ (h : SocketsView) (lost : Addr → Bool) (now : Moment) (id : SocketId)
   -- nothing waits, or not so long
   stays_by : c.owes_reset ≡ false → (edge.after_event c (edge.LosesHop (later_moment h now)) ≡ c) × (edge.fate_by c (edge.LosesHop (later_moment h now)) ≡ Stays) → entry_of (after_giving_up h lost now) id ≡ Some (connected id c listener)
   stays_by other step =
-      left ∙ by_test (lost c.peer.addr)
-      (λ unreached. let kept : is_kept (edge.fate_by c (edge.LosesHop (later_moment h now))) ≡ true = ap is_kept step.1 in
-      let goes : connection_left h (GivesUp lost now) id c listener ≡ Some (connected id (edge.after_event c (edge.LosesHop (later_moment h now))) listener) = rw (other, unreached, kept) refl in
+      left ∙ by_test (is_hopless lost c)
+      (λ hopless. let kept : is_kept (edge.fate_by c (edge.LosesHop (later_moment h now))) ≡ true = ap is_kept step.1 in
+      let goes : connection_left h (GivesUp lost now) id c listener ≡ Some (connected id (edge.after_event c (edge.LosesHop (later_moment h now))) listener) = rw (hopless, other, kept) refl in
       goes ∙ ap (λ (d : View). Some (connected id d listener)) step.0)
-      (λ reached. rw (other, reached) refl)
+      (λ rests. rw (rests, other) refl)
 
   pub hop_idle : c.owes_reset ≡ false → c.unheard ≡ None → entry_of (after_giving_up h lost now) id ≡ Some (connected id c listener)
   hop_idle other none = stays_by other (hop_unneeded c (later_moment h now) none)
@@ -72,18 +72,15 @@ module _ (h : SocketsView) (lost : Addr → Bool) (now : Moment) (id : SocketId)
     unowing : c.owes_reset ≡ false
     unowing = by_test c.owes_reset (λ owes. let bad : is_hopless lost c ≡ false = rw owes refl in cc) (λ other. other)
 
-    unreached : lost c.peer.addr ≡ true
-    unreached = by_test (lost c.peer.addr) (λ yes. yes) (λ reached. let bad : is_hopless lost c ≡ false = rw (unowing, reached) refl in cc)
-
     taken_out : edge.fate_by c (edge.LosesHop (later_moment h now)) ≡ Removed → entry_of (after_giving_up h lost now) id ≡ None
-    taken_out gone = let out : is_kept (edge.fate_by c (edge.LosesHop (later_moment h now))) ≡ false = ap is_kept gone in left ∙ rw (unowing, unreached, out) refl
+    taken_out gone = let out : is_kept (edge.fate_by c (edge.LosesHop (later_moment h now))) ≡ false = ap is_kept gone in left ∙ rw (hopless, unowing, out) refl
 
     pub hop_told : (since : Moment) → c.unheard ≡ Some since → (c.passive && is_syn_received c.state) ≡ false → c.released ≡ false → (let end = after since 483000 in end.0) ≤ (let later = later_moment h now in later.0)
         → (d : View) × (entry_of (after_giving_up h lost now) id ≡ Some (connected id d listener)) × IsGivenUp d
     hop_told since waits past held over =
         let step = hop_given_up c since (later_moment h now) solid.sound timed.0 past waits over in
         let kept : is_kept (edge.fate_by c (edge.LosesHop (later_moment h now))) ≡ true = ap is_kept (step.1 ∙ ap (λ (b : Bool). if b then Removed else Stays) held) in
-        (edge.after_event c (edge.LosesHop (later_moment h now)), left ∙ rw (unowing, unreached, kept) refl, step.0)
+        (edge.after_event c (edge.LosesHop (later_moment h now)), left ∙ rw (hopless, unowing, kept) refl, step.0)
 
     pub hop_left : (since : Moment) → c.unheard ≡ Some since → (c.passive && is_syn_received c.state) ≡ false → c.released ≡ true → (let end = after since 483000 in end.0) ≤ (let later = later_moment h now in later.0) → entry_of (after_giving_up h lost now) id ≡ None
     hop_left since waits past gone over = taken_out ((hop_given_up c since (later_moment h now) solid.sound timed.0 past waits over).1 ∙ ap (λ (b : Bool). if b then Removed else Stays) gone)
@@ -102,3 +99,11 @@ hop_near c latest until near is = by_wait c.unheard refl is
     by_wait : (w : Option Moment) → c.unheard ≡ w → end_of_hop_wait c.unheard (hop_wait c) ≡ Some until → until.0 ≤ latest.0 + 483000
     by_wait None was over = let bad : end_of_hop_wait c.unheard (hop_wait c) ≡ None = rw was refl in cc
     by_wait (Some since) was over = bounded (c.passive && is_syn_received c.state) since (near.unheard since was) (rw was at over)
+
+-- the deadline of an entry is the end of that wait, or of that of a reset
+pub hop_deadline : (lost : Addr → Bool) (c : View) (listener : Option SocketId) (since : Moment) → c.owes_reset ≡ false → c.unheard ≡ Some since → lost c.peer.addr ≡ true
+    → give_up_at lost (Connected c listener) ≡ Some (after since (if c.passive && is_syn_received c.state then 3000 else 483000))
+hop_deadline lost c listener since other waits unreached = rw (other, unreached) (ap (λ (o : Option Moment). end_of_hop_wait o (hop_wait c)) waits)
+
+pub reset_deadline : (lost : Addr → Bool) (c : View) (listener : Option SocketId) → c.owes_reset ≡ true → lost c.peer.addr ≡ true → give_up_at lost (Connected c listener) ≡ Some (after c.since 3000)
+reset_deadline lost c listener owes unreached = rw (owes, unreached) refl

@@ -61,6 +61,7 @@ pub mod EventsOnce
 pub mod ByIds
 pub mod Hopless
 pub mod HopEnds
+pub mod HopOver
 pub mod Closings
 pub mod Strays
 pub mod Calling

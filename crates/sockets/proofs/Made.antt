@@ -8,15 +8,15 @@ use Rattle.sockets.specs.Calls.{IsNewSocket, IsMade}
 use Rattle.sockets.specs.Index.{filed}
 
 pub made : (kind : Kind) (h w : SocketsView) (e : Entry) → IsNewSocket kind (record { 0 = h.last_id + 1 }) e → w ≡ record h { last_id = h.last_id + 1; entries = h.entries ++ e ∷ [] } → IsMade kind h w
-made Tcp h w e new is = (new.0, is ∙ ap (λ (x : Entry). let v : SocketsView = record h { last_id = h.last_id + 1; entries = h.entries ++ x ∷ [] } in v) new.1)
+made Tcp h w e new is = is ∙ ap (λ (x : Entry). let v : SocketsView = record h { last_id = h.last_id + 1; entries = h.entries ++ x ∷ [] } in v) new
 made Udp h w e new is = is ∙ ap (λ (x : Entry). let v : SocketsView = record h { last_id = h.last_id + 1; entries = h.entries ++ x ∷ [] } in v) new
 
 -- a new socket has the id that was drawn
 pub new_id : (kind : Kind) (id : ℕ) (e : Entry) → IsNewSocket kind (record { 0 = id }) e → e.id.0 ≡ id
-new_id Tcp id e new = ap (λ (x : Entry). x.id.0) new.1
+new_id Tcp id e new = ap (λ (x : Entry). x.id.0) new
 new_id Udp id e new = ap (λ (x : Entry). x.id.0) new
 
 -- and is filed as no connection
 pub new_filed : (kind : Kind) (id : ℕ) (e : Entry) → IsNewSocket kind (record { 0 = id }) e → filed e ≡ None
-new_filed Tcp id e new = ap (λ (x : Entry). filed x) new.1
+new_filed Tcp id e new = ap (λ (x : Entry). filed x) new
 new_filed Udp id e new = ap (λ (x : Entry). filed x) new

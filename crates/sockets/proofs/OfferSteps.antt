@@ -8,6 +8,7 @@ use Rattle.udp.specs.Datagram.{UserDatagram}
 use Rattle.tcp_segment.specs.declared.head.Head.{Head}
 use Rattle.tcp_segment.specs.Segment.{Segment}
 use Rattle.clock.specs.declared.moment.Moment.{Moment}
+use Rattle.tcp_halves.specs.declared.buffers.TheConstants.{CAPACITY}
 use Rattle.tcp_state.specs.View.{View}
 use Rattle.tcp_state.specs.Calls as connection
 use Rattle.tcp_state.specs.Arrival.{opened_passively}
@@ -276,7 +277,7 @@ opening-outcome : (h : SocketsView) (now : Moment) (isn : ℕ) (listener : Entry
 opening-outcome h now isn listener source s found place =
     let parts = or_parts _ _ place in
     Joined (record {
-      new = new_waiting (record { 0 = h.last_id + 1 }) listener.id (opened_passively (local_end h s) (peer_end source s) isn s now);
+      new = new_waiting (record { 0 = h.last_id + 1 }) listener.id (opened_passively CAPACITY (local_end h s) (peer_end source s) isn s now);
       id = refl;
       last = refl;
       entries = refl;

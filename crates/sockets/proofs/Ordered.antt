@@ -8,6 +8,7 @@ use Rattle.ipv4.specs.declared.addr.Addr.{Addr}
 use Rattle.ipv4.specs.declared.addr.Endpoint.{Endpoint}
 use Rattle.udp_socket.specs.SocketView.{SocketView as Queues, with_sent}
 use Rattle.tcp_segment.specs.Segment.{Segment}
+use Rattle.tcp_halves.specs.declared.buffers.TheConstants.{CAPACITY}
 use Rattle.tcp_state.specs.Arrival.{opened_passively}
 use Rattle.tcp_state.proofs.Causes.{not_true}
 use Rattle.sockets.specs.declared.refusal.Refusal.{Refusal}
@@ -205,7 +206,7 @@ connect_ordered h isn id peer routed allowed o =
 
 opening_ordered : (h : SocketsView) (now : Moment) (isn : ℕ) (listener : Entry) (source : Addr) (s : Segment) → find (is_between (local_end h s) (peer_end source s)) h.entries ≡ None → same_addr source h.addr ≡ false → IsOrdered h → IsOrdered (after_opening h now isn listener source s)
 opening_ordered h now isn listener source s none apart o =
-    joined_ordered h (new_waiting (record { 0 = h.last_id + 1 }) listener.id (opened_passively (local_end h s) (peer_end source s) isn s now)) refl free (λ port. refl) (λ port. refl) (refl, apart) o
+    joined_ordered h (new_waiting (record { 0 = h.last_id + 1 }) listener.id (opened_passively CAPACITY (local_end h s) (peer_end source s) isn s now)) refl free (λ port. refl) (λ port. refl) (refl, apart) o
   where
     free : (l p : Endpoint) → (same_end (local_end h s) l && same_end (peer_end source s) p) ≡ true → count_by (is_between l p) h.entries ≡ 0
     free l p is =

@@ -49,13 +49,18 @@ ended_sound v error sound = record {
   error = no (is_some error);
   reset = grind (arith, common_steps, sound.reset);
   release = no v.released;
+  send_size = sound.send_size;
+  receive_least = sound.receive_least;
+  receive_size = sound.receive_size;
+  places = sound.places;
+  capacity = sound.capacity;
 }
   where
     no : (b : Bool) → (b && false) ≡ false
     no true = refl
     no false = refl
 
-    readable_then : length v.receiving.readable ≤ 65535
+    readable_then : length v.receiving.readable ≤ v.receiving.size
     readable_then = grind (arith, common_steps, sound.readable)
 
     none_out : outstanding (let w = after_reset v error in w.sending) ≤ 0
@@ -172,6 +177,11 @@ acted_sound v w sound kept f =
       error = sound.error;
       reset = sound.reset;
       release = sound.release;
+      send_size = sound.send_size;
+      receive_least = sound.receive_least;
+      receive_size = sound.receive_size;
+      places = sound.places;
+      capacity = sound.capacity;
     })
 
 -- Every tick.

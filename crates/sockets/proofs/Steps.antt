@@ -12,6 +12,7 @@ use Rattle.tcp_halves.specs.declared.buffers.Buffers.{Buffers}
 use Rattle.tcp_segment.specs.declared.head.Head.{Head}
 use Rattle.tcp_segment.specs.Segment.{Segment}
 use Rattle.clock.specs.declared.moment.Moment.{Moment}
+use Rattle.tcp_halves.specs.declared.buffers.TheConstants.{CAPACITY}
 use Rattle.tcp_state.specs.declared.connection.Fate.{Fate}
 use Rattle.tcp_state.specs.declared.connection.Fate.TheVariants.{Stays, Removed}
 use Rattle.tcp_state.specs.View.{View, is_opening, opened_actively}
@@ -84,7 +85,7 @@ pub data IsStepOf (h : SocketsView) : Event → Entry → Option Entry → Type 
   listens : (named : SocketId) (backlog : ℕ) (id : SocketId) (buffers : Buffers) (local : Endpoint) → is_socket named (entry id (Idle buffers (Some local))) ≡ true
       → IsStepOf h (Listens named backlog) (entry id (Idle buffers (Some local))) (Some (entry id (Listener local backlog)))
   opens : (isn : ℕ) (named : SocketId) (peer : Endpoint) (routed : Bool) (id : SocketId) (buffers : Buffers) (bound : Option Endpoint) (local : Endpoint) → is_socket named (entry id (Idle buffers bound)) ≡ true
-      → IsStepOf h (Connects isn named peer routed) (entry id (Idle buffers bound)) (Some (entry id (Connected (opened_actively local peer isn h.kept) None)))
+      → IsStepOf h (Connects isn named peer routed) (entry id (Idle buffers bound)) (Some (entry id (Connected (opened_actively buffers local peer isn h.kept) None)))
   accepted : (named id : SocketId) (c : View) (l : Option SocketId) → is_next_at h named (entry id (Connected c l)) ≡ true → IsStepOf h (Accepts named) (entry id (Connected c l)) (Some (entry id (Connected c None)))
   requeues : {e : Event} (id : SocketId) (bound : Option Endpoint) (before after : Queues) → IsStepOf h e (entry id (Datagrams bound before)) (Some (entry id (Datagrams bound after)))
   binds_datagrams : {e : Event} (id : SocketId) (bound : Option Endpoint) (local : Endpoint) (before after : Queues) → takes_end e ≡ true → IsStepOf h e (entry id (Datagrams bound before)) (Some (entry id (Datagrams (Some local) after)))
@@ -96,7 +97,7 @@ pub data IsJoining (h : SocketsView) : Event → Entry → Type 0 where
   made : (buffers : Buffers) → IsJoining h (Makes buffers) (new_socket (record { 0 = h.last_id + 1 }) buffers)
   made_datagrams : IsJoining h MakesDatagrams (new_datagram_socket (record { 0 = h.last_id + 1 }))
   called : (now : Moment) (isn : ℕ) (source : Addr) (s : Segment) (listener : Entry) → IsCalled h source s listener
-      → IsJoining h (Hears now isn source s) (new_waiting (record { 0 = h.last_id + 1 }) listener.id (opened_passively (local_end h s) (peer_end source s) isn s (later_moment h now)))
+      → IsJoining h (Hears now isn source s) (new_waiting (record { 0 = h.last_id + 1 }) listener.id (opened_passively CAPACITY (local_end h s) (peer_end source s) isn s (later_moment h now)))
 
 -- the table where an event adds nothing
 pub record IsFollowed (h : SocketsView) (e : Event) (w : SocketsView) : Type 0 where

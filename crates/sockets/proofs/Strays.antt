@@ -7,6 +7,7 @@ use Rattle.ipv4.specs.declared.addr.Addr.{Addr}
 use Rattle.clock.specs.declared.moment.Moment.{Moment}
 use Rattle.tcp_segment.specs.declared.head.Head.{Head}
 use Rattle.tcp_segment.specs.Segment.{Segment, span_of}
+use Rattle.tcp_halves.specs.declared.buffers.TheConstants.{CAPACITY}
 use Rattle.tcp_state.specs.Arrival.{opened_passively}
 use Rattle.tcp_state.specs.declared.connection.Fate.TheVariants.{Rejected}
 use Rattle.sockets.specs.declared.entry.Entry.{Entry}
@@ -80,7 +81,7 @@ module _ (h : SocketsView) (now : Moment) (isn : ℕ) (source : Addr) (s : Segme
   syn_opens listener none found rst ack syn fewer few young =
       let room : has_no_room h listener ≡ false = place (backlog_of listener.role) (count_by (is_waiting_at listener.id) h.entries) (length h.entries) (h.last_id + 1) fewer few young in
       let opened = opens_so rst ack syn in
-      let waiting : Entry = new_waiting (record { 0 = h.last_id + 1 }) listener.id (opened_passively (local_end h s) (peer_end source s) isn s (later_moment h now)) in (
+      let waiting : Entry = new_waiting (record { 0 = h.last_id + 1 }) listener.id (opened_passively CAPACITY (local_end h s) (peer_end source s) isn s (later_moment h now)) in (
         after_opening h (later_moment h now) isn listener source s,
         rw (none, found, opened, room) refl,
         (

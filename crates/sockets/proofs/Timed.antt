@@ -24,7 +24,7 @@ step_timed h e small x _ stays sound keeps = keeps
 step_timed h e small _ _ (moves ev id c l meets kept) sound keeps = (stays_timed c ev sound.sound keeps.0, stays_kept c ev sound.sound keeps.1)
 step_timed h _ small _ _ (binds named asked id buffers bound local names) sound keeps = tt
 step_timed h _ small _ _ (listens named backlog id buffers local names) sound keeps = tt
-step_timed h _ small _ _ (opens isn named peer routed id buffers bound local names) sound keeps = (opened_timed local peer isn h.kept small, opened_kept local peer isn h.kept)
+step_timed h _ small _ _ (opens isn named peer routed id buffers bound local names) sound keeps = (opened_timed buffers local peer isn h.kept small, opened_kept buffers local peer isn h.kept)
 step_timed h _ small _ _ (accepted named id c l next) sound keeps = keeps
 step_timed h e small _ _ (requeues id bound before after) sound keeps = tt
 step_timed h e small _ _ (binds_datagrams id bound local before after takes) sound keeps = tt
@@ -32,7 +32,7 @@ step_timed h e small _ _ (binds_datagrams id bound local before after takes) sou
 joining_timed : (h : SocketsView) (e : Event) → IsNumbered e → (x : Entry) → IsJoining h e x → KeepsTimeIn x.role
 joining_timed h _ small _ (made buffers) = tt
 joining_timed h _ small _ made_datagrams = tt
-joining_timed h _ small _ (called now isn source s listener call) = (accepted_timed _ _ isn s (later_moment h now) small, accepted_kept _ _ isn s (later_moment h now))
+joining_timed h _ small _ (called now isn source s listener call) = (accepted_timed _ _ _ isn s (later_moment h now) small, accepted_kept _ _ _ isn s (later_moment h now))
 
 pub each_timed : (h : SocketsView) (e : Event) → IsSoundTable h → IsNumbered e → EachKeepsTime h → EachKeepsTime (after_event h e)
 each_timed h e sound small all = by_step (after_event h e) (stepped h e)

@@ -7,6 +7,7 @@ use Rattle.ipv4.specs.Addresses.{pair_of}
 use Rattle.tcp_segment.specs.declared.flags.Flags.{Flags}
 use Rattle.tcp_segment.specs.declared.head.Head.{Head}
 use Rattle.tcp_segment.specs.Segment.{Segment}
+use Rattle.tcp_halves.specs.declared.buffers.TheConstants.{CAPACITY}
 use Rattle.tcp_state.specs.declared.connection.Fate.{Fate}
 use Rattle.tcp_state.specs.declared.connection.Fate.TheVariants.{Rejected}
 use Rattle.clock.specs.declared.moment.Moment.{Moment}
@@ -40,7 +41,7 @@ has_no_room h listener = nat_le (backlog_of listener.role) (count_by (is_waiting
 abbrev pub after_opening : SocketsView → Moment → ℕ → Entry → Addr → Segment → SocketsView
 after_opening h now isn listener source s = record h {
   last_id = h.last_id + 1;
-  entries = h.entries ++ new_waiting (record { 0 = h.last_id + 1 }) listener.id (opened_passively (local_end h s) (peer_end source s) isn s now) ∷ [];
+  entries = h.entries ++ new_waiting (record { 0 = h.last_id + 1 }) listener.id (opened_passively CAPACITY (local_end h s) (peer_end source s) isn s now) ∷ [];
 }
 
 -- What a segment leads to: the table becomes this, or it does where memory is there, or there is no place, or the segment is to be answered

@@ -8,6 +8,7 @@ use Rattle.ipv4.specs.declared.addr.Endpoint.{Endpoint}
 use Rattle.ipv4.specs.declared.addr.Pair.{Pair}
 use Rattle.ipv4.specs.Addresses.{pair_of, same_addr, is_unicast}
 use Rattle.tcp_halves.specs.declared.buffers.Buffers.{Buffers}
+use Rattle.tcp_halves.specs.declared.buffers.TheConstants.{CAPACITY}
 use Rattle.tcp_state.specs.declared.state.State.{State}
 use Rattle.tcp_state.specs.declared.calls.Received.{Received}
 use Rattle.tcp_state.specs.declared.calls.Refusal as connection_refusal
@@ -70,14 +71,14 @@ after_datagram_socket h = record h {
   entries = h.entries ++ new_datagram_socket (record { 0 = h.last_id + 1 }) ∷ [];
 }
 
--- an entry with a new socket of this kind
+-- an entry with a new socket of this kind; the buffers of one of TCP hold as much as a window in 16 bits tells
 abbrev pub IsNewSocket : Kind → SocketId → Entry → Type 0
-IsNewSocket Tcp id e = (buffers : Buffers) × (e ≡ new_socket id buffers)
+IsNewSocket Tcp id e = e ≡ new_socket id CAPACITY
 IsNewSocket Udp id e = e ≡ new_datagram_socket id
 
 -- the table after a socket of this kind was made
 abbrev pub IsMade : Kind → SocketsView → SocketsView → Type 0
-IsMade Tcp old new = (buffers : Buffers) × (new ≡ after_socket old buffers)
+IsMade Tcp old new = new ≡ after_socket old CAPACITY
 IsMade Udp old new = new ≡ after_datagram_socket old
 
 -- the port asked for where it is free, and in place of port 0 the first dynamic one that is, behind the last one given

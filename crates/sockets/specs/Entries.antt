@@ -249,7 +249,7 @@ role_after_listen backlog (Datagrams bound socket) = Datagrams bound socket
 
 -- a connection in SYN-SENT, opened at a moment (RFC 9293 section 3.10.1)
 abbrev pub role_after_connect : Endpoint → Endpoint → ℕ → Moment → Role → Role
-role_after_connect local peer isn now (Idle buffers bound) = Connected (opened_actively local peer isn now) None
+role_after_connect local peer isn now (Idle buffers bound) = Connected (opened_actively buffers local peer isn now) None
 role_after_connect local peer isn now (Listener l b) = Listener l b
 role_after_connect local peer isn now (Connected c l) = Connected c l
 role_after_connect local peer isn now (Datagrams bound socket) = Datagrams bound socket

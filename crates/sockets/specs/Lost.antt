@@ -55,7 +55,7 @@ waiting_resets h = filter_map (λ e. reset_wait e.role) h.entries
 
 -- one of them that has not waited for 3,000 milliseconds, or whose address is not lost
 abbrev pub waits_still : (Addr → Bool) → Moment → Endpoint × Moment → Bool
-waits_still lost now wait = let peer = wait.0 in let since = wait.1 in not (nat_le (since.0 + HOP_WAIT) now.0 && lost peer.addr)
+waits_still lost now wait = let peer = wait.0 in let since = wait.1 in not (nat_le (since.0 + 3000) now.0 && lost peer.addr)
 
 -- until when a connection waits for its hop: with the reset that it owes, or else with what takes numbers
 abbrev pub waits_until : View → Option Moment

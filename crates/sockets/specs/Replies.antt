@@ -12,6 +12,7 @@ reset_at_ack s = record {
   acknowledgement = record { 0 = 0 };
   flags = record { fin = false; syn = false; rst = true; psh = false; ack = false; urg = false };
   window = 0;
+  scales = false;
 }
 
 -- <SEQ=0><ACK=SEG.SEQ+SEG.LEN><CTL=RST,ACK>, where the segment's length counts its SYN and its FIN
@@ -23,6 +24,7 @@ reset_past s = record {
   acknowledgement = record { 0 = (s.number + span_of s) % 2 ^ 32 };
   flags = record { fin = false; syn = false; rst = true; psh = false; ack = true; urg = false };
   window = 0;
+  scales = false;
 }
 
 -- what answers a segment for no connection and no listener: nothing answers a reset (section 3.10.7.1)

@@ -80,7 +80,7 @@ pub data IsSocketLeft (h : SocketsView) : Event → Entry → Option Entry → T
   changes : {e : Event} {x : Entry} (y : Entry) → y.id ≡ x.id → in_connection None (λ c. Some c) y.role ≡ None → may_change h e x ≡ true → IsSocketLeft h e x (Some y)
   opens : (isn : ℕ) (named : SocketId) (peer : Endpoint) (routed : Bool) (port : ℕ) (id : SocketId) (buffers : Buffers) (bound : Option Endpoint)
       → is_socket named (record { id = id; role = Idle buffers bound }) ≡ true → port_connected h named peer routed ≡ Ok port
-      → IsSocketLeft h (Connects isn named peer routed) (record { id = id; role = Idle buffers bound }) (Some (connected id (opened_actively (record { addr = h.addr; port = port }) peer isn h.kept) None))
+      → IsSocketLeft h (Connects isn named peer routed) (record { id = id; role = Idle buffers bound }) (Some (connected id (opened_actively buffers (record { addr = h.addr; port = port }) peer isn h.kept) None))
   closes : (named : SocketId) (x : Entry) → is_socket named x ≡ true → IsSocketLeft h (Closes named) x None
 
 -- what is left of an entry: of a connection exactly what its one event leaves, or all of it where it has none

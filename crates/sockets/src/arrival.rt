@@ -1,6 +1,8 @@
 //! What a segment that arrived makes of the table (RFC 9293 section 3.10.7).
 
-ghost use Rattle.std.specs.Prelude.{ℕ, ◌≡◌, ◌≤◌, ◌<◌, true, length, position, MatchResult, Some};
+ghost use Rattle.std.specs.Prelude.{ℕ, ◌≡◌, ◌≤◌, ◌<◌, true, length, position, IfOk, MatchResult, Some};
+ghost use Rattle.tcp_halves.specs.declared.buffers.TheConstants.{CAPACITY};
+ghost use Rattle.tcp_state.specs.Arrival.{opened_passively};
 ghost use Rattle.sockets.specs.Arrival.{is_opening, arrival_with_reply, Meets};
 ghost use Rattle.sockets.specs.Entries.{is_between, is_listening_at};
 ghost use Rattle.sockets.specs.SocketsView.{SocketsView};
@@ -14,7 +16,7 @@ use clock::Moment;
 use ipv4::{Addr, Endpoint, Pair};
 use std::alloc::AllocError;
 use tcp_segment::{Head, Seq, TcpView};
-use tcp_state::{Buffers, Connection, Fate};
+use tcp_state::{Buffers, CAPACITY, Connection, Fate};
 
 #[tactic(auto, using(crate::proofs::Firsts::firsts))]
 impl Sockets {
@@ -83,7 +85,8 @@ impl Sockets {
             return Taken::NoRoom;
         }
         let listener = listener.id;
-        self.open_with(Buffers::new(self.alloc), now, isn, listener, source, syn)
+        let buffers = Buffers::new(self.alloc, CAPACITY);
+        self.open_with(buffers, now, isn, listener, source, syn)
     }
 
     /// Opens a connection for `syn` in these buffers, where the listener at its port has a place for it. NoRoom exactly where memory was
@@ -99,6 +102,7 @@ impl Sockets {
     ) -> Taken
         requires place { length self.old.entries < ENTRIES }
         requires id { self.old.last_id < u64.MAX }
+        requires size { IfOk buffers (λ given. given ≡ CAPACITY) }
         ensures answer { MatchResult buffers (λ given. result ≡ Taken.Done) (λ refused. result ≡ Taken.NoRoom) }
         ensures table { MatchResult buffers (λ given. (entry : Entry) → entry.id ≡ listener → self.new ≡ after_opening self.old now isn.0 entry source syn.now) (λ refused. self.new ≡ self.old) }
     {
@@ -106,7 +110,7 @@ impl Sockets {
             return Taken::NoRoom;
         };
         let (local, peer) = self.ends(source, syn);
-        let connection = Connection::passive(buffers, local, peer, isn, syn, now);
+        let connection = half_open(buffers, local, peer, isn, syn, now);
         self.last_id += 1;
         let id = SocketId(self.last_id);
         index::file(&mut self.ends, id, local, peer);
@@ -174,6 +178,21 @@ fn answered(reply: Option<Head>) -> Taken
         Some(head) => Taken::Answer(head),
         None => Taken::Done,
     }
+}
+
+/// A connection that `syn` opens in buffers of the size that every connection has.
+fn half_open(
+    buffers: Buffers,
+    local: Endpoint,
+    peer: Endpoint,
+    isn: Seq,
+    syn: &TcpView<'_>,
+    now: Moment,
+) -> Connection
+    requires { buffers ≡ CAPACITY }
+    ensures { result ≡ opened_passively CAPACITY local peer isn.0 syn.now now }
+{
+    Connection::passive(buffers, local, peer, isn, syn, now)
 }
 
 /// Whether a segment opens a connection at a listener (RFC 9293 section 3.10.7.2): SYN with neither RST nor ACK.

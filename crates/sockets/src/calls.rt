@@ -15,7 +15,7 @@ use crate::{index, ports, table};
 use ipv4::{Addr, Endpoint, Pair};
 use std::alloc::Global;
 use tcp_segment::Seq;
-use tcp_state::{Buffers, Received, State};
+use tcp_state::{Buffers, CAPACITY, Received, State};
 use udp_socket::UdpSocket;
 
 /// The address that stands for every address of ours.
@@ -377,7 +377,7 @@ fn new_socket(alloc: Global, kind: Kind, id: SocketId) -> Result<Entry, Refusal>
     ensures err { IfErr result (λ e. e ≡ Refusal.ENOMEM) }
 {
     match kind {
-        Kind::Tcp => match Buffers::new(alloc) {
+        Kind::Tcp => match Buffers::new(alloc, CAPACITY) {
             Ok(buffers) => Ok(Entry::socket(id, buffers)),
             Err(_) => Err(Refusal::ENOMEM),
         },

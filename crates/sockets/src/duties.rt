@@ -21,7 +21,7 @@ ghost use Rattle.sockets.specs.declared.role.Role.{Role};
 ghost use Rattle.sockets.specs.declared.role.Role.TheVariants.{Idle, Listener, Connected, Datagrams};
 ghost use Rattle.sockets.specs.declared.refusal.Refusal.TheVariants.{EINVAL, EADDRINUSE, EAGAIN};
 ghost use Rattle.sockets.specs.Entries.{in_connection, is_socket, is_between, is_listening_at, has_port, is_datagrams_at, backlog_of, is_waiting_at, is_waiting_id, fate_of};
-ghost use Rattle.sockets.specs.Lost.{is_hopless, after_giving_up};
+ghost use Rattle.sockets.specs.Lost.{is_hopless, after_giving_up, give_up_at};
 ghost use Rattle.sockets.specs.Sound.{IsSoundTable};
 ghost use Rattle.sockets.specs.SocketsView.{SocketsView, later_moment, role_of};
 ghost use Rattle.sockets.specs.Timing.{EachKeepsTime};
@@ -55,7 +55,8 @@ pub fn closes_leave()
 
 /// What becomes of a connection whose peer's address is lost and that owes no reset (RFC 1122 section 4.2.3.5, RFC 9293 section 3.8.3). Where what takes numbers has been due for 483,000 ms, and nothing of
 /// it is outstanding, it is given up: CLOSED, with ETIMEDOUT told at each call, and taken out where its caller closed it. What a listener opened is taken out of SYN-RECEIVED after 3,000 ms, and so frees its
-/// place there. None is given up before, none of which nothing waits, and none whose peer's address is known.
+/// place there. None is given up before, none of which nothing waits, and none whose peer's address is known. The deadline that its entry has of it is the end of that wait, or of the 3,000 ms for which its reset waits
+/// that was aborted.
 pub fn waits_for_hops_end()
     ensures told { (h : SocketsView) (lost : Addr → Bool) (now : Moment) (id : SocketId) (c : View) (listener : Option SocketId) → IsOrdered h → entry_of h id ≡ Some (connected id c listener) → IsSoundTable h → EachKeepsTime h
         → is_hopless lost c ≡ true → (since : Moment) → c.unheard ≡ Some since → (c.passive && is_syn_received c.state) ≡ false → c.released ≡ false
@@ -76,6 +77,10 @@ pub fn waits_for_hops_end()
         → c.owes_reset ≡ false → c.unheard ≡ None → entry_of (after_giving_up h lost now) id ≡ Some (connected id c listener) }
     ensures known { (h : SocketsView) (lost : Addr → Bool) (now : Moment) (id : SocketId) (c : View) (listener : Option SocketId) → IsOrdered h → entry_of h id ≡ Some (connected id c listener)
         → lost c.peer.addr ≡ false → entry_of (after_giving_up h lost now) id ≡ Some (connected id c listener) }
+    ensures deadline { (lost : Addr → Bool) (c : View) (listener : Option SocketId) (since : Moment) → c.owes_reset ≡ false → c.unheard ≡ Some since → lost c.peer.addr ≡ true
+        → give_up_at lost (Connected c listener) ≡ Some (after since (if c.passive && is_syn_received c.state then 3000 else 483000)) }
+    ensures reset_deadline { (lost : Addr → Bool) (c : View) (listener : Option SocketId) → c.owes_reset ≡ true → lost c.peer.addr ≡ true
+        → give_up_at lost (Connected c listener) ≡ Some (after c.since 3000) }
 {}
 
 /// A segment for which there is no connection (RFC 9293 sections 3.5.2, 3.10.7.1 and 3.10.7.2). One with RST changes nothing and draws no answer. One with ACK draws <SEQ=SEG.ACK><CTL=RST>, at a
@@ -115,13 +120,13 @@ pub fn ports_and_backlogs_are_tested()
     ensures listens { (h : SocketsView) (id : SocketId) (backlog : ℕ) (buffers : Buffers) (bound : Endpoint) → role_of h id ≡ Some (Idle buffers (Some bound)) → role_of (after_listen h id backlog) id ≡ Some (Listener bound backlog) }
 {}
 
-/// What `send` and `recv` move, where the connection is past its opening and told no error. Of what is given to be sent the first octets are taken, as many as have room behind those that are held, of
-/// which there are 65,535 at most; EAGAIN where some are given and none has. Into a buffer the first octets are read that came, as many as it takes; the rest of it stays.
+/// What `send` and `recv` move, where the connection is past its opening and told no error. Of what is given to be sent the first octets are taken, as many as have room behind those that are
+/// held; EAGAIN where some are given and none has. Into a buffer the first octets are read that came, as many as it takes; the rest of it stays.
 pub fn calls_move_octets()
     ensures send { (h : SocketsView) (id : SocketId) (c : View) → role_of h id ≡ Some (Connected c None) → (octets : List ℕ) → c.pending_error ≡ None → is_opening c.state ≡ false → is_write_closed c.state ≡ false
-        → let room = 65535 - length c.sending.held in send_answer h id octets ≡ (if (room == 0) && not (length octets == 0) then Err EAGAIN else Ok (min (length octets) room)) }
+        → let room = c.sending.size - length c.sending.held in send_answer h id octets ≡ (if (room == 0) && not (length octets == 0) then Err EAGAIN else Ok (min (length octets) room)) }
     ensures sent { (h : SocketsView) (id : SocketId) (c : View) → role_of h id ≡ Some (Connected c None) → (octets : List ℕ) → c.pending_error ≡ None → is_opening c.state ≡ false → is_write_closed c.state ≡ false
-        → (d : View) × (role_of (after_send h id octets) id ≡ Some (Connected d None)) × HoldsMore (take (min (length octets) (65535 - length c.sending.held)) octets) c d }
+        → (d : View) × (role_of (after_send h id octets) id ≡ Some (Connected d None)) × HoldsMore (take (min (length octets) (c.sending.size - length c.sending.held)) octets) c d }
     ensures recv { (h : SocketsView) (id : SocketId) (c : View) → role_of h id ≡ Some (Connected c None) → (len : ℕ) → c.pending_error ≡ None → is_opening c.state ≡ false → (length c.receiving.readable == 0) ≡ false → (len == 0) ≡ false
         → recv_answer h id len ≡ Ok (Octets (min len (length c.receiving.readable))) }
     ensures read { (h : SocketsView) (id : SocketId) (c : View) → role_of h id ≡ Some (Connected c None) → (buffer : List ℕ) → c.pending_error ≡ None → is_opening c.state ≡ false → (length c.receiving.readable == 0) ≡ false

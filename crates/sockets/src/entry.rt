@@ -99,6 +99,7 @@ impl Entry {
     }
 
     /// The first of what it has to send in place 0, what follows in the places behind it, and to whom each is; None where nothing more is due.
+    #[inline(always)]
     pub fn due_at(&self, place: usize) -> Option<(Endpoint, Outgoing)>
         ensures { result ≡ slice_get (dues_of self.now.role) place }
     {

@@ -19,6 +19,7 @@ pub(crate) fn reset_at_ack(segment: &TcpView<'_>) -> Head
             ..Flags::default()
         },
         window: 0,
+        scales: false,
     }
 }
 
@@ -37,6 +38,7 @@ fn reset_past(segment: &TcpView<'_>) -> Head
             ..Flags::default()
         },
         window: 0,
+        scales: false,
     }
 }
 

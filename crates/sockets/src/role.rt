@@ -282,6 +282,7 @@ impl Role {
     }
 
     /// What it has to send in this place, and to whom: the segment of a connection in place 0, a datagram of a UDP socket in its own.
+    #[inline(always)]
     pub(crate) fn due_at(&self, place: usize) -> Option<(Endpoint, Outgoing)>
         ensures { result ≡ slice_get (dues_of self.now) place }
     {

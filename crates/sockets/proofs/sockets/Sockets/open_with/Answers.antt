@@ -15,7 +15,7 @@ invariant_of-self c =
       c.self.invariant.0,
       ascends_pushed _ _ _ _ c.passive.result refl (ap (λ (e : Entry). e.id.0) c.passive.ensures) c.push.ensures.items c.self.invariant.1,
       index_pushed _ _ _ _ c.passive.result _ c.self.invariant.2 c.push.ensures.items
-          (ap (λ (e : Entry). filed e) c.passive.ensures ∙ ap (λ (v : View). Some (filed_at id v.local v.peer)) c.passive-connection.ensures) c.file.ensures,
+          (ap (λ (e : Entry). filed e) c.passive.ensures ∙ ap (λ (v : View). Some (filed_at id v.local v.peer)) c.half_open-connection.ensures) c.file.ensures,
     )
 
 -- there is room to file it
