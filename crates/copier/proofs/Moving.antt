@@ -20,7 +20,7 @@ use Rattle.wire_sim.proofs.emission.NothingGoesOut.{nothing-left}
 use Rattle.wire_sim.proofs.emission.EmittedOctets.{take_written, emission_front-due}
 use Rattle.devices.specs.Passages.{Passage, taken, given}
 use Rattle.copy_law.specs.CopyView.{host_at, with_host_at}
-use Rattle.copy_law.specs.Course.{IsCourse, goes_on, holds_pair_of, clock_after}
+use Rattle.copy_law.specs.Course.{most_held, IsCourse, goes_on, holds_pair_of, clock_after}
 use Rattle.copy_law.specs.Course as course
 use Rattle.copier.specs.declared.ends.Ends.{Ends}
 use Rattle.copier.specs.Moves.{copy_of, host_of, with_host, GoesOn, Emits, Hears, Writes, Closes}
@@ -39,7 +39,7 @@ copy-with_host B e h n told more sent read closed ended = refl
 
 pub emits-at : (from : Side) (old new : Ends) (before after : List ℕ) (len : ℕ) → IsSoundHost old.a → IsSoundHost old.b → emission_len (host_of old from) old.clock ≡ Some len
     → after ≡ emission_front (host_of old from) old.clock before → length before ≡ 1514 → length after ≡ 1514 → len ≤ 1514
-    → new ≡ (let w = with_host old from (after_emission (host_of old from) old.clock) in record w { allowance = min (old.allowance + 1460) 65535 }) → Emits from (take len after) old new
+    → new ≡ (let w = with_host old from (after_emission (host_of old from) old.clock) in record w { allowance = min (old.allowance + 1460) most_held }) → Emits from (take len after) old new
 emits-at from old new before after len sound_a sound_b due front long whole short is told sent read closed ended before_course =
     let own = host_of old from in
     let octets = emission_octets own old.clock in
@@ -52,14 +52,14 @@ emits-at from old new before after len sound_a sound_b due front long whole shor
     let at : own ≡ host_at v from = sym (copy-host from old told sent read closed ended) in
     let left = after_emission own old.clock in
     let next = told ++ taken from octets ∷ [] in
-    let becomes : copy_of new (told ++ taken from (take len after) ∷ []) sent read closed ended ≡ (let w = with_host_at v from left in record w { allowance = min (old.allowance + 1460) 65535; told = next }) =
+    let becomes : copy_of new (told ++ taken from (take len after) ∷ []) sent read closed ended ≡ (let w = with_host_at v from left in record w { allowance = min (old.allowance + 1460) most_held; told = next }) =
     ap (λ (f : List ℕ). copy_of new (told ++ taken from f ∷ []) sent read closed ended) same
-    ∙ (ap (λ (e : Ends). copy_of e next sent read closed ended) is ∙ copy-with_host from old left (min (old.allowance + 1460) 65535) told next sent read closed ended)
+    ∙ (ap (λ (e : Ends). copy_of e next sent read closed ended) is ∙ copy-with_host from old left (min (old.allowance + 1460) most_held) told next sent read closed ended)
     in
     goes_on v (copy_of new (told ++ taken from (take len after) ∷ []) sent read closed ended) before_course sound_a sound_b
     (course.emits from len (subst (λ (h : HostView). length (emission_octets h old.clock) ≤ 1514) at few) (subst (λ (h : HostView). emission_len h old.clock ≡ Some len) at due)
     (subst (λ (h : HostView). copy_of new (told ++ taken from (take len after) ∷ []) sent read closed ended
-    ≡ (let w = with_host_at v from (after_emission h old.clock) in record w { allowance = min (old.allowance + 1460) 65535; told = told ++ taken from (emission_octets h old.clock) ∷ [] })) at becomes))
+    ≡ (let w = with_host_at v from (after_emission h old.clock) in record w { allowance = min (old.allowance + 1460) most_held; told = told ++ taken from (emission_octets h old.clock) ∷ [] })) at becomes))
 
 pub emits-nothing : (from : Side) (e : Ends) → emission_len (host_of e from) e.clock ≡ None → with_host e from (after_emission (host_of e from) e.clock) ≡ e
 emits-nothing A e none = ap (λ (h : HostView). let x : Ends = record e { a = h } in x) (nothing-left e.a e.clock none)
@@ -116,14 +116,14 @@ accepts-one old new id peer sound_a sound_b none answered is told sent read clos
 pub stays : (old new : Ends) → new ≡ old → GoesOn old new
 stays old new same told sent read closed ended before_course = subst (λ (e : Ends). IsCourse (copy_of e told sent read closed ended)) (sym same) before_course
 
-pub reads-octets : (old new : Ends) (id : SocketId) (len count : ℕ) (octets : List ℕ) → IsSoundHost old.a → IsSoundHost old.b → old.receiver ≡ Some id → len ≤ 65535 → length octets ≤ len → octets ≡ readable_on old.b.sockets id count
+pub reads-octets : (old new : Ends) (id : SocketId) (len count : ℕ) (octets : List ℕ) → IsSoundHost old.a → IsSoundHost old.b → old.receiver ≡ Some id → len ≤ most_held → length octets ≤ len → octets ≡ readable_on old.b.sockets id count
     → recv_answer old.b.sockets id len ≡ Ok (received.Octets count) → new ≡ record old { b = with_sockets old.b (after_recv old.b.sockets id len) }
     → (told : List Passage) (sent read : List ℕ) (closed ended : Bool) → IsCourse (copy_of old told sent read closed ended) → IsCourse (copy_of new told sent (read ++ octets) closed ended)
 reads-octets old new id len count octets sound_a sound_b reader few short are answered is told sent read closed ended before_course =
     goes_on (copy_of old told sent read closed ended) (copy_of new told sent (read ++ octets) closed ended) before_course sound_a sound_b
     (course.reads id len count octets reader few short are answered (ap (λ (e : Ends). copy_of e told sent (read ++ octets) closed ended) is))
 
-pub reads-end : (old new : Ends) (id : SocketId) (len : ℕ) → IsSoundHost old.a → IsSoundHost old.b → old.receiver ≡ Some id → len ≤ 65535 → recv_answer old.b.sockets id len ≡ Ok received.EndOfStream
+pub reads-end : (old new : Ends) (id : SocketId) (len : ℕ) → IsSoundHost old.a → IsSoundHost old.b → old.receiver ≡ Some id → len ≤ most_held → recv_answer old.b.sockets id len ≡ Ok received.EndOfStream
     → new ≡ record old { b = with_sockets old.b (after_recv old.b.sockets id len) }
     → (told : List Passage) (sent read : List ℕ) (closed ended : Bool) → IsCourse (copy_of old told sent read closed ended) → IsCourse (copy_of new told sent read closed true)
 reads-end old new id len sound_a sound_b reader few answered is told sent read closed ended before_course =

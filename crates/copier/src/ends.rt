@@ -22,7 +22,7 @@ use frames::pair_in;
 use host::{Host, Kind, Refusal, SocketId};
 use ipv4::Endpoint;
 use std::alloc::Global;
-use tcp_halves::CAPACITY;
+use tcp_halves::LARGEST_CAPACITY;
 use tcp_segment::{MSS, Seq};
 use tcp_state::Received;
 use wire_sim::{Side, address, config};
@@ -94,7 +94,7 @@ impl Ends {
             listener,
             receiver: None,
             opened: false,
-            allowance: CAPACITY,
+            allowance: LARGEST_CAPACITY,
         })
     }
 
@@ -306,7 +306,7 @@ impl Ends {
 
     /// b reads octets of the connection into the front of `buffer`.
     pub(crate) fn receive(&mut self, buffer: &mut [u8]) -> Result<Arrival, CopyFault>
-        requires { length buffer.old ≤ CAPACITY }
+        requires { length buffer.old ≤ LARGEST_CAPACITY }
         ensures reads { IfOk result (λ arrival. Reads arrival buffer.new self.old self.new) }
         ensures fault { IfErr result IsOfHosts }
     {
@@ -368,9 +368,11 @@ fn read(host: &mut Host, id: SocketId, buffer: &mut [u8]) -> Result<Received, Re
 
 /// What a is allowed once a frame more went out.
 fn more_allowed(allowance: usize) -> usize
-    ensures { result ≡ min (allowance + MSS) CAPACITY }
+    ensures { result ≡ min (allowance + MSS) LARGEST_CAPACITY }
 {
-    allowance.saturating_add(usize::from(MSS)).min(CAPACITY)
+    allowance
+        .saturating_add(usize::from(MSS))
+        .min(LARGEST_CAPACITY)
 }
 
 /// A clock after a tick at a moment.

@@ -31,7 +31,7 @@ use Rattle.wire_sim.proofs.told.TraceAndOneMore.{answered, IsQuiet, eqb-swap, se
 use Rattle.wire_sim.proofs.told.AccountAndOneMore.{sends-told, closes-told, receives-told, ends-told}
 use Rattle.devices.specs.Passages.{Passage}
 use Rattle.copy_law.specs.CopyView.{CopyView}
-use Rattle.copy_law.specs.Course.{clock_after}
+use Rattle.copy_law.specs.Course.{most_held, clock_after}
 use Rattle.copy_law.proofs.Vectors.{held}
 use Rattle.copy_law.proofs.Counts.{written_by-counted, length-counted}
 use Rattle.copy_law.proofs.Standing.{Stands, AreCarried, IsTold, IsGot, IsSilent, world_of, network_of, reached-more, told-still, sent-quiet, closed-quiet, got-quiet}
@@ -195,10 +195,10 @@ stands-accepted v s sound_a sound_b listener id peer none told =
     }
 
 -- a receive asks for as many octets as it says
-same_len : (len : ℕ) → len ≤ 65535 → recv_len len ≡ len
+same_len : (len : ℕ) → len ≤ most_held → recv_len len ≡ len
 same_len len few = omega arith
 
-pub stands-read : (v : CopyView) → Stands v → IsSoundHost v.a → IsSoundHost v.b → (id : SocketId) (len count : ℕ) (octets : List ℕ) → v.receiver ≡ Some id → len ≤ 65535 → length octets ≤ len → octets ≡ readable_on v.b.sockets id count
+pub stands-read : (v : CopyView) → Stands v → IsSoundHost v.a → IsSoundHost v.b → (id : SocketId) (len count : ℕ) (octets : List ℕ) → v.receiver ≡ Some id → len ≤ most_held → length octets ≤ len → octets ≡ readable_on v.b.sockets id count
     → recv_answer v.b.sockets id len ≡ Ok (received.Octets count) → Stands (record v { b = with_sockets v.b (after_recv v.b.sockets id len); read = v.read ++ octets })
 stands-read v s sound_a sound_b id len count octets is few short are told =
     let w = world_of v.a v.b v.clock s.frames s.openings s.written s.trace in
@@ -217,7 +217,7 @@ stands-read v s sound_a sound_b id len count octets is few short are told =
       tells = told-read v s.trace id len x is s.tells;
     }
 
-pub stands-ended : (v : CopyView) → Stands v → IsSoundHost v.a → IsSoundHost v.b → (id : SocketId) (len : ℕ) → v.receiver ≡ Some id → len ≤ 65535 → recv_answer v.b.sockets id len ≡ Ok received.EndOfStream
+pub stands-ended : (v : CopyView) → Stands v → IsSoundHost v.a → IsSoundHost v.b → (id : SocketId) (len : ℕ) → v.receiver ≡ Some id → len ≤ most_held → recv_answer v.b.sockets id len ≡ Ok received.EndOfStream
     → Stands (record v { b = with_sockets v.b (after_recv v.b.sockets id len); ended = true })
 stands-ended v s sound_a sound_b id len is few told =
     let w = world_of v.a v.b v.clock s.frames s.openings s.written s.trace in

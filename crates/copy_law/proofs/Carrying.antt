@@ -38,7 +38,7 @@ use Rattle.wire_sim.proofs.runs.RunsAreLawful.{run_tallied}
 use Rattle.wire_sim.proofs.told.TraceAndOneMore.{quiet-emit, quiet-deliver}
 use Rattle.devices.specs.Passages.{Passage, taken, given, frames_taken, MayGive}
 use Rattle.copy_law.specs.CopyView.{CopyView, host_at, with_host_at}
-use Rattle.copy_law.specs.Course.{Goes, OpensOnce, after_hearing, holds_some, holds_pair_of}
+use Rattle.copy_law.specs.Course.{most_held, Goes, OpensOnce, after_hearing, holds_some, holds_pair_of}
 use Rattle.copy_law.specs.Course as course
 use Rattle.copy_law.proofs.Vectors.{held}
 use Rattle.copy_law.proofs.Counts.{written_by-opened, epoch_of-opened, slice_get-mapped, slice_get-more, map-more}
@@ -65,7 +65,7 @@ length-one_more xs x = length-append xs (x ∷ [])
 -- the note of a frame that goes out is recent, and those before stay so
 carried-more : (told : List Passage) (allowance : ℕ) (opened : Bool) (n : NetworkView) (f : Frame) → f.note ≡ option_map (note_of n) (pair_in f.octets.items)
     → AreCarried told allowance opened n.frames n.openings n.written
-    → AreCarried (told ++ taken f.sender f.octets.items ∷ []) (min (allowance + 1460) 65535) opened (n.frames ++ f ∷ []) n.openings n.written
+    → AreCarried (told ++ taken f.sender f.octets.items ∷ []) (min (allowance + 1460) most_held) opened (n.frames ++ f ∷ []) n.openings n.written
 carried-more told allowance opened n f noted c = record {
   frames_are = map-more frame_of n.frames f ∙ (ap (λ l. l ++ frame_of f ∷ []) c.frames_are ∙ sym (frames_taken-taken told f.sender f.octets.items));
   counts = c.counts;
@@ -78,22 +78,22 @@ carried-more told allowance opened n f noted c = record {
 }
   where
     older : (k : ℕ) (note : Note) → IsRecentNote n.openings n.written allowance (length n.frames) k note
-        → IsRecentNote n.openings n.written (min (allowance + 1460) 65535) (length (n.frames ++ f ∷ [])) k note
+        → IsRecentNote n.openings n.written (min (allowance + 1460) most_held) (length (n.frames ++ f ∷ [])) k note
     older k note r =
         let long = length-one_more n.frames f in
         let before = r.recent in
         record { epoch = r.epoch; recent = omega (arith, before, long) }
 
-    newest : (k : ℕ) (note : Note) → k ≡ length n.frames → (o : Option Pair) → option_map (note_of n) o ≡ Some note → IsRecentNote n.openings n.written (min (allowance + 1460) 65535) (length (n.frames ++ f ∷ [])) k note
+    newest : (k : ℕ) (note : Note) → k ≡ length n.frames → (o : Option Pair) → option_map (note_of n) o ≡ Some note → IsRecentNote n.openings n.written (min (allowance + 1460) most_held) (length (n.frames ++ f ∷ [])) k note
     newest k note at None is = cc
     newest k note at (Some pair) is =
         let same : note_of n pair ≡ note = (let e : Some (note_of n pair) ≡ Some note = is in cc) in
         let long = length-one_more n.frames f in
-        subst (λ (x : Note). IsRecentNote n.openings n.written (min (allowance + 1460) 65535) (length (n.frames ++ f ∷ [])) k x) same
+        subst (λ (x : Note). IsRecentNote n.openings n.written (min (allowance + 1460) most_held) (length (n.frames ++ f ∷ [])) k x) same
         (record { epoch = refl; recent = omega (arith, long, at) })
 
 pub stands-emitted : (v : CopyView) → Stands v → IsSoundHost v.a → IsSoundHost v.b → (from : Side) (len : ℕ) → length (emission_octets (host_at v from) v.clock) ≤ 1514 → emission_len (host_at v from) v.clock ≡ Some len
-    → Stands (let w = with_host_at v from (after_emission (host_at v from) v.clock) in record w { allowance = min (v.allowance + 1460) 65535; told = v.told ++ taken from (emission_octets (host_at v from) v.clock) ∷ [] })
+    → Stands (let w = with_host_at v from (after_emission (host_at v from) v.clock) in record w { allowance = min (v.allowance + 1460) most_held; told = v.told ++ taken from (emission_octets (host_at v from) v.clock) ∷ [] })
 stands-emitted v s sound_a sound_b A len short due =
     let w = world_of v.a v.b v.clock s.frames s.openings s.written s.trace in
     let x : Vec ℕ = held (emission_octets v.a v.clock) (omega (arith, short)) in

@@ -27,6 +27,7 @@ use Rattle.wire_sim.proofs.told.TraceAndOneMore.{IsQuiet}
 use Rattle.wire_sim.proofs.told.AccountAndOneMore.{told-quiet}
 use Rattle.devices.specs.Passages.{Passage, frames_taken}
 use Rattle.copy_law.specs.CopyView.{CopyView}
+use Rattle.copy_law.specs.Course.{most_held}
 
 -- the network of two hosts with one clock
 abbrev pub network_of : HostView → HostView → Moment → List Frame → List Opening → List ℕ → NetworkView
@@ -49,13 +50,13 @@ frame_of f = (f.sender, f.octets.items)
 -- and a buffer more.
 pub record IsRecentNote (openings : List Opening) (written : List ℕ) (allowance count k : ℕ) (note : Note) : Type 0 where
   pub epoch : epoch_of openings note.pair ≡ note.epoch
-  pub recent : written_by openings written A note.pair note.epoch + allowance + 1460 * (k + 1) ≤ note.at_a + 65535 + 1460 * count
+  pub recent : written_by openings written A note.pair note.epoch + allowance + 1460 * (k + 1) ≤ note.at_a + most_held + 1460 * count
 
 -- the frames of the network are those that the link took, each of them recent, and b opened nothing that is not told
 pub record AreCarried (told : List Passage) (allowance : ℕ) (opened : Bool) (frames : List Frame) (openings : List Opening) (written : List ℕ) : Type 0 where
   pub frames_are : map frame_of frames ≡ frames_taken told
   pub counts : length written ≡ length openings
-  pub within : allowance ≤ 65535
+  pub within : allowance ≤ most_held
   pub unopened : opened ≡ false → (pair : Pair) (epoch : ℕ) → find (is_opening_of B pair epoch) openings ≡ None
   pub noted : (k : ℕ) (f : Frame) (note : Note) → slice_get frames k ≡ Some f → f.note ≡ Some note → IsRecentNote openings written allowance (length frames) k note
 

@@ -30,7 +30,7 @@ use Rattle.wire_sim.specs.WorldView.{WorldView, are_alike}
 use Rattle.wire_sim.proofs.fairness.FairIsUnrefused.{unrefused}
 use Rattle.wire_sim.proofs.told.TraceAndOneMore.{answered, quiet-everywhere, quiet-socket, quiet-bind, quiet-listen, quiet-connect}
 use Rattle.copy_law.specs.CopyView.{CopyView}
-use Rattle.copy_law.specs.Course.{MakesSocket, Listens, Connects, Starts}
+use Rattle.copy_law.specs.Course.{most_held, MakesSocket, Listens, Connects, Starts}
 use Rattle.copy_law.proofs.Standing.{Stands, AreCarried, IsTold, world_of, network_of, reached-more, told-still}
 
 -- a host became one with another table
@@ -97,7 +97,7 @@ fresh_pair : (o : Option Pair) (epoch : Pair → ℕ) → IfSome o (λ pair. IsU
 fresh_pair None epoch = tt
 fresh_pair (Some pair) epoch = refl
 
-no-frames : (openings : List Opening) (written : List ℕ) → length written ≡ length openings → ((pair : Pair) (epoch : ℕ) → find (is_opening_of B pair epoch) openings ≡ None) → AreCarried [] 65535 false [] openings written
+no-frames : (openings : List Opening) (written : List ℕ) → length written ≡ length openings → ((pair : Pair) (epoch : ℕ) → find (is_opening_of B pair epoch) openings ≡ None) → AreCarried [] most_held false [] openings written
 no-frames openings written counts none = record {
   frames_are = refl;
   counts = counts;
@@ -108,7 +108,7 @@ no-frames openings written counts none = record {
 
 -- what a copy is at first
 abbrev first_of : HostView → HostView → SocketId → CopyView
-first_of a b sender = record { a = a; b = b; clock = record { 0 = 0 }; sender = sender; receiver = None; opened = false; allowance = 65535; told = []; sent = []; read = []; closed = false; ended = false }
+first_of a b sender = record { a = a; b = b; clock = record { 0 = 0 }; sender = sender; receiver = None; opened = false; allowance = most_held; told = []; sent = []; read = []; closed = false; ended = false }
 
 connects-at_a : (a b new : HostView) (sender : SocketId) → IsSoundHost b → Connects a sender new → Prepared a b sender → Stands (first_of new b sender)
 connects-at_a a b new sender sound c p = by_pair (socket_pair new.sockets sender) refl
@@ -119,7 +119,7 @@ connects-at_a a b new sender sound c p = by_pair (socket_pair new.sockets sender
     h : Happening
     h = answered A (call.Connect c.isn sender c.peer) reply.Started
 
-    finish : (openings : List Opening) (written : List ℕ) → network_of new b (record { 0 = 0 }) [] openings written ≡ after_call A (call.Connect c.isn sender c.peer) reply.Started (length p.trace) w.network new → AreCarried [] 65535 false [] openings written
+    finish : (openings : List Opening) (written : List ℕ) → network_of new b (record { 0 = 0 }) [] openings written ≡ after_call A (call.Connect c.isn sender c.peer) reply.Started (length p.trace) w.network new → AreCarried [] most_held false [] openings written
         → Stands (first_of new b sender)
     finish openings written is carried = record {
       frames = [];

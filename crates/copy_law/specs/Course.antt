@@ -27,9 +27,9 @@ use Rattle.devices.specs.Passages.{taken, given, MayGive}
 use Rattle.stream_law.specs.Begins.{Begins}
 use Rattle.copy_law.specs.CopyView.{CopyView, host_at, with_host_at}
 
--- the octets that a connection holds for its peer at most, and those that a segment carries
+-- the octets that a connection holds for its peer at most (RFC 7323 section 2), and those that a segment carries
 abbrev pub most_held : ℕ
-most_held = 65535
+most_held = 1048576
 
 abbrev pub most_carried : ℕ
 most_carried = 1460

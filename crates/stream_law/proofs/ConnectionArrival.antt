@@ -15,6 +15,7 @@ use Rattle.stream_law.specs.Channel.{Channel, Sending, Open, Receiving, Waiting,
 use Rattle.stream_law.specs.ChannelSteps.{Step, nothing_kept}
 use Rattle.stream_law.specs.ChannelViews.{frame_of, Leads, stays, goes, sender_of, kept_at, receiver_of, receiving_of, SendsInto, ReceivesFrom, Follows, IsOfWidth, CameFrom}
 use Rattle.stream_law.proofs.Kept.{unkept}
+use Rattle.stream_law.proofs.Sizes.{held-fits, opening-holds-nothing, window-fits, window-has-places}
 use Rattle.stream_law.proofs.ConnectionHears.{HasRoom, bounds_of, hears-octets, hears-fin, hears-ack, hears-fin_ack, hears-syn_ack, hears-syn}
 
 one_step : (cap limit : ℕ) (c d : Channel) → Step cap limit c d → Leads cap limit c d
@@ -105,24 +106,15 @@ beyond_end_acked _ e = cc
 -- in its opening a connection has at most its SYN outstanding, and past it no more than it holds and its FIN
 opening_flight : (v : View) → IsSound v → is_opening v.state ≡ true → outstanding v.sending ≤ 1
 opening_flight v sound opening =
-    let none : length v.sending.held ≤ 0 = subst (λ b. length v.sending.held ≤ (if b || is_write_finished v.state then 0 else 65535)) opening sound.held in
+    let none = opening-holds-nothing v sound opening in
     let most : outstanding v.sending ≤ length v.sending.held + 1 = subst (λ b. outstanding v.sending ≤ length v.sending.held + (if b || awaits_fin_ack v.state then 1 else 0)) opening sound.flight in
     omega (arith, none, most)
 
 pub opened_flight : (v : View) → IsSound v → is_opening v.state ≡ false → outstanding v.sending ≤ length v.sending.held + number_of (awaits_fin_ack v.state)
 opened_flight v sound opened = subst (λ b. outstanding v.sending ≤ length v.sending.held + (if b || awaits_fin_ack v.state then 1 else 0)) opened sound.flight
 
-pub opened_held : (v : View) → IsSound v → is_opening v.state ≡ false → length v.sending.held ≤ 65535
-opened_held v sound opened =
-    let some : length v.sending.held ≤ (if is_write_finished v.state then 0 else 65535) = subst (λ b. length v.sending.held ≤ (if b || is_write_finished v.state then 0 else 65535)) opened sound.held in
-    at_most (is_write_finished v.state) (length v.sending.held) some
-  where
-    at_most : (b : Bool) (n : ℕ) → n ≤ (if b then 0 else 65535) → n ≤ 65535
-    at_most true n e = omega (arith, e)
-    at_most false n e = e
-
 short_flight : (v : View) → IsSound v → is_opening v.state ≡ false → outstanding v.sending < 2 ^ 31
-short_flight v sound opened = let held = opened_held v sound opened in let most = opened_flight v sound opened in let fin = one_at_most (awaits_fin_ack v.state) in omega (arith, held, most, fin)
+short_flight v sound opened = let held = held-fits v sound in let most = opened_flight v sound opened in let fin = one_at_most (awaits_fin_ack v.state) in omega (arith, held, most, fin)
   where
     one_at_most : (b : Bool) → number_of b ≤ 1
     one_at_most true = omega arith
@@ -257,7 +249,7 @@ arrives-ack cap limit v s c d sound fits past_syn ack into came =
     (λ octets. record {
       into = Open (record (sender_of v) { held = (after_acknowledged v.sending s.acknowledgement).held; una = (after_acknowledged v.sending s.acknowledgement).una });
       leads = one_step cap limit c (record c { sending = Open (record (sender_of v) { held = (after_acknowledged v.sending s.acknowledgement).held; una = (after_acknowledged v.sending s.acknowledgement).una }) })
-          (hears-ack cap limit v c s came.acked_at opened (within_held v s.acknowledgement sound opened new octets) (opened_held v sound opened) new into (came.ack ack) came.ack_recent);
+          (hears-ack cap limit v c s came.acked_at opened (within_held v s.acknowledgement sound opened new octets) (held-fits v sound) new into (came.ack ack) came.ack_recent);
       sends = record { sending = refl; closed = into.closed };
       receiving = refl;
       synchronised = past_syn;
@@ -385,10 +377,7 @@ window_told v s = told (updates_window v.sending s.number s.acknowledgement)
 
 -- the window advertised lies in the room of the buffer
 room_of : (v : View) → IsSound v → HasRoom v.receiving
-room_of v sound =
-    let window : length v.receiving.readable + receive_window v.receiving ≤ 65535 = sound.window in
-    let places : length v.receiving.readable + length v.receiving.kept ≡ 65535 = sound.buffer.places in
-    record { window = omega (arith, window); places = omega (arith, window, places) }
+room_of v sound = record { window = window-fits v sound; places = window-has-places v sound }
 
 -- an acceptable segment with ACK and without SYN
 arrives-acceptable : (cap limit : ℕ) (v : View) (s : Segment) (c d : Channel) → IsSound v → IsOfWidth s → is_syn_sent v.state ≡ false → s.flags.ack ≡ true → SendsInto v c → ReceivesFrom v d

@@ -16,6 +16,7 @@ use Rattle.tcp_state.specs.Calls.{recv_count}
 use Rattle.stream_law.specs.Channel.{Open, Waiting, Synchronised, Channel, IsAmong, number_of, IsKnown, IsRecent}
 use Rattle.stream_law.specs.ChannelSteps.{Step, synchronises, delivers, acknowledges, octets_up_to, reads, nothing_kept}
 use Rattle.stream_law.specs.ChannelViews.{sender_of, kept_at, receiver_of, SendsInto, ReceivesFrom, frame_of, ack_of}
+use Rattle.stream_law.proofs.Sizes.{most_held}
 use Rattle.stream_law.proofs.Kept.{front_stands, behind_stands, laid_within, at_free}
 
 -- a place of what is cut out of a list
@@ -37,7 +38,7 @@ abbrev IsOfFrame : ReceivingHalf → Segment → ℕ → ℕ → Type 0
 IsOfFrame y s distance octet = (j : ℕ) × (slice_get s.octets j ≡ Some octet) × (past (s.number + j) y.rnext ≡ distance) × (distance < 2 ^ 31)
 
 -- those of its octets that lie in the window stand there one after another
-within_known : (y : ReceivingHalf) (s : Segment) → length s.octets < 2 ^ 31 → s.number < 2 ^ 32 → y.rnext < 2 ^ 32 → receive_window y ≤ 65535
+within_known : (y : ReceivingHalf) (s : Segment) → length s.octets < 2 ^ 31 → s.number < 2 ^ 32 → y.rnext < 2 ^ 32 → receive_window y ≤ most_held
     → (k o : ℕ) → slice_get (octets_within y s.number s.octets) k ≡ Some o → IsOfFrame y s (distance_of y s.number + k) o
 within_known y s short number rnext window k o e = of (is_before y.rnext s.number) e
   where
@@ -67,7 +68,7 @@ within_places y s room some = of (is_before y.rnext s.number) some
 
 -- the window advertised is no longer than a buffer, and each octet that it has room for has a place
 pub record HasRoom (y : ReceivingHalf) : Type 0 where
-  pub window : receive_window y ≤ 65535
+  pub window : receive_window y ≤ most_held
   pub places : receive_window y ≤ length y.kept
 
 -- the places once the octets of a segment are laid over what is kept
@@ -194,7 +195,7 @@ bounds_of h ack e = elim (leb_tells (suc 0) (past ack h.una)) [
 ]
 
 -- an acknowledgement of octets, with none of our FIN
-pub hears-ack : (cap limit : ℕ) (v : View) (c : Channel) (s : Segment) (written_at : ℕ) → is_opening v.state ≡ false → past s.acknowledgement v.sending.una ≤ length v.sending.held → length v.sending.held ≤ 65535
+pub hears-ack : (cap limit : ℕ) (v : View) (c : Channel) (s : Segment) (written_at : ℕ) → is_opening v.state ≡ false → past s.acknowledgement v.sending.una ≤ length v.sending.held → length v.sending.held ≤ most_held
     → is_new_ack v.sending s.acknowledgement ≡ true → SendsInto v c → IsAmong (ack_of s written_at) c.acks → IsRecent limit c.written written_at
     → Step cap limit c (record c { sending = Open (record (sender_of v) { held = (after_acknowledged v.sending s.acknowledgement).held; una = (after_acknowledged v.sending s.acknowledgement).una }) })
 hears-ack cap limit v c s written_at opened within held new shows among recent =

@@ -12,7 +12,7 @@ use Rattle.tcp_state.specs.declared.state.State.{State}
 use Rattle.tcp_state.specs.declared.state.State.TheVariants.{FinWait1, Closing, LastAck}
 use Rattle.tcp_state.specs.View.{View, IsSound, is_opening, is_syn_sent, is_write_finished, is_write_closed, awaits_fin_ack}
 use Rattle.tcp_halves.specs.Numbers.{later_number}
-use Rattle.tcp_halves.specs.Stream.{outstanding}
+use Rattle.tcp_halves.specs.Stream.{send_room, outstanding}
 use Rattle.tcp_state.specs.Timing.{clocked}
 use Rattle.tcp_state.specs.Calls.{send_count, with_octets, after_send}
 use Rattle.tcp_state.specs.Due.{IsHeld, probe_stretch, end_of, octets_of_stretch, head_of, octets_of}
@@ -20,6 +20,7 @@ use Rattle.stream_law.specs.Channel.{Open, Waiting, Synchronised, Channel, numbe
 use Rattle.stream_law.specs.ChannelSteps.{Step, writes, emits_syn, emits_text, emits_bare, emits_ack, span}
 use Rattle.stream_law.specs.ChannelViews.{sender_of, receiver_of, SendsInto, ReceivesFrom, frame_of}
 use Rattle.stream_law.proofs.KeepingText.{chosen}
+use Rattle.stream_law.proofs.Sizes.{finished-holds-nothing}
 use Rattle.stream_law.proofs.ConnectionArrival.{either, opened_flight}
 
 -- octets that the caller gives stand behind those that are held, and of the rest of both streams nothing changed
@@ -54,13 +55,13 @@ takes-octets v octets now untold opened unclosed =
     nothing_more e = ap (λ l. v.sending.held ++ l) (no_octets more e) ∙ append-nil v.sending.held
 
 -- they are written
-pub sends : (cap limit : ℕ) (v w : View) (c : Channel) (octets : List ℕ) → 65535 ≤ cap → is_write_closed v.state ≡ false → length v.sending.held ≤ 65535 → Takes v w (take (send_count v octets) octets) → SendsInto v c
+pub sends : (cap limit : ℕ) (v w : View) (c : Channel) (octets : List ℕ) → length v.sending.held + send_room v.sending ≤ cap → is_write_closed v.state ≡ false → Takes v w (take (send_count v octets) octets) → SendsInto v c
     → Step cap limit c (record c { written = c.written ++ take (send_count v octets) octets; sending = Open (sender_of w) })
-sends cap limit v w c octets room unclosed held taken shows =
+sends cap limit v w c octets room unclosed taken shows =
     let more = take (send_count v octets) octets in
     let s = sender_of v in
     let len : length more ≡ min (send_count v octets) (length octets) = length-take (send_count v octets) octets in
-    let fits : length (s.held ++ more) ≤ cap = omega (arith, length-append s.held more, len, room, held) in
+    let fits : length (s.held ++ more) ≤ cap = omega (arith, length-append s.held more, len, room) in
     subst (λ x. Step cap limit c (record c { written = c.written ++ more; sending = Open x })) taken.sender
     (writes c s more shows.sending (shows.closed ∙ unclosed) fits)
 
@@ -172,8 +173,7 @@ emits-alone cap limit v c sound shows = by (is_opening v.state) (nat_le (outstan
     unfinished : is_opening v.state ≡ false → v.sending.window < outstanding v.sending → (b : Bool) → is_write_finished v.state ≡ b → b ≡ false
     unfinished opened beyond false e = refl
     unfinished opened beyond true e =
-        let some : length v.sending.held ≤ (if is_write_finished v.state then 0 else 65535) = subst (λ b. length v.sending.held ≤ (if b || is_write_finished v.state then 0 else 65535)) opened sound.held in
-        let none : length v.sending.held ≤ 0 = subst (λ b. length v.sending.held ≤ (if b then 0 else 65535)) e some in
+        let none = finished-holds-nothing v sound e in
         let flight : outstanding v.sending ≤ length v.sending.held + 0 = subst (λ b. outstanding v.sending ≤ length v.sending.held + number_of b) (unawaited v.state e) (opened_flight v sound opened) in
         absurd (omega (arith, none, flight, beyond))
 

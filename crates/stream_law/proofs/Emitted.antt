@@ -33,8 +33,8 @@ same_receiver r = same (has_grown r)
     same true = (refl, refl)
     same false = (refl, refl)
 
-paid : (v w : View) (half : SendingHalf) → GoesOut v w half → GoesOut v (after_ack_paid w) half
-paid v w half g = let same = same_receiver w.receiving in record { state = g.state; sending = g.sending; receiver = same.0 ∙ g.receiver; readable = same.1 ∙ g.readable }
+paid : (v w : View) (half : SendingHalf) (spoke : Bool) → GoesOut v w half → GoesOut v (record (after_ack_paid w) { spoke = spoke }) half
+paid v w half spoke g = let same = same_receiver w.receiving in record { state = g.state; sending = g.sending; receiver = same.0 ∙ g.receiver; readable = same.1 ∙ g.readable }
 
 -- .. nor is the clock
 timed : (v w : View) (half : SendingHalf) (now : Moment) → GoesOut v w half → GoesOut v (clocked false w now) half
@@ -65,7 +65,7 @@ syn-out v now =
     let half = after_sent v.sending 1 in
     timed v (after_going_out v Syn now) half now
     (either (λ w. GoesOut v w half) (is_syn_received v.state) (after_ack_paid (after_syn_out v now)) (after_syn_out v now)
-    (λ reply. paid v (after_syn_out v now) half (syn_numbered v now))
+    (λ reply. let sent = after_syn_out v now in paid v sent half sent.spoke (syn_numbered v now))
     (λ alone. syn_numbered v now))
 
 pub stretch-out : (v : View) (stretch : Stretch) (now : Moment) → GoesOut v (after_emitted v (Text stretch) now) (after_sent v.sending (end_of stretch))
@@ -73,17 +73,17 @@ stretch-out v stretch now =
     let half = after_sent v.sending (end_of stretch) in
     let sent = after_numbers v stretch.offset (end_of stretch) now in
     timed v (after_going_out v (Text stretch) now) half now
-    (paid v (after_stretch v stretch now) half (renewed v sent half (brings_new_octets v stretch) (numbered v stretch.offset (end_of stretch) now)))
+    (paid v (after_stretch v stretch now) half true (renewed v sent half (brings_new_octets v stretch) (numbered v stretch.offset (end_of stretch) now)))
 
 pub probe-out : (v : View) (now : Moment) → GoesOut v (after_emitted v Probe now) (after_sent v.sending (end_of (probe_stretch v)))
 probe-out v now =
     let half = after_sent v.sending (end_of (probe_stretch v)) in
     let sent : View = record v { sending = half; resend = resend_probed v.resend } in
     timed v (after_going_out v Probe now) half now
-    (paid v (after_probe v) half (renewed v sent half (brings_new_octets v (probe_stretch v)) (record { state = refl; sending = refl; receiver = refl; readable = refl })))
+    (paid v (after_probe v) half true (renewed v sent half (brings_new_octets v (probe_stretch v)) (record { state = refl; sending = refl; receiver = refl; readable = refl })))
 
 pub ack-out : (v : View) (now : Moment) → GoesOut v (after_emitted v Ack now) v.sending
-ack-out v now = timed v (after_ack_paid v) v.sending now (paid v v v.sending (record { state = refl; sending = refl; receiver = refl; readable = refl }))
+ack-out v now = timed v (after_going_out v Ack now) v.sending now (paid v v v.sending true (record { state = refl; sending = refl; receiver = refl; readable = refl }))
 
 -- what the channels see of it
 pub sender-out : (v w : View) (half : SendingHalf) → GoesOut v w half

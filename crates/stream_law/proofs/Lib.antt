@@ -6,6 +6,7 @@ pub mod KeepingArrival
 pub mod KeepingOctets
 pub mod ChannelLaw
 pub mod Kept
+pub mod Sizes
 pub mod ConnectionHears
 pub mod ConnectionArrival
 pub mod ConnectionSends

@@ -16,6 +16,7 @@ use Rattle.stream_law.specs.Channel.{Channel, Ack, Open, IsAmong, here, there}
 use Rattle.stream_law.specs.ChannelSteps.{Step, steps}
 use Rattle.stream_law.specs.ChannelViews.{Leads, stays, goes, sender_of, receiving_of, SendsInto, ReceivesFrom, IsOfWidth, frame_of, ack_of}
 use Rattle.stream_law.specs.Pairing.{Present, Emission, Pairing, with_connection}
+use Rattle.stream_law.proofs.Sizes.{opening-holds-nothing, finished-holds-nothing}
 use Rattle.stream_law.proofs.ConnectionSends.{emits-syn, emits-stretch, emits-probe, emits-alone, emits-ack}
 use Rattle.stream_law.proofs.Emitted.{GoesOut, syn-out, stretch-out, probe-out, ack-out, sender-out, receiving-out}
 use Rattle.stream_law.proofs.PairingInvariant.{Shown, runs_on, other_stays, connected, living, receives}
@@ -129,7 +130,7 @@ went-out cap limit v w into s half out step acknowledges = record {
 -- the SYN alone is outstanding while a connection opens
 syn_flight : (v : View) → IsSound v → is_opening v.state ≡ true → outstanding v.sending ≤ 1
 syn_flight v sound opening =
-    let none : length v.sending.held ≤ 0 = subst (λ b. length v.sending.held ≤ (if b || is_write_finished v.state then 0 else 65535)) opening sound.held in
+    let none = opening-holds-nothing v sound opening in
     let most : outstanding v.sending ≤ length v.sending.held + 1 = subst (λ b. outstanding v.sending ≤ length v.sending.held + (if b || awaits_fin_ack v.state then 1 else 0)) opening sound.flight in
     omega (arith, none, most)
 
@@ -141,7 +142,7 @@ went-syn cap limit v into now sound opening shows =
 -- Nothing is held once our FIN is acknowledged, and no FIN is sent.
 unfinished : (v : View) (stretch : Stretch) → IsSound v → IsHeld v stretch → is_write_finished v.state ≡ false
 unfinished v stretch sound is = by_fin stretch.fin (λ e. awaiting v.state (is.fin e).0)
-    (λ e. none_left (is_write_finished v.state) (length v.sending.held) (subst (λ b. length v.sending.held ≤ (if b || is_write_finished v.state then 0 else 65535)) is.opened sound.held)
+    (λ e. none_left (is_write_finished v.state) refl
     (let some : 0 < stretch.count + (if false then 1 else 0) = subst (λ b. 0 < stretch.count + (if b then 1 else 0)) e is.some in omega (arith, some, is.held)))
   where
     by_fin : (fin : Bool) → (fin ≡ true → is_write_finished v.state ≡ false) → (fin ≡ false → is_write_finished v.state ≡ false) → is_write_finished v.state ≡ false
@@ -154,9 +155,9 @@ unfinished v stretch sound is = by_fin stretch.fin (λ e. awaiting v.state (is.f
     awaiting LastAck e = refl
     awaiting _ e = cc
 
-    none_left : (b : Bool) (len : ℕ) → len ≤ (if b then 0 else 65535) → 0 < len → b ≡ false
-    none_left true len most some = absurd (omega (arith, most, some))
-    none_left false len most some = refl
+    none_left : (b : Bool) → is_write_finished v.state ≡ b → 0 < length v.sending.held → b ≡ false
+    none_left true e some = let none = finished-holds-nothing v sound e in absurd (omega (arith, none, some))
+    none_left false e some = refl
 
 went-text : (cap limit : ℕ) (v : View) (into : Channel) (stretch : Stretch) (now : Moment) → IsSound v → IsHeld v stretch → SendsInto v into
     → Went cap limit v (after_emitted v (Text stretch) now) into (sent_segment (head_of v (Text stretch)) (octets_of v (Text stretch)))

@@ -9,7 +9,6 @@ use Rattle.tcp_state.specs.declared.calls.Received.{Received}
 use Rattle.tcp_state.specs.declared.calls.Received.TheVariants.{Octets, EndOfStream}
 use Rattle.tcp_state.specs.declared.state.State.{State}
 use Rattle.tcp_state.specs.declared.state.State.TheVariants.{Closed, Listen, SynSent, SynReceived, Established, FinWait1, FinWait2, CloseWait, Closing, LastAck, TimeWait}
-use Rattle.tcp_halves.specs.declared.buffers.TheConstants.{CAPACITY}
 use Rattle.tcp_state.specs.View.{View, IsSound, is_opening, is_syn_sent, is_closed, is_listening, is_write_closed, is_read_closed, is_write_finished, opened_actively}
 use Rattle.tcp_halves.specs.Halves.{Receiving as ReceivingHalf}
 use Rattle.tcp_halves.specs.Stream.{after_read}
@@ -22,16 +21,16 @@ use Rattle.stream_law.specs.Pairing.{Absent, Present, Emission, Pairing, with_co
 use Rattle.stream_law.proofs.Kept.{keeps_nothing, keeps_same}
 use Rattle.stream_law.proofs.ConnectionSends.{takes-octets, sends}
 use Rattle.stream_law.proofs.ConnectionHears.{hands-over}
-use Rattle.stream_law.proofs.ConnectionArrival.{opened_held}
+use Rattle.stream_law.proofs.Sizes.{most_held, room-fits}
 use Rattle.stream_law.proofs.PairingInvariant.{Connected, Shown, other_stays, connected, unconnected, untold_tells, living, receives}
 use Rattle.stream_law.proofs.PairingEndings.{rests-fits, resting, ending}
 
 -- a caller opens
-pub moves-connects : (cap limit : ℕ) (p : Pairing) (local peer : Endpoint) (isn : ℕ) (now : Moment) → p.own.connection ≡ Absent → isn < 2 ^ 32 → Shown cap limit p
-    → Shown cap limit (with_connection p (opened_actively local peer isn now))
-moves-connects cap limit p local peer isn now none fits h =
+pub moves-connects : (cap limit : ℕ) (p : Pairing) (capacity : ℕ) (local peer : Endpoint) (isn : ℕ) (now : Moment) → p.own.connection ≡ Absent → isn < 2 ^ 32 → Shown cap limit p
+    → Shown cap limit (with_connection p (opened_actively capacity local peer isn now))
+moves-connects cap limit p capacity local peer isn now none fits h =
     let k = unconnected p.own.connection h.into h.from none h.own.connection in
-    let v = opened_actively local peer isn now in
+    let v = opened_actively capacity local peer isn now in
     let into' : Channel = record h.into { sending = Open (sender_of v) } in
     record {
       into = into';
@@ -57,14 +56,14 @@ moves-connects cap limit p local peer isn now none fits h =
     }
 
 -- a SYN opens
-pub moves-accepts : (cap limit : ℕ) (p : Pairing) (local peer : Endpoint) (isn : ℕ) (e : Emission) (now : Moment) → p.own.connection ≡ Absent → isn < 2 ^ 32 → IsAmong e p.received → e.segment.flags.syn ≡ true
-    → Shown cap limit p → Shown cap limit (with_connection p (opened_passively local peer isn e.segment now))
-moves-accepts cap limit p local peer isn e now none fits among syn h =
+pub moves-accepts : (cap limit : ℕ) (p : Pairing) (capacity : ℕ) (local peer : Endpoint) (isn : ℕ) (e : Emission) (now : Moment) → p.own.connection ≡ Absent → isn < 2 ^ 32 → IsAmong e p.received → e.segment.flags.syn ≡ true
+    → Shown cap limit p → Shown cap limit (with_connection p (opened_passively capacity local peer isn e.segment now))
+moves-accepts cap limit p capacity local peer isn e now none fits among syn h =
     let k = unconnected p.own.connection h.into h.from none h.own.connection in
-    let v = opened_passively local peer isn e.segment now in
+    let v = opened_passively capacity local peer isn e.segment now in
     let into' : Channel = record h.into { sending = Open (sender_of v) } in
     let from' : Channel = record h.from { receiving = Synchronised (record { rnext = (e.segment.number + 1) % 2 ^ 32; kept = nothing_kept }) } in
-    let opened : from'.receiving ≡ receiving_of v = ap (λ (kept : ℕ → Option ℕ). Synchronised (record { rnext = (e.segment.number + 1) % 2 ^ 32; kept = kept })) (sym (keeps_nothing CAPACITY)) in
+    let opened : from'.receiving ≡ receiving_of v = ap (λ (kept : ℕ → Option ℕ). Synchronised (record { rnext = (e.segment.number + 1) % 2 ^ 32; kept = kept })) (sym (keeps_nothing capacity)) in
     record {
       into = into';
       from = from';
@@ -94,9 +93,9 @@ moves-rests cap limit p v w is same h =
     resting cap limit p (Present w) h (rests-fits v w h.into h.from same (connected p.own.connection v h.into h.from is h.own.connection))
 
 -- the caller gives octets
-pub moves-takes : (cap limit : ℕ) (p : Pairing) (v : View) (octets : List ℕ) (now : Moment) → 65535 ≤ cap → p.own.connection ≡ Present v → IsSound v → is_some v.pending_error ≡ false → is_opening v.state ≡ false → is_write_closed v.state ≡ false → Shown cap limit p
+pub moves-takes : (cap limit : ℕ) (p : Pairing) (v : View) (octets : List ℕ) (now : Moment) → most_held ≤ cap → p.own.connection ≡ Present v → IsSound v → is_some v.pending_error ≡ false → is_opening v.state ≡ false → is_write_closed v.state ≡ false → Shown cap limit p
     → Shown cap limit (record p { own = record p.own { connection = Present (after_send v octets now); written = p.own.written ++ take (send_count v octets) octets } })
-moves-takes cap limit p v octets now room is sound untold opened unclosed h =
+moves-takes cap limit p v octets now wide is sound untold opened unclosed h =
     let k = connected p.own.connection v h.into h.from is h.own.connection in
     let shows = k.sends (writes_open v.state unclosed) in
     let hears = receives v h.into h.from (writes_open v.state unclosed) k in
@@ -108,7 +107,7 @@ moves-takes cap limit p v octets now room is sound untold opened unclosed h =
     record {
       into = into';
       from = h.from;
-      runs_into = steps h.into into' h.runs_into (sends cap limit v w h.into octets room unclosed (opened_held v sound opened) taken shows);
+      runs_into = steps h.into into' h.runs_into (sends cap limit v w h.into octets (omega (arith, wide, room-fits v sound)) unclosed taken shows);
       runs_from = h.runs_from;
       own = record {
         written = ap (λ l. l ++ more) h.own.written;

@@ -72,11 +72,11 @@ remains Rejected v = Present v
 
 -- what may happen at one end
 pub data Move (limit : ℕ) : Pairing → Pairing → Type 0 where
-  -- its caller opens a connection, with any initial number
-  connects : (p : Pairing) (local peer : Endpoint) (isn : ℕ) (now : Moment) → p.own.connection ≡ Absent → isn < 2 ^ 32 → Move limit p (with_connection p (opened_actively local peer isn now))
+  -- its caller opens a connection, with any initial number and in buffers of any size
+  connects : (p : Pairing) (capacity : ℕ) (local peer : Endpoint) (isn : ℕ) (now : Moment) → p.own.connection ≡ Absent → isn < 2 ^ 32 → Move limit p (with_connection p (opened_actively capacity local peer isn now))
   -- a SYN of the other end opens one
-  accepts : (p : Pairing) (local peer : Endpoint) (isn : ℕ) (e : Emission) (now : Moment) → p.own.connection ≡ Absent → isn < 2 ^ 32 → IsAmong e p.received → IsTimely limit p e → e.segment.flags.syn ≡ true
-      → Move limit p (with_connection p (opened_passively local peer isn e.segment now))
+  accepts : (p : Pairing) (capacity : ℕ) (local peer : Endpoint) (isn : ℕ) (e : Emission) (now : Moment) → p.own.connection ≡ Absent → isn < 2 ^ 32 → IsAmong e p.received → IsTimely limit p e → e.segment.flags.syn ≡ true
+      → Move limit p (with_connection p (opened_passively capacity local peer isn e.segment now))
   -- its caller gives octets
   takes : (p : Pairing) (v : View) (octets : List ℕ) (now : Moment) → p.own.connection ≡ Present v → IsSound v → is_some v.pending_error ≡ false → is_opening v.state ≡ false → is_write_closed v.state ≡ false
       → Move limit p (record p { own = record p.own { connection = Present (after_send v octets now); written = p.own.written ++ take (send_count v octets) octets } })

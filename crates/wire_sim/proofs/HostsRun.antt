@@ -7,6 +7,7 @@ use Rattle.ipv4.specs.declared.addr.Addr.{Addr}
 use Rattle.ipv4.specs.declared.addr.Endpoint.{Endpoint}
 use Rattle.clock.specs.declared.moment.Moment.{Moment}
 use Rattle.tcp_segment.specs.declared.seq.Seq.{Seq}
+use Rattle.tcp_halves.specs.declared.buffers.TheConstants.{CAPACITY}
 use Rattle.tcp_state.specs.declared.calls.Refusal.{Refusal as Error}
 use Rattle.tcp_state.specs.declared.calls.Received.{Received}
 use Rattle.tcp_state.specs.declared.calls.Received.TheVariants as received
@@ -88,7 +89,7 @@ unrefused None is = refl
 unrefused (Some refusal) is = cc
 
 made : (kind : Kind) (h : SocketsView) (answer : Answer) (new : SocketsView) → MeetsSocket kind h answer new → IsCalled h new
-made Tcp h (reply.Socket id) new meets = inr (table.Makes meets.2.0, meets.0, tt, λ latest. tt, meets.2.1)
+made Tcp h (reply.Socket id) new meets = inr (table.Makes CAPACITY, meets.0, tt, λ latest. tt, meets.2)
 made Udp h (reply.Socket id) new meets = inr (table.MakesDatagrams, meets.0, tt, λ latest. tt, meets.2)
 made kind h (reply.Refused EMFILE) new meets = inl meets.1
 made kind h (reply.Refused ENOMEM) new meets = inl meets.1

@@ -12,6 +12,7 @@ pub mod runs
 pub mod datagrams
 pub mod passage
 pub mod two_ends
+pub mod rounds
 pub mod RunGiven
 pub mod HostsAreSetUp
 pub mod HostsRun

@@ -9,6 +9,7 @@ pub mod WorldRoom
 pub mod Trace
 pub mod Runs
 pub mod RoomyRuns
+pub mod Rounds
 pub mod Datagrams
 pub mod Coverage
 pub mod Holding

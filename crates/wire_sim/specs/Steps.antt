@@ -5,7 +5,6 @@ use Rattle.ipv4.specs.declared.addr.Addr.{Addr}
 use Rattle.ipv4.specs.declared.addr.Endpoint.{Endpoint}
 use Rattle.ipv4.specs.declared.addr.Pair.{Pair}
 use Rattle.clock.specs.declared.moment.Moment.{Moment}
-use Rattle.tcp_halves.specs.declared.buffers.TheConstants.{CAPACITY}
 use Rattle.tcp_state.specs.declared.calls.Received.{Received}
 use Rattle.tcp_state.specs.declared.calls.Received.TheVariants as received
 use Rattle.udp.specs.Waiting.{Waiting}
@@ -17,6 +16,7 @@ use Rattle.sockets.specs.declared.refusal.Refusal.{Refusal}
 use Rattle.sockets.specs.declared.refusal.Refusal.TheVariants.{EMFILE, ENOMEM}
 use Rattle.sides.specs.declared.side.Side.{Side}
 use Rattle.sides.specs.declared.side.Side.TheVariants.{A, B}
+use Rattle.tcp_halves.specs.declared.buffers.TheConstants.{LARGEST_CAPACITY}
 use Rattle.wire_sim.specs.declared.event.Call.{Call}
 use Rattle.wire_sim.specs.declared.event.Call.TheVariants as call
 use Rattle.wire_sim.specs.declared.event.Event.{Event}
@@ -63,9 +63,9 @@ MeetsSocket kind h (reply.Refused EMFILE) new = (is_table_full h ≡ true) × (n
 MeetsSocket kind h (reply.Refused ENOMEM) new = (is_table_full h ≡ false) × (new ≡ h)
 MeetsSocket kind h _ new = ⊥
 
--- how many octets one receive asks for at most: what a connection holds
+-- how many octets one receive asks for: no connection has more for its caller
 abbrev pub recv_len : ℕ → ℕ
-recv_len len = min len CAPACITY
+recv_len len = min len LARGEST_CAPACITY
 
 -- the first octets that are readable on a socket
 abbrev pub readable_on : SocketsView → SocketId → ℕ → List ℕ

@@ -5,6 +5,7 @@ ghost use Rattle.wire_sim.specs.Coverage.{EveryConnectionIsListed, EveryOpeningI
 ghost use Rattle.wire_sim.specs.HostRuns.{EveryHostRuns, EveryTableIsKept, EveryDeadlineLiesNear, EveryErrorStays, EverySocketTellsOn, EveryMessageHasItsCause};
 ghost use Rattle.wire_sim.specs.Holding.{EveryOpeningIsBegun, EveryHoldingIsNoted};
 ghost use Rattle.wire_sim.specs.Notes.{EveryNoteIsTraced, EveryDelayIsTraced};
+ghost use Rattle.wire_sim.specs.Rounds.{EveryRoundIsARun};
 ghost use Rattle.wire_sim.specs.RoomyRuns.{EveryRoomyRunIsARun, EveryStepLeavesRoom, EveryRunLeavesRoom, EveryBareRunHasRoom};
 ghost use Rattle.wire_sim.specs.Datagrams.{EveryRunKeepsDatagrams, EveryDatagramIsTraced};
 ghost use Rattle.wire_sim.specs.Passage.{EveryFrameIsHeardAsSent, EveryFrameIsMetAsSent, EverySegmentArrives, EveryHostStays};
@@ -29,6 +30,11 @@ pub fn every_run_is_reached()
 /// The law of the stream holds at every moment of such a list: after each of its events, whether it was taken or refused.
 pub fn every_moment_is_lawful()
     ensures { EveryMomentIsLawful }
+{}
+
+/// A round, and a beginning of one, is a list of events given in turn, so the law of the stream holds at every moment within it.
+pub fn every_round_is_a_run()
+    ensures { EveryRoundIsARun }
 {}
 
 /// Each host of a world is one that a list of its own events leads to, from a new one of its MAC, its address and its routes: calls that are not refused, ticks, deliveries

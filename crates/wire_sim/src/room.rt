@@ -5,7 +5,7 @@ ghost use Rattle.std.specs.Prelude.{◌≡◌, ◌≤◌, true, false, length, v
 use crate::event::{Call, Event};
 use ether::FRAME_MAX;
 use std::alloc::{AllocError, Global};
-use tcp_halves::CAPACITY;
+use tcp_halves::LARGEST_CAPACITY;
 
 /// The memory that an event may need beside the world's own lists.
 #[derive(Drop)]
@@ -29,7 +29,7 @@ impl Room {
     {
         match event {
             Event::Call(_, Call::Recv { len, .. } | Call::RecvFrom { len, .. }) => {
-                let len = (*len).min(CAPACITY);
+                let len = (*len).min(LARGEST_CAPACITY);
                 let mut octets = Vec::with_capacity(alloc, len)?;
                 octets.resize(len, 0)?;
                 let copy = Vec::with_capacity(alloc, len)?;

@@ -10,6 +10,7 @@ ghost use Rattle.wire_sim.specs.WorldRoom.{network_room, KeepsNetworkRoom};
 mod bag;
 mod ledger;
 mod network;
+mod round;
 mod station;
 
 use crate::event::{Answer, Event, Happening, Opening, Unfair, WorldFault};
@@ -34,7 +35,7 @@ impl Model for World {
     ghost use Rattle.std.specs.Prelude.{ℕ, ◌*◌, ◌≤◌, length, slice_index_or, vec_capacity};
     ghost use Rattle.wire_sim.specs.WorldView.{network_view};
     ghost use Rattle.wire_sim.specs.WorldRoom.{RoomyWorld, network_room};
-    ghost use Rattle.tcp_halves.specs.declared.buffers.TheConstants.{CAPACITY};
+    ghost use Rattle.tcp_halves.specs.declared.buffers.TheConstants.{LARGEST_CAPACITY};
     ghost use Rattle.wire_sim.specs.Runs.{IsReached};
 
     ghost Value = { RoomyWorld };
@@ -44,9 +45,9 @@ impl Model for World {
       room = record { network = network_room w.network; trace = vec_capacity w.trace };
     } };
 
-    // One event adds at most CAPACITY octets to a count, which is what a connection's buffer holds. What stands in the fields is what
+    // One event adds at most LARGEST_CAPACITY octets to a count: no connection's buffer holds more. What stands in the fields is what
     // a run of the definitions leads to.
-    ghost invariant = { λ w. ((i : ℕ) → slice_index_or w.network.ledger.written.items i 0 ≤ CAPACITY * length w.trace.items)
+    ghost invariant = { λ w. ((i : ℕ) → slice_index_or w.network.ledger.written.items i 0 ≤ LARGEST_CAPACITY * length w.trace.items)
         × IsReached w.network.limit (record { network = network_view w.network; trace = w.trace.items }) };
 }
 

@@ -6,6 +6,7 @@ use Rattle.ipv4.specs.declared.addr.Addr.{Addr}
 use Rattle.ipv4.specs.declared.addr.Endpoint.{Endpoint}
 use Rattle.tcp_segment.specs.declared.head.Head.{Head}
 use Rattle.tcp_segment.specs.Segment.{Segment}
+use Rattle.tcp_halves.specs.declared.buffers.TheConstants.{CAPACITY}
 use Rattle.tcp_state.specs.Arrival.{opened_passively}
 use Rattle.tcp_state.specs.declared.connection.Fate.{Fate}
 use Rattle.tcp_state.specs.declared.connection.Fate.TheVariants.{Stays, Removed, Rejected}
@@ -51,7 +52,7 @@ leads_to own other h now isn source s t = by_entry (find (is_between (local_end 
       numbered = t.numbered;
       in_turn = t.in_turn;
       sockets = All-added (λ (e : Entry). IsEntryOf own other h.addr e.role) h.entries
-          (new_waiting (record { 0 = h.last_id + 1 }) listener.id (opened_passively (local_end h s) (peer_end source s) isn s (later_moment h now))) t.sockets tt;
+          (new_waiting (record { 0 = h.last_id + 1 }) listener.id (opened_passively CAPACITY (local_end h s) (peer_end source s) isn s (later_moment h now))) t.sockets tt;
     }
 
     by_place : (listener : Entry) (b : Bool) → LeadsTo own other (cond b NoRoom (Opens (after_opening h (later_moment h now) isn listener source s)))

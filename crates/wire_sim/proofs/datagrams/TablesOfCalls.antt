@@ -6,6 +6,7 @@ use Rattle.std.specs.Option.{ok_or}
 use Rattle.ipv4.specs.declared.addr.Addr.{Addr}
 use Rattle.ipv4.specs.declared.addr.Endpoint.{Endpoint}
 use Rattle.ipv4.specs.Addresses.{same_addr}
+use Rattle.tcp_halves.specs.declared.buffers.TheConstants.{CAPACITY}
 use Rattle.sockets.specs.declared.entry.Entry.{Entry}
 use Rattle.sockets.specs.declared.entry.Kind.{Kind}
 use Rattle.sockets.specs.declared.entry.Kind.TheVariants.{Tcp, Udp}
@@ -49,10 +50,10 @@ kept-more own other further h t = record { numbered = t.numbered; in_turn = t.in
 -- A socket is made.
 
 pub kept-made : (own other : List Accepted) (kind : Kind) (h next : SocketsView) → IsMade kind h next → IsTableOf own other h → IsTableOf own other next
-kept-made own other Tcp h next (buffers, made) t = subst (IsTableOf own other) (sym made) record {
+kept-made own other Tcp h next made t = subst (IsTableOf own other) (sym made) record {
   numbered = t.numbered;
   in_turn = t.in_turn;
-  sockets = All-added (λ (e : Entry). IsEntryOf own other h.addr e.role) h.entries (new_entry (record { 0 = h.last_id + 1 }) buffers) t.sockets tt;
+  sockets = All-added (λ (e : Entry). IsEntryOf own other h.addr e.role) h.entries (new_entry (record { 0 = h.last_id + 1 }) CAPACITY) t.sockets tt;
 }
 kept-made own other Udp h next made t = subst (IsTableOf own other) (sym made) record {
   numbered = t.numbered;

@@ -8,6 +8,7 @@ use Rattle.ipv4.specs.Addresses.{pair_of}
 use Rattle.tcp_segment.specs.declared.seq.Seq.{Seq}
 use Rattle.tcp_segment.specs.Segment.{Segment}
 use Rattle.clock.specs.declared.moment.Moment.{Moment}
+use Rattle.tcp_halves.specs.declared.buffers.TheConstants.{CAPACITY}
 use Rattle.tcp_state.specs.Arrival.{fate, opened_passively}
 use Rattle.udp_socket.specs.SocketView.{new_socket}
 use Rattle.sockets.specs.declared.emission.Outgoing.{Outgoing}
@@ -84,7 +85,7 @@ is_connecting _ = false
 -- a new socket holds no pair
 made-keeps : (kind : Kind) (own own' : SocketsView) → IsMade kind own own' → KeepsPairs own own'
 made-keeps Tcp own own' made =
-    keeps-next own (after_socket own made.0) own' made.1 (λ pair none. find-added_none (is_of_pair pair) own.entries (record { id = record { 0 = own.last_id + 1 }; role = Idle made.0 None }) refl ∙ none)
+    keeps-next own (after_socket own CAPACITY) own' made (λ pair none. find-added_none (is_of_pair pair) own.entries (record { id = record { 0 = own.last_id + 1 }; role = Idle CAPACITY None }) refl ∙ none)
 made-keeps Udp own own' made =
     keeps-next own (after_datagram_socket own) own' made (λ pair none. find-added_none (is_of_pair pair) own.entries (record { id = record { 0 = own.last_id + 1 }; role = Datagrams None new_socket }) refl ∙ none)
 
@@ -325,7 +326,7 @@ frame-noted limit hs ts old new index isn answer sound w fair step x y id free h
         let next : SocketsView = record own { entries = entries_after_step (fate c s) (is_between local peer) (role_after_segment at s) own.entries; offered = offered } in
         absurd (holds-none own own' pair id (keeps-next own next own' same (λ p none. unheld-heard (fate c s) local peer at s p own.entries none)) free held)
     of_arrival f note local peer s opened noted names (Began listener none opens foreseen same) becomes =
-        let c = opened_passively local peer isn.0 s (later_moment own moment) in
+        let c = opened_passively CAPACITY local peer isn.0 s (later_moment own moment) in
         let e : Entry = record { id = record { 0 = own.last_id + 1 }; role = Connected c (Some listener.id) } in
         elim (joined c (Some listener.id) x y) [
           | inl one ↦ of_pair f note noted (names ∙ one) becomes

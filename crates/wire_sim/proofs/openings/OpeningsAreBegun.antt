@@ -72,7 +72,7 @@ connecting-host limit hs ts n trace w isn id peer place may =
     let routed = is_routed (host_of n hs).interface peer.addr in
     let k = connects-on own id peer routed may in
     let local : Endpoint = record { addr = own.addr; port = k.port } in
-    let c = opened_actively local peer isn.0 own.kept in
+    let c = opened_actively k.b local peer isn.0 own.kept in
     let g = role_after_connect local peer isn.0 own.kept in
     let base : SocketsView = record own { last_port = last_port_after own k.bound k.port } in
     let next : SocketsView = record base { entries = change_first (is_socket id) (with_role g) own.entries } in
@@ -88,7 +88,7 @@ connecting-host limit hs ts n trace w isn id peer place may =
       held = ap (λ w. holder_id w pair) is_next ∙ ap (option_map (λ (e : Entry). e.id)) (found-made (is_socket id) (is_of_pair pair) (with_role g) own.entries x k.found free (joins_own c None refl));
       others = λ p q none. elim (joined c None p q) [
         | inl same ↦ inl same
-        | inr out ↦ inr (ap (λ (w : SocketsView). find (is_of_pair (pair_of p q)) w.entries) is_next ∙ unheld-changed_at (is_socket id) g (pair_of p q) own.entries (unheld_connecting local peer isn.0 own.kept (pair_of p q) out) none)
+        | inr out ↦ inr (ap (λ (w : SocketsView). find (is_of_pair (pair_of p q)) w.entries) is_next ∙ unheld-changed_at (is_socket id) g (pair_of p q) own.entries (unheld_connecting k.b local peer isn.0 own.kept (pair_of p q) out) none)
       ];
       opens = ap (λ w. opened_by_connect n.openings hs id place w (table_of n (other_side hs))) is_next ∙ ap (opened_as n.openings hs id place (table_of n (other_side hs))) named;
     }

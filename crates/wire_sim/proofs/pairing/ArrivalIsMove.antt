@@ -7,6 +7,7 @@ use Rattle.ipv4.specs.declared.addr.Endpoint.{Endpoint}
 use Rattle.ipv4.specs.declared.addr.Pair.{Pair}
 use Rattle.ipv4.specs.Addresses.{pair_of, same_addr, same_end}
 use Rattle.tcp_segment.specs.Segment.{Segment}
+use Rattle.tcp_halves.specs.declared.buffers.TheConstants.{CAPACITY}
 use Rattle.tcp_state.specs.Edges as edge
 use Rattle.tcp_state.specs.declared.connection.Fate.{Fate}
 use Rattle.tcp_state.specs.declared.connection.Fate.TheVariants.{Stays, Removed, Rejected}
@@ -227,11 +228,11 @@ projects-heard limit hs ts a b own own' other bag openings trace now place local
 projects-began : (limit : ℕ) (hs ts : Side) (a b : Addr) (own own' other : SocketsView) (bag : Bag) (openings : List Opening) (trace : List Happening) (isn place : ℕ) (local peer : Endpoint) (s : Segment) (now : Moment) (listener : Entry) → isn < 2 ^ 32
     → Projects limit hs ts a b own other bag openings trace → local.addr ≡ own.addr → same_addr own.addr peer.addr ≡ false → MayCome limit hs ts own other bag openings trace (pair_of local peer) s
     → find (is_opening_of hs (pair_of local peer) (epoch_of openings (pair_of local peer))) openings ≡ None → find (is_between local peer) own.entries ≡ None → is_opening s.flags ≡ true
-    → own' ≡ record own { last_id = own.last_id + 1; entries = own.entries ++ new_waiting (record { 0 = own.last_id + 1 }) listener.id (opened_passively local peer isn s now) ∷ [] }
+    → own' ≡ record own { last_id = own.last_id + 1; entries = own.entries ++ new_waiting (record { 0 = own.last_id + 1 }) listener.id (opened_passively CAPACITY local peer isn s now) ∷ [] }
     → Opens limit hs ts a b own' other bag openings (opened_by_frame openings hs place (pair_of local peer) own own') trace
 projects-began limit hs ts a b own own' other bag openings trace isn place local peer s now listener small_isn h is_local is_apart may first none opens becomes =
     let id : SocketId = record { 0 = own.last_id + 1 } in
-    let c = opened_passively local peer isn s now in
+    let c = opened_passively CAPACITY local peer isn s now in
     let x : Entry = record { id = id; role = Connected c (Some listener.id) } in
     let next : SocketsView = record own { last_id = own.last_id + 1; entries = own.entries ++ x ∷ [] } in
     let pair = pair_of local peer in
@@ -260,8 +261,8 @@ projects-began limit hs ts a b own own' other bag openings trace isn place local
       | inl reset ↦ let bad : true ≡ false = sym reset ∙ flags.1 in cc
       | inr y ↦
           let recent : IsTimely limit was y.emission = subst (λ e. IsTimely limit (pairing e there (bag.out pair epoch) (bag.arrived pair epoch)) y.emission) own_end y.timely in
-          subst (λ x. Move limit was (pairing (end_with (Present (opened_passively local peer isn x now)) untold) there (bag.out pair epoch) (bag.arrived pair epoch))) y.segment
-          (accepts was local peer isn y.emission now refl small_isn y.among recent (ap (λ (x : Segment). x.flags.syn) y.segment ∙ flags.0))
+          subst (λ x. Move limit was (pairing (end_with (Present (opened_passively CAPACITY local peer isn x now)) untold) there (bag.out pair epoch) (bag.arrived pair epoch))) y.segment
+          (accepts was CAPACITY local peer isn y.emission now refl small_isn y.among recent (ap (λ (x : Segment). x.flags.syn) y.segment ∙ flags.0))
     ] in
     let was_free : holder_id own pair ≡ None = ap (option_map (λ (e : Entry). e.id)) free in
     let holds : holder_id own' pair ≡ Some id =

@@ -6,6 +6,7 @@ use Rattle.ipv4.specs.declared.addr.Endpoint.{Endpoint}
 use Rattle.ipv4.specs.declared.addr.Pair.{Pair}
 use Rattle.ipv4.specs.Addresses.{pair_of}
 use Rattle.udp_socket.specs.SocketView.{new_socket}
+use Rattle.tcp_halves.specs.declared.buffers.TheConstants.{CAPACITY}
 use Rattle.tcp_state.specs.View.{opened_actively}
 use Rattle.sides.specs.declared.side.Side.{Side}
 use Rattle.wire_sim.specs.declared.event.Opening.{Opening}
@@ -84,7 +85,7 @@ pub projects-connects : (limit : ℕ) (hs ts : Side) (a b : Addr) (own other : S
 projects-connects limit hs ts a b own other bag openings place trace isn id peer routed fits fair accepted_call h =
     let k = connects-on own id peer routed accepted_call in
     let local : Endpoint = record { addr = own.addr; port = k.port } in
-    let c = opened_actively local peer isn own.kept in
+    let c = opened_actively k.b local peer isn own.kept in
     let g = role_after_connect local peer isn own.kept in
     let ys = change_first (is_socket id) (with_role g) own.entries in
     let base : SocketsView = record own { last_port = last_port_after own k.bound k.port } in
@@ -111,7 +112,7 @@ projects-connects limit hs ts a b own other bag openings place trace isn id peer
     let there_end = end_at ts openings other.entries (told ts trace) pair epoch in
     let made : Projects limit hs ts a b next other bag (openings ++ o ∷ []) trace =
     projects-made limit hs ts a b own next other bag openings trace o c None refl (omega arith) within m (inr (Idle k.b k.bound, before)) (r.other_rises o refl refl) h
-    (connects (pairing nothing_yet there_end (bag.out pair epoch) (bag.arrived pair epoch)) local peer isn own.kept refl fits) in
+    (connects (pairing nothing_yet there_end (bag.out pair epoch) (bag.arrived pair epoch)) k.b local peer isn own.kept refl fits) in
     record {
       opening = o;
       opens = ap (λ w. opened_by_connect openings hs id place w other) is_next ∙ ap (opened_as openings hs id place other) named;
@@ -147,8 +148,8 @@ projects-joined limit hs ts a b own next other bag openings trace r addr last en
 pub projects-socket_made : (limit : ℕ) (hs ts : Side) (a b : Addr) (own next other : SocketsView) (bag : Bag) (openings : List Opening) (trace : List Happening) (kind : Kind) → IsMade kind own next → Projects limit hs ts a b own other bag openings trace
     → Projects limit hs ts a b next other bag openings trace
 projects-socket_made limit hs ts a b own next other bag openings trace Tcp made h =
-    subst (λ w. Projects limit hs ts a b w other bag openings trace) (sym made.1)
-    (projects-joined limit hs ts a b own (after_socket own made.0) other bag openings trace (Idle made.0 None) refl refl refl refl (λ id none. none) h)
+    subst (λ w. Projects limit hs ts a b w other bag openings trace) (sym made)
+    (projects-joined limit hs ts a b own (after_socket own CAPACITY) other bag openings trace (Idle CAPACITY None) refl refl refl refl (λ id none. none) h)
 projects-socket_made limit hs ts a b own next other bag openings trace Udp made h =
     subst (λ w. Projects limit hs ts a b w other bag openings trace) (sym made)
     (projects-joined limit hs ts a b own (after_datagram_socket own) other bag openings trace (Datagrams None new_socket) refl refl refl refl (λ id none. none) h)

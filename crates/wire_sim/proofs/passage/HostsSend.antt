@@ -1,5 +1,5 @@
 -- Whatever goes out of a host, whoever receives it hears what it was sent as.
-use Rattle.std.proofs.Common.{◌≡◌, ℕ, ◌+◌, ◌*◌, ◌≤◌, Bool, true, false, cond, List, [], length, Option, Some, None, option_map, option_and_then, refl, sym, ◌∙◌, ap, subst, arith}
+use Rattle.std.proofs.Common.{◌≡◌, ℕ, ◌+◌, ◌*◌, ◌≤◌, Bool, List, [], length, Option, Some, None, option_map, option_and_then, refl, sym, ◌∙◌, ap, subst, arith}
 use Rattle.std.specs.List.{find, position, slice_get}
 use Rattle.ether.specs.declared.mac.Mac.{Mac}
 use Rattle.arp.specs.declared.packet.ArpPacket.{ArpPacket}
@@ -12,6 +12,7 @@ use Rattle.icmp.specs.Sent.{echo_reply, error_for}
 use Rattle.tcp_segment.specs.declared.head.Head.{Head}
 use Rattle.tcp_segment.specs.Segment.{Segment}
 use Rattle.tcp_segment.specs.Sent.{CanBeSent, sent_segment, sent_octets, sent_offset}
+use Rattle.tcp_segment.proofs.Sending.{most_offset}
 use Rattle.tcp_state.specs.declared.emission.Due.{Due}
 use Rattle.tcp_state.specs.View.{View}
 use Rattle.tcp_state.specs.Due.{first_due, head_of, octets_of as text_of}
@@ -80,14 +81,10 @@ message-said i theirs to m can mac ours = message-told (head_to i theirs to) m m
 
 -- A control reply.
 
-offset_most : (b : Bool) → 4 * cond b 6 5 + 0 ≤ 1480
-offset_most true = omega arith
-offset_most false = omega arith
-
 pub reply-said : (i : InterfaceView) (theirs : Mac) (r : Reply) → IsSound i → IsSoundReply i.addr r → length theirs.0 ≡ 6 → IsHeardAs (reply_frame i theirs r) (reply_sent i theirs r)
 unfolding reply_frame
 reply-said i theirs (Arp packet) sound solid whole = packet-said packet solid
-reply-said i theirs (Reset to head) sound solid whole = segment-said i theirs to head [] solid.sendable whole sound.mac (offset_most head.flags.syn)
+reply-said i theirs (Reset to head) sound solid whole = segment-said i theirs to head [] solid.sendable whole sound.mac (omega (arith, most_offset head))
 reply-said i theirs (Echo to identifier number octets) sound solid whole = message-said i theirs to (echo_reply identifier number octets) (echo-can i theirs to identifier number octets sound solid whole)
 reply-said i theirs (Error to reason quoted) sound solid whole = message-said i theirs to (error_for reason quoted []) (error-can i theirs to reason quoted sound solid whole)
 

@@ -356,7 +356,7 @@ found-itself {X} t f xs x = go xs
 -- the socket that a connect was for is a connection in SYN-SENT
 pub found-connecting : (xs : List Entry) (id : SocketId) (b : Buffers) (bound : Option Endpoint) (local peer : Endpoint) (isn : ℕ) (now : Moment)
     → find (is_socket id) xs ≡ Some (record { id = id; role = Idle b bound })
-    → find (is_socket id) (change_first (is_socket id) (with_role (role_after_connect local peer isn now)) xs) ≡ Some (record { id = id; role = Connected (opened_actively local peer isn now) None })
+    → find (is_socket id) (change_first (is_socket id) (with_role (role_after_connect local peer isn now)) xs) ≡ Some (record { id = id; role = Connected (opened_actively b local peer isn now) None })
 found-connecting xs id b bound local peer isn now found = found-itself (is_socket id) (with_role (role_after_connect local peer isn now)) xs x found (find-passes (is_socket id) xs x found)
   where
     x : Entry

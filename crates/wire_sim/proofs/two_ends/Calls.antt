@@ -155,8 +155,8 @@ shutdown_ends limit side id before after ours theirs c w v answer reached step h
 
 -- `connect`.
 
-opens_idle : (role : Role) (bound : Option Endpoint) (local peer : Endpoint) (isn : ℕ) (now : Moment) → table.open_answer role ≡ Ok bound → (has_socket role ≡ true) × (role_after_connect local peer isn now role ≡ Connected (opened_actively local peer isn now) None)
-opens_idle (Idle buffers b) bound local peer isn now e = (refl, refl)
+opens_idle : (role : Role) (bound : Option Endpoint) (local peer : Endpoint) (isn : ℕ) (now : Moment) → table.open_answer role ≡ Ok bound → (capacity : ℕ) × (has_socket role ≡ true) × (role_after_connect local peer isn now role ≡ Connected (opened_actively capacity local peer isn now) None)
+opens_idle (Idle buffers b) bound local peer isn now e = (buffers, refl, refl)
 opens_idle (Connected c l) bound local peer isn now e = absurd (none_opens c.state c.pending_error e)
   where
     none_opens : (t : State) (error : Option Refusal) → table.had_connection t error ≡ Ok bound → ⊥
@@ -194,11 +194,11 @@ connect_asks limit side id isn peer w v reached step = by_port (table.port_conne
         let change = role_after_connect local peer isn.0 h.kept in
         let idle = opens_idle role bound local peer isn.0 h.kept opens in
         let x = role_found h id role is in
-        let c : View = opened_actively local peer isn.0 h.kept in
+        let c : View = opened_actively idle.0 local peer isn.0 h.kept in
         let under : find (has_id id) h.entries ≡ Some x.0 = socket_found id 0 h.last_id h.entries x.0 ordered.ids x.1 in
         let at : has_id id x.0 ≡ true = find-passes (has_id id) h.entries x.0 under in
         let entry : with_role change x.0 ≡ connected id c None =
-        ap (λ (i : SocketId). let e : Entry = record { id = i; role = change (let e = x.0 in e.role) } in e) (same_id (let e = x.0 in e.id) id at) ∙ ap (λ (r : Role). let e : Entry = record { id = id; role = r } in e) (ap change x.2 ∙ idle.1) in
+        ap (λ (i : SocketId). let e : Entry = record { id = i; role = change (let e = x.0 in e.role) } in e) (same_id (let e = x.0 in e.id) id at) ∙ ap (λ (r : Role). let e : Entry = record { id = id; role = r } in e) (ap change x.2 ∙ idle.2) in
         let changed : find (has_id id) (change_first (is_socket id) (with_role change) h.entries) ≡ Some (with_role change x.0) = found-changed (is_socket id) (has_id id) (with_role change) h.entries x.0 x.1 at at (sole_id id 0 h.last_id h.entries ordered.ids) in
         let after : (let t = table.after_connect h isn.0 id peer routed in t.entries) ≡ change_first (is_socket id) (with_role change) h.entries = rw given refl in (
           c,

@@ -16,7 +16,6 @@ use Rattle.tcp_state.specs.Arrival.{octets_outstanding, fate, is_lost, is_reject
 use Rattle.tcp_state.specs.Edges.{Hears, after_event}
 use Rattle.tcp_state.specs.Said.{segment_of, IsClosedBy}
 use Rattle.tcp_state.specs.View.{View, IsSound, is_opening, is_closed, is_over, is_syn_sent, is_syn_received, awaits_fin_ack, is_write_finished, is_write_closed}
-use Rattle.tcp_halves.specs.declared.buffers.TheConstants.{CAPACITY}
 use Rattle.tcp_state.specs.New.{sends_new, sends_fin}
 use Rattle.tcp_state.specs.Due.{ack_number, first_due, new_octets, fin_alone as fin_alone_of, ack_due, again_from, new_due}
 use Rattle.tcp_state.specs.Timing.{has_unacknowledged, probes}
@@ -28,6 +27,7 @@ use Rattle.tcp_state.proofs.ResetErrors.{refused_in_syn_sent}
 use Rattle.tcp_state.proofs.Segments.{by_segment, by_ack, by_fin, opened_by_syn_ack}
 use Rattle.tcp_state.proofs.ThreeSteps.{ack_confirms}
 use Rattle.tcp_state.proofs.Unreachable.{none_listed, opening}
+use Rattle.stream_law.proofs.Sizes.{opening-holds-nothing}
 use Rattle.wire_sim.specs.Handshakes.{IsOut, IsAsking, IsAnswering, IsOpen}
 
 -- What a segment leaves of a connection whose caller has not left it.
@@ -88,7 +88,7 @@ ack_due_first w reset opened fin mark held owes =
     let no_fin : sends_fin w ≡ false = ap (λ b. b && (outstanding w.sending == length w.sending.held) && nat_lt (outstanding w.sending) w.sending.window) fin in
     let none_left : has_unacknowledged w ≡ false = ap (λ n. not (n == 0) || awaits_fin_ack w.state) (ap length held) ∙ fin in
     let unprobed : (w.resend.owes_probe && probes w) ≡ false = ap (λ b. w.resend.owes_probe && (not (is_opening w.state) && (w.sending.window == 0) && b)) none_left ∙ never w.resend.owes_probe (not (is_opening w.state)) (w.sending.window == 0) in
-    let acks : ack_due w ≡ Some Ack = ap (λ b. if b || (not (is_opening w.state) && not (is_closed w.state) && has_grown w.receiving) then Some Ack else None) owes in
+    let acks : ack_due w ≡ Some Ack = ap (λ b. if b || (not (is_opening w.state) && not (is_closed w.state) && w.spoke && has_grown w.receiving) then Some Ack else None) owes in
     ap (λ b. if b then Some Rst else later (is_opening w.state) w.resend.mark) reset
     ∙ (ap (λ b. later b w.resend.mark) opened
     ∙ (ap (λ m. later false m) mark
@@ -152,7 +152,7 @@ syn_ack_heard v s state no_rst syn ack new =
     unreset waits = if waits then (if is_simultaneous_syn v s then after_simultaneous_syn v s else after_syn_ack v s) else if is_acceptable_to v s then after_acceptable_segment v s else owing_ack v
 
 none_held : (v : View) → IsSound v → is_opening v.state ≡ true → v.sending.held ≡ []
-none_held v sound opens = none_listed v.sending.held (subst (λ b. length v.sending.held ≤ (if b || is_write_finished v.state then 0 else CAPACITY)) opens sound.held)
+none_held v sound opens = none_listed v.sending.held (opening-holds-nothing v sound opens)
 
 pub opened_by : (ours theirs : ℕ) (f v : View) (now : Moment) → IsAnswering theirs ours f → IsSound v → IsAsking ours v → IsOut v
     → (let e = after_event v (Hears (segment_of f Syn) now) in IsOpen ours theirs e × (first_due e ≡ Some Ack)) × (fate v (segment_of f Syn) ≡ Stays)

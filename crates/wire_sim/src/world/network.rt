@@ -36,7 +36,7 @@ impl Network {
     ghost use Rattle.wire_sim.specs.Runs.{IsNumbered, IsNumberedCall};
     ghost use Rattle.frames.specs.Pairs.{pair_in};
     ghost use Rattle.wire_sim.specs.Openings.{epoch_connected, opened_by_connect};
-    ghost use Rattle.wire_sim.specs.WorldView.{network_view, station_of, host_of, table_of, written_at, fresh_network, octets_len};
+    ghost use Rattle.wire_sim.specs.WorldView.{network_view, station_of, clock_of, host_of, table_of, written_at, fresh_network, octets_len};
     ghost use Rattle.wire_sim.specs.Fairness.{unfair_counted};
     ghost use Rattle.wire_sim.specs.WorldRoom.{network_room, KeepsNetworkRoom};
     ghost use Rattle.host.specs.Sound.{IsSoundHost};
@@ -76,6 +76,20 @@ impl Network {
             Side::A => &self.a,
             Side::B => &self.b,
         }
+    }
+
+    /// What the clock of a side's host shows.
+    pub(super) fn clock(&self, side: Side) -> Moment
+        ensures { result ≡ clock_of (network_view self.now) side }
+    {
+        self.station(side).clock()
+    }
+
+    /// How many frames went out so far.
+    pub(super) fn frames(&self) -> usize
+        ensures { result ≡ vec_len self.now.bag }
+    {
+        self.bag.len()
     }
 
     /// The epoch that a connect of a side's host opens a pair in: the next one, but where the other host holds the pair.

@@ -45,6 +45,13 @@ impl Station {
         })
     }
 
+    /// The greatest moment of its ticks.
+    pub(super) fn clock(&self) -> Moment
+        ensures { result ≡ self.now.clock }
+    {
+        self.clock
+    }
+
     /// Makes a socket call, which reads octets into `buffer`.
     pub(super) fn call(&mut self, call: &Call, buffer: Vec<u8>) -> Answer
         requires { vec_len buffer ≡ call_recv_len call.now }

@@ -1,5 +1,5 @@
 -- A step adds at most what one send takes to each count.
-use Rattle.std.proofs.Common.{◌≡◌, ◌∙◌, ◌+◌, ◌≤◌, length, length-append, get_or, None, refl, sym, ap, arith, rules}
+use Rattle.std.proofs.Common.{◌≡◌, ◌∙◌, ◌+◌, ◌≤◌, length, length-append, get_or, None, refl, sym, ap, subst, arith, rules}
 use Rattle.wire_sim.specs.declared.event.Happening.{Happening}
 use Rattle.wire_sim.specs.declared.world.World.TheInside.{Inside}
 use Rattle.wire_sim.specs.Runs.{unfair, IsStep}
@@ -8,7 +8,8 @@ use Rattle.wire_sim.specs.WorldView.{NetworkView, WorldView, network_view}
 use Rattle.wire_sim.proofs.fairness.CountedAsTraced.{same_unfair}
 use Rattle.wire_sim.proofs.runs.RunsAreLawful.{run_tallied}
 use Rattle.wire_sim.proofs.runs.FieldsAreReached.{reached-next, same-parts, reached-again, lawful, step_from, seen-is}
-use Rattle.wire_sim.proofs.counts.StepCountsFew.{Steps-grows}
+use Rattle.stream_law.proofs.Sizes.{most_held}
+use Rattle.wire_sim.proofs.counts.StepCountsFew.{AreSoundTables, sound-tables, Steps-grows}
 use Rattle.wire_sim.proofs.datagrams.RunsKeepDatagrams.{runs-keep}
 use Rattle.wire_sim.proofs.world.World.step.Goals as goal
 
@@ -31,11 +32,15 @@ taken c = record {
   trace = search rules;
 }
 
+-- and every connection is sound when it comes
+sound_then : (c : goal.After-note) → AreSoundTables (network_view c.reserve.new.network)
+sound_then c = subst AreSoundTables (sym c.reserve.ensures.network) (sound-tables (network_view c.self.inside.network) c.sound.ensures.a c.sound.ensures.b)
+
 pub invariant_of-self-2 : goal.invariant_of-self-2
 invariant_of-self-2 c = (
   λ i.
-      let grown : get_or c.perform-answer.new.self.ledger.written.items i 0 ≤ get_or c.reserve.new.network.ledger.written.items i 0 + 65535 =
-      Steps-grows c.args.event c.len.result i c.perform-answer.result (network_view c.reserve.new.network) (network_view c.perform-answer.new.self) c.perform-answer.ensures.step
+      let grown : get_or c.perform-answer.new.self.ledger.written.items i 0 ≤ get_or c.reserve.new.network.ledger.written.items i 0 + most_held =
+      Steps-grows c.args.event c.len.result i c.perform-answer.result (network_view c.reserve.new.network) (network_view c.perform-answer.new.self) (sound_then c) c.perform-answer.ensures.step
       in
       let kept : get_or c.reserve.new.network.ledger.written.items i 0 ≡ get_or c.self.inside.network.ledger.written.items i 0 =
       ap (λ (n : NetworkView). get_or n.written i 0) c.reserve.ensures.network

@@ -1,0 +1,3 @@
+pub mod RoundsAreRuns
+pub mod FramesInTurn
+pub mod ReadsInTurn
