@@ -9,6 +9,7 @@ use Rattle.sides.specs.declared.side.Side.{Side}
 use Rattle.wire_sim.specs.declared.event.Event.{Event}
 use Rattle.wire_sim.specs.declared.event.Event.TheVariants as event
 use Rattle.wire_sim.specs.declared.event.Answer.{Answer}
+use Rattle.wire_sim.specs.declared.event.Happening.{Happening}
 use Rattle.wire_sim.specs.declared.event.Unfair.{Unfair}
 use Rattle.wire_sim.specs.WorldView.{WorldView}
 use Rattle.script.specs.declared.lines.Command.{Command}
@@ -24,7 +25,7 @@ use Rattle.std.specs.Io.KnownBytes.{Appends}
 use Rattle.std.proofs.lemmas.Result.{IfOk-weaker}
 use Rattle.sides.specs.declared.side.Side.TheVariants.{A, B}
 use Rattle.script.specs.declared.action.Action.{Action}
-use Rattle.script.specs.declared.lines.Command.TheVariants.{At, Pass}
+use Rattle.script.specs.declared.lines.Command.TheVariants.{At, Round, Pass}
 use Rattle.script.specs.Words.{lines_of}
 use Rattle.script.specs.Script.{command_in, limit_of, limit_said}
 use Rattle.script.specs.declared.lines.Item.{Item}
@@ -38,7 +39,7 @@ use Rattle.commands.specs.declared.fault.TextFault.TheVariants.{Line, TooLong, N
 use Rattle.commands.specs.declared.sim.Ends.{Ends}
 use Rattle.commands.specs.Play.{ComesTo, Carries, Delivers, Does, IsFirst, pass_text, text_of_outcome}
 use Rattle.commands.specs.Recording.{TakesCapture}
-use Rattle.commands.specs.Laddered.{CarriesEach, HasBrought, none, one_more, HasRun, starts, goes_on, HasDone, nothing, limits, does, recorded, IsCut, IsLeftAt, TakesBothOf, TakesLadder, TakesLadderOf, Tells, carried_by, ladder_in}
+use Rattle.commands.specs.Laddered.{CarriesEach, HasBrought, none, one_more, HasRun, starts, goes_on, HasDone, nothing, limits, does, recorded, IsCut, IsLeftAt, TakesBothOf, TakesLadder, TakesLadderOf, Tells, carried_by, ladder_in, passages_in}
 use Rattle.commands.proofs.PlayLemmas.{delivered_last}
 
 -- one frame more is brought, and what it came to is noted behind what the others came to
@@ -73,6 +74,21 @@ came_more passages i p old within is =
     ∙ ap (λ t. old ++ map Passed t) (sym (flat_map-append option_to_list front (p ∷ [])))
     ∙ ap (λ t. old ++ map Passed (flat_map option_to_list (front ++ t ∷ []))) is
     ∙ ap (λ t. old ++ map Passed (flat_map option_to_list t)) (sym (take_more passages i p within))
+
+-- what one thing more that happened tells
+pub told_more : (things : List Happening) (i : ℕ) (thing : Happening) (p : Option Passage) (old : List Happened) → i < length things → thing ≡ get_or things i thing →
+    p ≡ passage_of thing.event (Ok thing.answer) →
+    (old ++ map Passed (passages_in (take i things))) ++ map Passed (option_to_list p) ≡ old ++ map Passed (passages_in (take (i + 1) things))
+told_more things i thing p old within at is =
+    let tells = λ (h : Happening). option_to_list (passage_of h.event (Ok h.answer)) in
+    let front = take i things in
+    append_assoc old (map Passed (flat_map tells front)) (map Passed (option_to_list p))
+    ∙ ap (λ t. old ++ t) (sym (map-append Passed (flat_map tells front) (option_to_list p)))
+    ∙ ap (λ t. old ++ map Passed (flat_map tells front ++ option_to_list t)) is
+    ∙ ap (λ t. old ++ map Passed (flat_map tells front ++ t)) (sym (append-nil (tells thing)))
+    ∙ ap (λ t. old ++ map Passed t) (sym (flat_map-append tells front (thing ∷ [])))
+    ∙ ap (λ t. old ++ map Passed (flat_map tells (front ++ t ∷ []))) at
+    ∙ ap (λ t. old ++ map Passed (flat_map tells t)) (sym (take_more things i thing within))
 
 -- the first lines, and one more
 lines_more : {X : Type 0} (now : X → List ℕ) (lines : List X) (i : ℕ) (d : X) → i < length lines →
@@ -130,6 +146,7 @@ carries_by from isn frames brought w v c = (frames, c.0, refl, c.1, delivered_by
 -- what a command told is what it did
 pub does_by : (command : Command) (passages : List Passage) (text : List ℕ) (w v : WorldView) → Tells command passages text w v → Does command w v
 does_by (At side action) passages text w v t = (t.0, t.1, t.2, t.3)
+does_by (Round writer reader_id) passages text w v t = (t.0, t.1)
 does_by (Pass isn) passages text w v t =
     (length t.0, length t.1, t.4, carries_by A isn t.0 t.2 w t.4 t.5, carries_by B isn t.1 t.3 t.4 v t.6)
 

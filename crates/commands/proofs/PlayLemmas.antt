@@ -15,7 +15,7 @@ use Rattle.wire_sim.specs.declared.event.Answer.TheVariants.{Frame}
 use Rattle.std.specs.Io.KnownBytes.{Keeps}
 use Rattle.std.proofs.lemmas.List.{take-append-drop, drop_more}
 use Rattle.script.specs.declared.lines.Command.{Command}
-use Rattle.script.specs.declared.lines.Command.TheVariants.{At, Pass}
+use Rattle.script.specs.declared.lines.Command.TheVariants.{At, Round, Pass}
 use Rattle.commands.specs.declared.fault.TextFault.{TextFault}
 use Rattle.commands.specs.declared.fault.TextFault.TheVariants.{Write, NoMemory}
 use Rattle.devices.specs.Streams.{TakesFront}
@@ -121,6 +121,7 @@ left_next commands i command w after within is left =
 -- what a command that printed a line did
 does_of : (command : Command) (line : List ℕ) (w v : WorldView) → Prints command line w v → Does command w v
 does_of (At side action) line w v p = (p.0, p.1, p.2, p.3)
+does_of (Round writer reader_id) line w v p = (p.0, p.1)
 does_of (Pass isn) line w v p = (p.0, p.1, p.2, p.3, p.4)
 
 -- memory ran out before a line was added

@@ -1,5 +1,5 @@
 -- What a run of a script with a ladder records, and what it makes a sink take.
-use Rattle.std.specs.Prelude.{◌≡◌, ◌⊎◌, ℕ, List, [], ◌∷◌, ◌++◌, codes, length, map, option_to_list, Option, Some, None, Result, Ok, Err}
+use Rattle.std.specs.Prelude.{◌≡◌, ◌⊎◌, ℕ, List, [], ◌∷◌, ◌++◌, codes, length, map, drop, option_to_list, Option, Some, None, Result, Ok, Err}
 use Rattle.std.specs.List.{flat_map}
 use Rattle.std.specs.Io.KnownBytes.{Appends}
 use Rattle.tcp_segment.specs.declared.seq.Seq.{Seq}
@@ -8,11 +8,13 @@ use Rattle.sides.specs.declared.side.Side.TheVariants.{A, B}
 use Rattle.wire_sim.specs.declared.event.Event.{Event}
 use Rattle.wire_sim.specs.declared.event.Event.TheVariants as event
 use Rattle.wire_sim.specs.declared.event.Answer.{Answer}
+use Rattle.wire_sim.specs.declared.event.Happening.{Happening}
 use Rattle.wire_sim.specs.declared.event.Unfair.{Unfair}
 use Rattle.sides.specs.Sides.{other_side}
+use Rattle.wire_sim.specs.Rounds.{IsRoundOutcome}
 use Rattle.wire_sim.specs.WorldView.{WorldView}
 use Rattle.script.specs.declared.lines.Command.{Command}
-use Rattle.script.specs.declared.lines.Command.TheVariants.{At, Pass}
+use Rattle.script.specs.declared.lines.Command.TheVariants.{At, Round, Pass}
 use Rattle.script.specs.declared.lines.Item.TheVariants.{Limit, Do}
 use Rattle.script.specs.Words.{lines_of}
 use Rattle.script.specs.Script.{item_of, command_in, limit_of, limit_said}
@@ -33,7 +35,7 @@ use Rattle.commands.specs.declared.fault.TextFault.TheVariants.{Write, NoMemory}
 use Rattle.commands.specs.declared.sim.Ends.{Ends}
 use Rattle.devices.specs.Streams.{TakesFront}
 use Rattle.commands.specs.Recording.{TakesCapture}
-use Rattle.commands.specs.Play.{ComesTo, Does, Emits, IsFirst, pass_text, text_of_outcome}
+use Rattle.commands.specs.Play.{ComesTo, Does, Emits, IsFirst, pass_text, round_text, text_of_outcome}
 
 -- these frames were brought to a side in order, and this is what each came to
 pub data HasBrought (to : Side) (isn : Seq) (old : WorldView) : List ℕ → List (Option Passage) → WorldView → Type 0 where
@@ -50,11 +52,21 @@ carried_by from frames brought = map (Sent from) frames ++ flat_map option_to_li
 abbrev pub CarriesEach : Side → Seq → List ℕ → List (Option Passage) → WorldView → WorldView → Type 0
 CarriesEach from isn frames brought old new = (w : WorldView) × Emits from frames old w × HasBrought (other_side from) isn w frames brought new
 
+-- what things that happened in a world tell of frames
+abbrev pub passages_in : List Happening → List Passage
+passages_in things = flat_map (λ (h : Happening). option_to_list (passage_of h.event (Ok h.answer))) things
+
+-- what happened to frames since a world was so, as the trace tells: of a delivery that was refused it tells nothing
+abbrev pub passages_since : WorldView → WorldView → List Passage
+passages_since old new = passages_in (drop (length old.trace) new.trace)
+
 -- a command is done: this happens to frames, and this is printed
 abbrev pub Tells : Command → List Passage → List ℕ → WorldView → WorldView → Type 0
 Tells (At side action) passages text old new =
     (happens : Event) × (outcome : Result Answer Unfair) × IsEventOf side action happens × ComesTo happens outcome old new
     × (passages ≡ option_to_list (passage_of happens outcome)) × (text ≡ text_of_outcome (style_of action) outcome)
+Tells (Round writer reader_id) passages text old new =
+    (told : Result ℕ Unfair) × IsRoundOutcome writer reader_id told old new × (passages ≡ passages_since old new) × (text ≡ round_text told)
 Tells (Pass isn) passages text old new =
     (of_a : List ℕ) × (of_b : List ℕ) × (to_b : List (Option Passage)) × (to_a : List (Option Passage)) × (w : WorldView)
     × CarriesEach A isn of_a to_b old w × CarriesEach B isn of_b to_a w new

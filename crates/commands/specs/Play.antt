@@ -12,12 +12,13 @@ use Rattle.wire_sim.specs.declared.event.Answer.TheVariants.{Frame, NoFrame}
 use Rattle.wire_sim.specs.declared.event.Unfair.{Unfair}
 use Rattle.wire_sim.specs.Names.{unfair_text}
 use Rattle.sides.specs.Sides.{other_side}
+use Rattle.wire_sim.specs.Rounds.{IsRoundOutcome}
 use Rattle.wire_sim.specs.Runs.{unfair, IsOutcome}
 use Rattle.wire_sim.specs.WorldRoom.{IsPlain}
 use Rattle.wire_sim.specs.WorldView.{WorldView, fresh_world}
 use Rattle.script.specs.declared.answer.Style.{Style}
 use Rattle.script.specs.declared.lines.Command.{Command}
-use Rattle.script.specs.declared.lines.Command.TheVariants.{At, Pass}
+use Rattle.script.specs.declared.lines.Command.TheVariants.{At, Round, Pass}
 use Rattle.commands.specs.declared.fault.TextFault.{TextFault}
 use Rattle.commands.specs.declared.sim.Ends.{Ends}
 use Rattle.commands.specs.declared.fault.TextFault.TheVariants.{Write}
@@ -78,17 +79,27 @@ pass_text from_a from_b = codes "a " ++ decimal from_a ++ codes " b " ++ decimal
 abbrev pub pass_line : ℕ → ℕ → List ℕ
 pass_line from_a from_b = pass_text from_a from_b ++ codes "\n"
 
--- what a command does: its event has an outcome, or it carries frames of a and then of b
+-- what is printed of a round: how many octets were read in it, or why it stopped
+abbrev pub round_text : Result ℕ Unfair → List ℕ
+round_text (Ok count) = codes "octets " ++ decimal count
+round_text (Err refusal) = unfair_text refusal
+
+abbrev pub round_line : Result ℕ Unfair → List ℕ
+round_line told = round_text told ++ codes "\n"
+
+-- what a command does: its event has an outcome, a round does, or it carries frames of a and then of b
 abbrev pub Does : Command → WorldView → WorldView → Type 0
 Does (At side action) old new =
     (happens : Event) × (outcome : Result Answer Unfair) × IsEventOf side action happens × ComesTo happens outcome old new
+Does (Round writer reader_id) old new = (told : Result ℕ Unfair) × IsRoundOutcome writer reader_id told old new
 Does (Pass isn) old new = (from_a : ℕ) × (from_b : ℕ) × (w : WorldView) × Carries A isn from_a old w × Carries B isn from_b w new
 
--- a command prints this line: what is shown of the outcome of its event, or how many frames of a and of b it carried
+-- a command prints this line: what is shown of the outcome of its event, or of its round, or how many frames of a and of b it carried
 abbrev pub Prints : Command → List ℕ → WorldView → WorldView → Type 0
 Prints (At side action) line old new =
     (happens : Event) × (outcome : Result Answer Unfair) × IsEventOf side action happens × ComesTo happens outcome old new
     × (line ≡ line_of_outcome (style_of action) outcome)
+Prints (Round writer reader_id) line old new = (told : Result ℕ Unfair) × IsRoundOutcome writer reader_id told old new × (line ≡ round_line told)
 Prints (Pass isn) line old new =
     (from_a : ℕ) × (from_b : ℕ) × (w : WorldView) × Carries A isn from_a old w × Carries B isn from_b w new × (line ≡ pass_line from_a from_b)
 

@@ -1,6 +1,6 @@
 //! `hostd sim --ladder`: runs a script, and prints its lines, what each printed, and between them what happened to each frame.
 
-ghost use Rattle.std.specs.Prelude.{◌≡◌, ◌⊎◌, ◌≤◌, true, false, [], ◌++◌, ℕ, List, Some, codes, length, map, take, option_to_list, string_bytes, IfOk, IfErr, IfSome, OnOk, OnErr};
+ghost use Rattle.std.specs.Prelude.{◌≡◌, ◌⊎◌, ◌≤◌, true, false, [], ◌++◌, ℕ, List, Some, codes, length, map, take, drop, option_to_list, string_bytes, IfOk, IfErr, IfSome, OnOk, OnErr};
 ghost use Rattle.std.specs.List.{flat_map};
 ghost use Rattle.std.specs.Io.KnownBytes.{Appends};
 ghost use Rattle.script.specs.Words.{lines_of};
@@ -15,7 +15,7 @@ ghost use Rattle.commands.specs.Sim.{capture_in_all, is_before_run, read_fails, 
 ghost use Rattle.wire_sim.specs.WorldRoom.{HasRoomFor};
 ghost use Rattle.commands.specs.Room.{TakesUp};
 ghost use Rattle.commands.specs.Play.{Does};
-ghost use Rattle.commands.specs.Laddered.{carried_by, ladder_in, node_at, recorded, script_nodes, CarriesEach, HasBrought, HasDone, HasRun, IsCut, Tells, TakesBothOf, TakesLadder, TakesLadderOf};
+ghost use Rattle.commands.specs.Laddered.{carried_by, ladder_in, node_at, passages_in, recorded, script_nodes, CarriesEach, HasBrought, HasDone, HasRun, IsCut, Tells, TakesBothOf, TakesLadder, TakesLadderOf};
 
 use crate::fault::TextFault;
 use crate::input::whole_script;
@@ -23,14 +23,15 @@ use crate::output::{flush, write_all};
 use crate::recording::record;
 use crate::sim::{
     Begun, Ends, MOST_EVENTS, MOST_FRAMES, begin, emit, give, happen, make_room, style, text_of,
-    text_of_pass,
+    text_of_pass, text_of_round,
 };
 use devices::{Sink, Source};
+use host::SocketId;
 use ladder::{Errand, Happened, Line, Node, Nodes, Numbering, Passage, Run, Text};
 use script::{Action, Command, Item, event, split_lines};
 use std::alloc::{AllocError, Global};
 use tcp_segment::Seq;
-use wire_sim::{Event, Side, World, address, mac};
+use wire_sim::{Event, Happening, Side, World, address, mac};
 
 /// Reads the whole script, then runs it, and then prints the ladder of the run. `Line` or `TooLong` where the script is bad, and then nothing is
 /// run; `Read` or `Write` where a device fails; `NoMemory` for want of memory, and then nothing is printed.
@@ -230,6 +231,7 @@ fn run_command(
 {
     match command {
         Command::At(side, action) => act(alloc, *side, action, world, happened),
+        Command::Round(writer, reader_id) => { round(alloc, *writer, *reader_id, world, happened) }
         Command::Pass(isn) => pass(alloc, *isn, world, happened),
     }
 }
@@ -252,6 +254,48 @@ fn act(
     let outcome = give(world, event)?;
     note_passage(errand.passage(&outcome), happened)?;
     text_of(alloc, &outcome, style(action))
+}
+
+/// A side writes in a round, and the other one reads. Answers what is printed of that.
+fn round(
+    alloc: Global,
+    writer: Side,
+    reader_id: SocketId,
+    world: &mut World,
+    happened: &mut Vec<Happened<'_>>,
+) -> Result<String, AllocError>
+    ensures told { IfOk result (λ text. (passages : List OnePassage)
+        × Tells (Command.Round writer reader_id) passages (string_bytes text) world.old.seen world.new.seen
+        × (happened.new.items ≡ happened.old.items ++ map Passed passages)) }
+    ensures left { OnErr result ((world.new.seen ≡ world.old.seen) ⊎ Does (Command.Round writer reader_id) world.old.seen world.new.seen) }
+{
+    let before = world.trace().len();
+    let told = world.round(writer, reader_id);
+    note_since(before, world.trace(), happened)?;
+    text_of_round(alloc, &told)
+}
+
+/// Adds what a trace tells of frames behind its first so many things.
+fn note_since(
+    before: usize,
+    trace: &[Happening],
+    happened: &mut Vec<Happened<'_>>,
+) -> Result<(), AllocError>
+    ensures { OnOk result (happened.new.items ≡ happened.old.items ++ map Passed (passages_in (drop before trace.now))) }
+{
+    let start = before.min(trace.len());
+    note_things(&trace[start..], happened)
+}
+
+/// Adds what things that happened in a world tell of frames.
+fn note_things(things: &[Happening], happened: &mut Vec<Happened<'_>>) -> Result<(), AllocError>
+    ensures { OnOk result (happened.new.items ≡ happened.old.items ++ map Passed (passages_in things.now)) }
+{
+    for happening in things {
+        let errand = Errand::of(&happening.event);
+        note_passage(errand.answered(&happening.answer), happened)?;
+    }
+    Ok(())
 }
 
 /// The frames of one side on their way to the other, and what each came to there.

@@ -9,13 +9,14 @@ ghost use Rattle.commands.specs.Sim.{read_fails, write_fails_in, is_before_run, 
 ghost use Rattle.script.specs.Text.{style_of};
 ghost use Rattle.wire_sim.specs.WorldRoom.{HasRoomFor, HasRoom};
 ghost use Rattle.commands.specs.Room.{TakesUp};
-ghost use Rattle.commands.specs.Play.{ComesTo, text_of_outcome, line_of_outcome, Emits, Delivers, Carries, Does, Prints, pass_text, pass_line, IsPlayed, IsCutShort, IsFirst, limit_line, TakesRun, TakesPrinted, TakesPrintedBy, TakesBoth};
+ghost use Rattle.commands.specs.Play.{ComesTo, text_of_outcome, line_of_outcome, Emits, Delivers, Carries, Does, Prints, pass_text, pass_line, round_text, round_line, IsPlayed, IsCutShort, IsFirst, limit_line, TakesRun, TakesPrinted, TakesPrintedBy, TakesBoth};
 
 use crate::fault::TextFault;
 use crate::input::whole_script;
 use crate::output::{add_line, finish, is_write_fault};
 use crate::recording::record;
 use devices::{Sink, Source};
+use host::SocketId;
 use script::{Action, Command, Script, Style, event, show, show_unfair};
 use std::alloc::{AllocError, Global};
 use tcp_segment::Seq;
@@ -190,6 +191,7 @@ pub fn execute(
 {
     match command {
         Command::At(side, action) => act(alloc, *side, action, world),
+        Command::Round(writer, reader_id) => round(alloc, *writer, *reader_id, world),
         Command::Pass(isn) => pass(alloc, *isn, world),
     }
 }
@@ -232,6 +234,41 @@ pub(crate) fn happen(world: &mut World, event: Event) -> Result<Answer, Unfair>
     ensures room { TakesUp 1 world.old world.new }
 {
     world.step(event)
+}
+
+/// A side writes in a round, and the other one reads. Answers the line that shows what comes of it.
+fn round(
+    alloc: Global,
+    writer: Side,
+    reader_id: SocketId,
+    world: &mut World,
+) -> Result<String, AllocError>
+    ensures printed { IfOk result (λ line. Prints (Command.Round writer reader_id) (string_bytes line) world.old.seen world.new.seen) }
+    ensures left { OnErr result ((world.new.seen ≡ world.old.seen) ⊎ Does (Command.Round writer reader_id) world.old.seen world.new.seen) }
+{
+    let told = world.round(writer, reader_id);
+    line_of_round(alloc, &told)
+}
+
+/// The line that shows what comes of a round.
+fn line_of_round(alloc: Global, told: &Result<u64, Unfair>) -> Result<String, AllocError>
+    ensures { IfOk result (λ line. string_bytes line ≡ round_line told.now) }
+{
+    let mut line = text_of_round(alloc, told)?;
+    line.push('\n')?;
+    Ok(line)
+}
+
+/// What is printed of a round, without the end of the line.
+pub(crate) fn text_of_round(alloc: Global, told: &Result<u64, Unfair>) -> Result<String, AllocError>
+    ensures { IfOk result (λ text. string_bytes text ≡ round_text told.now) }
+{
+    let mut text = String::new(alloc);
+    match told {
+        Ok(count) => write!(text, "octets {count}")?,
+        Err(refusal) => show_unfair(*refusal, &mut text)?,
+    }
+    Ok(text)
 }
 
 /// Frames go from a to b, then from b to a. Answers the line that says how many.

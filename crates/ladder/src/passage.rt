@@ -1,7 +1,7 @@
 //! What happens to the frames of a run.
 
-ghost use Rattle.std.specs.Prelude.{◌≡◌};
-ghost use Rattle.ladder.specs.Passages.{brought, errand_of, fate_of, passage_on, reaches};
+ghost use Rattle.std.specs.Prelude.{◌≡◌, Ok, Err};
+ghost use Rattle.ladder.specs.Passages.{errand_of, passage_on, reaches};
 
 use frames::DropCause;
 use wire_sim::{Answer, Event, Side, Unfair};
@@ -66,35 +66,39 @@ impl Errand {
     pub fn passage(self, outcome: &Result<Answer, Unfair>) -> Option<Passage>
         ensures { result ≡ passage_on self outcome.now }
     {
-        match self {
-            Errand::ToSend(side) => sent(side, outcome),
-            Errand::ToBring(side, index) => {
-                let fate = fate_of(outcome)?;
-                Some(Passage::Brought(side, index, fate))
-            }
-            Errand::Neither => None,
+        match outcome {
+            Ok(answer) => self.answered(answer),
+            Err(refusal) => self.refused(*refusal),
         }
     }
-}
 
-/// The frame that a side sent, if it did.
-fn sent(side: Side, outcome: &Result<Answer, Unfair>) -> Option<Passage>
-    ensures { result ≡ passage_on (Errand.ToSend side) outcome.now }
-{
-    match outcome {
-        Ok(Answer::Frame { index, .. }) => Some(Passage::Sent(side, *index)),
-        _ => None,
+    /// The same of an event that was taken, with this answer.
+    pub fn answered(self, answer: &Answer) -> Option<Passage>
+        ensures { result ≡ passage_on self (Ok answer.now) }
+    {
+        match (self, answer) {
+            (Errand::ToSend(side), Answer::Frame { index, .. }) => {
+                Some(Passage::Sent(side, *index))
+            }
+            (Errand::ToBring(side, index), Answer::Taken) => {
+                Some(Passage::Brought(side, index, Fate::Taken))
+            }
+            (Errand::ToBring(side, index), Answer::Dropped(cause)) => {
+                Some(Passage::Brought(side, index, Fate::Dropped(*cause)))
+            }
+            _ => None,
+        }
     }
-}
 
-/// What a frame came to that was brought to a host.
-fn fate_of(outcome: &Result<Answer, Unfair>) -> Option<Fate>
-    ensures { result ≡ fate_of outcome.now }
-{
-    match outcome {
-        Ok(Answer::Taken) => Some(Fate::Taken),
-        Ok(Answer::Dropped(cause)) => Some(Fate::Dropped(*cause)),
-        Ok(_) => None,
-        Err(refusal) => Some(Fate::Refused(*refusal)),
+    /// The same of an event that the world refused.
+    fn refused(self, refusal: Unfair) -> Option<Passage>
+        ensures { result ≡ passage_on self (Err refusal) }
+    {
+        match self {
+            Errand::ToBring(side, index) => {
+                Some(Passage::Brought(side, index, Fate::Refused(refusal)))
+            }
+            _ => None,
+        }
     }
 }

@@ -2,13 +2,14 @@
 use Rattle.std.specs.Prelude.{ℕ, ⊤, ◌≤◌, ◌+◌, ◌^◌, ◌==◌, List, [], ◌∷◌, Option, Some, None, Bool, true, false, ◌&&◌, not, is_some, length, slice_get, codes, option_map, option_and_then, if◌then◌else◌}
 use Rattle.std.specs.List.{filter_map}
 use Rattle.std.specs.Str.{bytes_eq}
+use Rattle.sides.specs.declared.side.Side.{Side}
 use Rattle.sides.specs.declared.side.Side.TheVariants.{A, B}
 use Rattle.script.specs.Words.{number_of, words_of, lines_of, is_ascii_line}
-use Rattle.script.specs.Actions.{action_of, isn_of}
+use Rattle.script.specs.Actions.{action_of, id_of, isn_of}
 use Rattle.script.specs.declared.lines.Subject.{Subject}
 use Rattle.script.specs.declared.lines.Subject.TheVariants as subject
 use Rattle.script.specs.declared.lines.Command.{Command}
-use Rattle.script.specs.declared.lines.Command.TheVariants.{At, Pass}
+use Rattle.script.specs.declared.lines.Command.TheVariants.{At, Round, Pass}
 use Rattle.script.specs.declared.lines.Item.{Item}
 use Rattle.script.specs.declared.lines.Item.TheVariants.{Nothing, Limit, Do}
 
@@ -21,6 +22,18 @@ limit_in words = None
 abbrev pub pass_in : List (List ℕ) → Option Command
 pass_in (isn ∷ []) = option_map Pass (isn_of isn)
 pass_in words = None
+
+-- what `round` says behind a host's name: the host writes, and the other one reads on that socket
+abbrev pub round_in : Side → List (List ℕ) → Option Command
+round_in writer (id ∷ []) = option_map (Round writer) (id_of id)
+round_in writer words = None
+
+-- what the words behind a host's name say: a round, or what the host does
+abbrev pub command_of : Side → List (List ℕ) → Option Command
+command_of side [] = None
+command_of side (first ∷ rest) =
+    if bytes_eq first (codes "round") then round_in side rest
+    else option_map (At side) (action_of (first ∷ rest))
 
 -- what a word is as the first of a line
 abbrev pub subject_of : List ℕ → Option Subject
@@ -35,7 +48,7 @@ subject_of word =
 abbrev pub said_of : Subject → List (List ℕ) → Option Item
 said_of subject.Limit rest = option_map Limit (limit_in rest)
 said_of subject.Pass rest = option_map Do (pass_in rest)
-said_of (subject.Host side) rest = option_map (λ act. Do (At side act)) (action_of rest)
+said_of (subject.Host side) rest = option_map Do (command_of side rest)
 
 -- what the words of a line say
 abbrev pub said_in : List (List ℕ) → Option Item

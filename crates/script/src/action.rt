@@ -323,7 +323,8 @@ fn socket_kind(word: &[u8]) -> Option<Kind>
     }
 }
 
-fn socket_id(word: &[u8]) -> Option<SocketId>
+/// The id of a socket.
+pub fn socket_id(word: &[u8]) -> Option<SocketId>
     ensures { result ≡ id_of word.now }
 {
     Some(SocketId(number(word, u64::MAX)?))

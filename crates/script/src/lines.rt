@@ -2,12 +2,13 @@
 
 ghost use Rattle.std.specs.Prelude.{◌≡◌, ◌⊎◌, ◌≤◌, ◌^◌, ◌++◌, ◌&&◌, true, not, None, map, option_map, option_to_list, if◌then◌else◌, IfOk, IfErr, IfSome, IsSomeAnd, OnOk};
 ghost use Rattle.std.specs.Option.{ForSome};
-ghost use Rattle.script.specs.Script.{item_of, said_in, limit_in, pass_in, subject_of, HasLimitInRange};
+ghost use Rattle.script.specs.Script.{item_of, said_in, limit_in, pass_in, round_in, command_of, subject_of, HasLimitInRange};
 ghost use Rattle.script.specs.Words.{is_ascii_line, lines_of};
 
-use crate::action::{Action, initial};
+use crate::action::{Action, initial, socket_id};
 use crate::fault::ScriptFault;
 use crate::words::{is_ascii, number, split, split_lines};
+use host::SocketId;
 use std::alloc::{AllocError, Global};
 use tcp_segment::Seq;
 use wire_sim::Side;
@@ -20,6 +21,8 @@ const MOST_LIMIT: u64 = 1 << 30;
 pub enum Command<'a> {
     /// Something that one host does.
     At(Side, Action<'a>),
+    /// A round without loss in which this side writes, and the other reads on this socket.
+    Round(Side, SocketId),
     /// Frames of a to b, then of b to a, with this initial sequence number for the connections that they open.
     Pass(Seq),
 }
@@ -93,7 +96,7 @@ fn from_words<'a>(words: &[&'a [u8]]) -> Option<Item<'a>>
     match Subject::parse(first)? {
         Subject::Limit => Some(Item::Limit(limit(rest)?)),
         Subject::Pass => Some(Item::Do(pass(rest)?)),
-        Subject::Host(side) => Some(Item::Do(Command::At(side, Action::parse(rest)?))),
+        Subject::Host(side) => Some(Item::Do(at_host(side, rest)?)),
     }
 }
 
@@ -115,6 +118,26 @@ fn pass<'a>(words: &[&[u8]]) -> Option<Command<'a>>
 {
     match words {
         [isn] => Some(Command::Pass(initial(isn)?)),
+        _ => None,
+    }
+}
+
+/// What the words behind a host's name say: a round, or what the host does.
+fn at_host<'a>(side: Side, words: &[&'a [u8]]) -> Option<Command<'a>>
+    ensures { result ≡ command_of side (map (λ word. word.now) words.now) }
+{
+    let (first, rest) = words.split_first()?;
+    match *first {
+        b"round" => round(side, rest),
+        _ => Some(Command::At(side, Action::parse(words)?)),
+    }
+}
+
+fn round<'a>(writer: Side, words: &[&[u8]]) -> Option<Command<'a>>
+    ensures { result ≡ round_in writer (map (λ word. word.now) words.now) }
+{
+    match words {
+        [id] => Some(Command::Round(writer, socket_id(id)?)),
         _ => None,
     }
 }

@@ -15,6 +15,7 @@ mod lines;
 mod recordings;
 mod refusals;
 mod resets;
+mod rounds;
 mod scripts;
 mod simultaneous;
 mod table;
@@ -62,7 +63,7 @@ pass 0 -> a 1 b 0
 
 /// All transcripts. Each is a list of parts, in whose lines an arrow parts a script's line from what it prints; a line without
 /// one prints nothing.
-const TRANSCRIPTS: [&[&[&str]]; 13] = [
+const TRANSCRIPTS: [&[&[&str]]; 14] = [
     backlog::TRANSCRIPTS,
     closing::TRANSCRIPTS,
     datagrams::TRANSCRIPTS,
@@ -71,6 +72,7 @@ const TRANSCRIPTS: [&[&[&str]]; 13] = [
     hops::TRANSCRIPTS,
     refusals::TRANSCRIPTS,
     resets::TRANSCRIPTS,
+    rounds::TRANSCRIPTS,
     scripts::TRANSCRIPTS,
     simultaneous::TRANSCRIPTS,
     table::TRANSCRIPTS,

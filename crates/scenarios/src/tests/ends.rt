@@ -8,7 +8,7 @@ use std::alloc::Global;
 use std::process::Abort;
 use tcp_segment::{Flags, Head, Seq, TcpView};
 use tcp_state::Fate::{self, Stays};
-use tcp_state::{Buffers, Connection, Due, MOST_SEGMENT, Received, Refusal, State};
+use tcp_state::{Buffers, CAPACITY, Connection, Due, MOST_SEGMENT, Received, Refusal, State};
 
 const CALLER: Endpoint = Endpoint {
     addr: Addr([10, 0, 0, 1]),
@@ -150,6 +150,7 @@ impl End {
             acknowledgement: Seq(acknowledgement),
             flags,
             window: 0,
+            scales: false,
         };
         let mut frame = [0; MOST_SEGMENT];
         let (begin, count) = (head.len(), count.min(2));
@@ -220,8 +221,8 @@ pub(super) const HANDSHAKE: &[Step] = &[
 
 /// Plays a scenario with two ends of its own.
 fn plays(rt: &impl Abort, alloc: Global, scenario: &Scenario) {
-    let ours = Buffers::new(alloc).expect(rt, "memory for two buffers");
-    let theirs = Buffers::new(alloc).expect(rt, "memory for two buffers");
+    let ours = Buffers::new(alloc, CAPACITY).expect(rt, "memory for two buffers");
+    let theirs = Buffers::new(alloc, CAPACITY).expect(rt, "memory for two buffers");
     let syn = TcpView::parse(CALLER.addr, LISTENER.addr, &SYN_SEGMENT).expect(rt, "a segment");
     let mut a = End::new(Connection::active(ours, CALLER, LISTENER, Seq(4_294_967_295), Moment(0)));
     let mut b = End::new(Connection::passive(theirs, LISTENER, CALLER, Seq(7), &syn, Moment(0)));

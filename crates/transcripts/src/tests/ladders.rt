@@ -1,4 +1,4 @@
-//! The ladder of each script of the folder `examples` and of `first.txt`, without its comments. The numbers follow from the scripts (RFC 9293
+//! The ladder of each script of the folder `examples` and of `first.txt`, without its comments, and that of a round. The numbers follow from the scripts (RFC 9293
 //! section 3.4): a SYN, an octet and a FIN count one each. A window is 65,535 less what came since the peer was told of that room, for room that
 //! grows by less than 1,460 isn't told (section 3.8.6.2.2); that of a reset is 0.
 
@@ -6,13 +6,14 @@ mod course;
 mod ending;
 mod opening;
 mod refused;
+mod rounds;
 
 use super::{Asked, prints};
 use ladder::Numbering::{self, Absolute, Relative};
 use std::alloc::{AllocError, Global};
 
 /// All ladders, with their numbers.
-const LADDERS: [(Numbering, &str); 10] = [
+const LADDERS: [(Numbering, &str); 11] = [
     (Relative, opening::FIRST),
     (Relative, opening::HANDSHAKE),
     (Relative, opening::SIMULTANEOUS_OPEN),
@@ -20,6 +21,7 @@ const LADDERS: [(Numbering, &str); 10] = [
     (Relative, course::LOSS_REPAIRED),
     (Relative, course::DATAGRAMS),
     (Relative, course::OLD_SEGMENT_REFUSED),
+    (Relative, rounds::ROUND),
     (Relative, ending::RESET),
     (Relative, ending::SIMULTANEOUS_CLOSE),
     (Absolute, opening::FIRST_ABSOLUTE),

@@ -43,6 +43,12 @@ const BAD: &str = " \n\
     a tick\n\
     a deliver 0\n\
     a deliver 0 4294967296\n\
+    a round\n\
+    a round \n\
+    a round x\n\
+    a round 1 1\n\
+    a round 18446744073709551616\n\
+    round 1\n\
     pass\n\
     pass 4294967296\n\
     pass 1 1\n\

@@ -71,6 +71,26 @@ b emit -> frame 7 60
 b emit -> none
 ";
 
+/// b has sent nothing but its SYN-ACK. So it doesn't tell the window that opens as a full segment is read: the acknowledgement waits for 200 ms.
+const SILENT_READER: &str = "a fill 1 1460 -> sent 1460
+a emit -> frame 5 1514
+b deliver 5 0 -> taken
+b count 2 2000 -> octets 1460
+b emit -> none
+b tick 200 -> ok
+b emit -> frame 6 60
+";
+
+/// Now b has spoken, and tells at once that its window opens by a segment.
+const READER_THAT_SPOKE: &str = "a deliver 6 0 -> taken
+a fill 1 1460 -> sent 1460
+a emit -> frame 7 1514
+b deliver 7 0 -> taken
+b count 2 2000 -> octets 1460
+b emit -> frame 8 60
+b emit -> none
+";
+
 /// The timeout doubles up to a minute, and the thirteenth expiry ends the connection.
 const GIVEN_UP: &str = "a socket tcp -> id 1
 a connect 1 80 5 -> started
@@ -217,6 +237,7 @@ pub const TRANSCRIPTS: &[&[&str]] = &[
     &[OPENING, ACCEPTED, UNREAD],
     &[OPENING, ACCEPTED, DELAYED],
     &[OPENING, ACCEPTED, SECOND_SEGMENT],
+    &[OPENING, ACCEPTED, SILENT_READER, READER_THAT_SPOKE],
     &[GIVEN_UP],
     &[OPENING, ACCEPTED, ALL_AGAIN],
     &[OPENING, ACCEPTED, FILLED, SLOW_START, PROBED],
