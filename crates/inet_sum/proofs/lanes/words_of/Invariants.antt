@@ -3,4 +3,4 @@ use Rattle.inet_sum.specs.Lanes.{AreTotals}
 use Rattle.inet_sum.proofs.lanes.words_of.Given as goal
 
 abbrev pub invariant-loop-i : goal.invariant-loop-i
-invariant-loop-i l = AreTotals l.totals (4 * l.i) (take (32 * l.i) l.part)
+invariant-loop-i l = AreTotals l.totals (16 * l.i) (take (128 * l.i) l.part)
