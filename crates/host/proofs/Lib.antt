@@ -23,3 +23,4 @@ pub mod Hopless
 pub mod HopEnds
 pub mod RunsDry
 pub mod Quiet
+pub mod Unopened

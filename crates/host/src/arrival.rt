@@ -118,11 +118,13 @@ impl Layers {
         }
     }
 
-    /// Whether a segment would open a connection to an address that no route leads to.
+    /// Whether a segment would open a connection to an address that no route leads to. Most segments have no SYN, so the route isn't looked up.
+    #[tactic(auto, using(crate::proofs::Unopened::opens_by_syn))]
     fn lacks_route_to_open(&self, received: &ReceivedSegment<'_>) -> bool
         ensures { result ≡ (not (is_routed self.now.interface received.now.source) && is_some (pair_opened self.now.sockets received.now.source received.now.segment)) }
     {
-        !self.interface.is_routed(received.source)
+        received.segment.flags().syn
+            && !self.interface.is_routed(received.source)
             && self
                 .sockets
                 .would_open(received.source, &received.segment)
