@@ -18,11 +18,12 @@ use Rattle.sockets.specs.declared.entry.Entry.{Entry}
 use Rattle.sockets.specs.declared.role.Role.{Role}
 use Rattle.sockets.specs.declared.role.Role.TheVariants.{Idle, Listener, Connected, Datagrams}
 use Rattle.sockets.specs.declared.refusal.Refusal.TheVariants.{EINVAL, EADDRINUSE, EAGAIN}
-use Rattle.sockets.specs.Entries.{is_socket, has_socket, has_port, is_datagrams_at, role_after_listen, role_after_send, role_after_recv, with_role}
+use Rattle.sockets.specs.Entries.{is_socket, has_socket, uses_port, uses_datagram_port, has_port, is_datagrams_at, role_after_listen, role_after_send, role_after_recv, with_role}
 use Rattle.sockets.specs.SocketsView.{SocketsView, role_of, with_socket}
 use Rattle.sockets.specs.Calls as call
 use Rattle.sockets.specs.Calls.{any_addr, bind_refusal, listen_refusal, send_answer, recv_answer, recv_front}
 use Rattle.sockets.specs.Moved.{HoldsMore, HasRead, IsSameBesides}
+use Rattle.sockets.specs.Ports.{tcp_port, udp_port, is_port}
 use Rattle.sockets.proofs.Followed.{by_test}
 use Rattle.sockets.proofs.Opened.{found_passes, socket_changed}
 use Rattle.sockets.proofs.Telling.{role_found}
@@ -35,18 +36,39 @@ ours_open true b ours = refl
 ours_open false true ours = refl
 ours_open false false ours = cc
 
+-- an entry has a port by the tests of the table exactly where it has it by its role
+any_alike : (p q : Entry → Bool) → ((e : Entry) → p e ≡ q e) → (xs : List Entry) → list_any p xs ≡ list_any q xs
+any_alike p q alike [] = refl
+any_alike p q alike (x ∷ xs) = ap (λ b. b || list_any p xs) (alike x) ∙ ap (λ b. q x || b) (any_alike p q alike xs)
+
+has_tcp_port : (port : ℕ) (r : Role) → uses_port port r ≡ is_port port (tcp_port r)
+has_tcp_port port (Connected c listener) = refl
+has_tcp_port port (Listener local backlog) = refl
+has_tcp_port port (Idle buffers (Some local)) = refl
+has_tcp_port port (Idle buffers None) = refl
+has_tcp_port port (Datagrams bound socket) = refl
+
+has_udp_port : (port : ℕ) (r : Role) → uses_datagram_port port r ≡ is_port port (udp_port r)
+has_udp_port port (Datagrams (Some local) socket) = refl
+has_udp_port port (Datagrams None socket) = refl
+has_udp_port port (Connected c listener) = refl
+has_udp_port port (Listener local backlog) = refl
+has_udp_port port (Idle buffers bound) = refl
+
 module _ (h : SocketsView) (id : SocketId) (local : Endpoint) where
   pub bind_used : (buffers : Buffers) → role_of h id ≡ Some (Idle buffers None) → (same_addr local.addr h.addr || same_addr local.addr any_addr) ≡ true → (local.port == 0) ≡ false
-      → bind_refusal h id local ≡ (if list_any (has_port local.port) h.entries then Some EADDRINUSE else None)
+      → bind_refusal h id local ≡ (if list_any (λ e. is_port local.port (tcp_port e.role)) h.entries then Some EADDRINUSE else None)
   bind_used buffers is ours asked =
       let here = ours_open (same_addr local.addr h.addr) (same_addr local.addr any_addr) ours in
-      by_test (list_any (has_port local.port) h.entries) (λ taken. rw (is, here, asked, taken) refl) (λ free. rw (is, here, asked, free) refl)
+      let same = any_alike (has_port local.port) (λ e. is_port local.port (tcp_port e.role)) (λ e. has_tcp_port local.port e.role) h.entries in
+      by_test (list_any (has_port local.port) h.entries) (λ taken. rw (is, here, asked, taken, sym same ∙ taken) refl) (λ free. rw (is, here, asked, free, sym same ∙ free) refl)
 
   pub bind_used_datagrams : (queues : Queues) → role_of h id ≡ Some (Datagrams None queues) → (same_addr local.addr h.addr || same_addr local.addr any_addr) ≡ true → (local.port == 0) ≡ false
-      → bind_refusal h id local ≡ (if list_any (is_datagrams_at local.port) h.entries then Some EADDRINUSE else None)
+      → bind_refusal h id local ≡ (if list_any (λ e. is_port local.port (udp_port e.role)) h.entries then Some EADDRINUSE else None)
   bind_used_datagrams queues is ours asked =
       let here = ours_open (same_addr local.addr h.addr) (same_addr local.addr any_addr) ours in
-      by_test (list_any (is_datagrams_at local.port) h.entries) (λ taken. rw (is, here, asked, taken) refl) (λ free. rw (is, here, asked, free) refl)
+      let same = any_alike (is_datagrams_at local.port) (λ e. is_port local.port (udp_port e.role)) (λ e. has_udp_port local.port e.role) h.entries in
+      by_test (list_any (is_datagrams_at local.port) h.entries) (λ taken. rw (is, here, asked, taken, sym same ∙ taken) refl) (λ free. rw (is, here, asked, free, sym same ∙ free) refl)
 
 module _ (h : SocketsView) (id : SocketId) where
   pub backlog_tested : (backlog : ℕ) (buffers : Buffers) (bound : Endpoint) → role_of h id ≡ Some (Idle buffers (Some bound)) → listen_refusal h id backlog ≡ (if (backlog == 0) || nat_lt 8 backlog then Some EINVAL else None)

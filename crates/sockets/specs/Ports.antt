@@ -1,11 +1,13 @@
 -- Dynamic ports (RFC 6335 section 6): 49152 to 65535, given in turn.
-use Rattle.std.specs.Prelude.{ℕ, suc, zero, ◌+◌, ◌-◌, ◌%◌, ◌≤◌, ◌<◌, Bool, true, false, cond, List, Option, Some, None, ◌≡◌, ◌&&◌, not, refl}
+use Rattle.std.specs.Prelude.{ℕ, suc, zero, ◌+◌, ◌-◌, ◌%◌, ◌≤◌, ◌<◌, ◌==◌, Bool, true, false, cond, List, Option, Some, None, option_map, ◌≡◌, ◌&&◌, not, refl}
 use Rattle.std.specs.List.{list_any}
 use Rattle.ipv4.specs.declared.addr.Addr.{Addr}
 use Rattle.ipv4.specs.declared.addr.Endpoint.{Endpoint}
 use Rattle.sockets.specs.declared.entry.Entry.{Entry}
 use Rattle.sockets.specs.declared.entry.Kind.{Kind}
 use Rattle.sockets.specs.declared.entry.Kind.TheVariants.{Tcp, Udp}
+use Rattle.sockets.specs.declared.role.Role.{Role}
+use Rattle.sockets.specs.declared.role.Role.TheVariants.{Idle, Listener, Connected, Datagrams}
 use Rattle.sockets.specs.Entries.{has_port, is_bound_at, is_between, is_datagrams_at}
 
 -- the dynamic port that comes so many steps behind the one next to the last given, 49152 behind 65535
@@ -47,6 +49,25 @@ is_free_datagram_port entries port = not (list_any (is_datagrams_at port) entrie
 abbrev pub is_bindable : Kind → List Entry → ℕ → Bool
 is_bindable Tcp entries = is_unused_port entries
 is_bindable Udp entries = is_free_datagram_port entries
+
+-- The port that an entry has over TCP, where it has one: that of its connection's local end, or of the end where it listens or is bound.
+abbrev pub tcp_port : Role → Option ℕ
+tcp_port (Connected c listener) = Some c.local.port
+tcp_port (Listener local backlog) = Some local.port
+tcp_port (Idle buffers bound) = option_map (λ local. local.port) bound
+tcp_port (Datagrams bound socket) = None
+
+-- the port that it has over UDP
+abbrev pub udp_port : Role → Option ℕ
+udp_port (Datagrams bound socket) = option_map (λ local. local.port) bound
+udp_port (Connected c listener) = None
+udp_port (Listener local backlog) = None
+udp_port (Idle buffers bound) = None
+
+-- this port is the one, where there is one
+abbrev pub is_port : ℕ → Option ℕ → Bool
+is_port port None = false
+is_port port (Some other) = other == port
 
 -- one port more
 pub first_port-step : (test : ℕ → Bool) (last steps n : ℕ) → first_port test last steps (suc n) ≡ cond (test (port_after last steps)) (Some (port_after last steps)) (first_port test last (steps + 1) n)

@@ -20,8 +20,9 @@ ghost use Rattle.sockets.specs.declared.entry.Entry.{Entry};
 ghost use Rattle.sockets.specs.declared.role.Role.{Role};
 ghost use Rattle.sockets.specs.declared.role.Role.TheVariants.{Idle, Listener, Connected, Datagrams};
 ghost use Rattle.sockets.specs.declared.refusal.Refusal.TheVariants.{EINVAL, EADDRINUSE, EAGAIN};
-ghost use Rattle.sockets.specs.Entries.{in_connection, is_socket, is_between, is_listening_at, has_port, is_datagrams_at, backlog_of, is_waiting_at, is_waiting_id, fate_of};
+ghost use Rattle.sockets.specs.Entries.{in_connection, is_socket, is_between, is_listening_at, backlog_of, is_waiting_at, is_waiting_id, fate_of};
 ghost use Rattle.sockets.specs.Lost.{is_hopless, after_giving_up, give_up_at};
+ghost use Rattle.sockets.specs.Ports.{tcp_port, udp_port, is_port};
 ghost use Rattle.sockets.specs.Sound.{IsSoundTable};
 ghost use Rattle.sockets.specs.SocketsView.{SocketsView, later_moment, role_of};
 ghost use Rattle.sockets.specs.Timing.{EachKeepsTime};
@@ -113,9 +114,9 @@ pub fn refused_segments_are_answered()
 /// socket. A backlog is taken from 1 to 8.
 pub fn ports_and_backlogs_are_tested()
     ensures bind { (h : SocketsView) (id : SocketId) (local : Endpoint) (buffers : Buffers) → role_of h id ≡ Some (Idle buffers None) → (same_addr local.addr h.addr || same_addr local.addr any_addr) ≡ true → (local.port == 0) ≡ false
-        → bind_refusal h id local ≡ (if list_any (has_port local.port) h.entries then Some EADDRINUSE else None) }
+        → bind_refusal h id local ≡ (if list_any (λ e. is_port local.port (tcp_port e.role)) h.entries then Some EADDRINUSE else None) }
     ensures bind_datagrams { (h : SocketsView) (id : SocketId) (local : Endpoint) (socket : SocketView) → role_of h id ≡ Some (Datagrams None socket) → (same_addr local.addr h.addr || same_addr local.addr any_addr) ≡ true
-        → (local.port == 0) ≡ false → bind_refusal h id local ≡ (if list_any (is_datagrams_at local.port) h.entries then Some EADDRINUSE else None) }
+        → (local.port == 0) ≡ false → bind_refusal h id local ≡ (if list_any (λ e. is_port local.port (udp_port e.role)) h.entries then Some EADDRINUSE else None) }
     ensures backlog { (h : SocketsView) (id : SocketId) (backlog : ℕ) (buffers : Buffers) (bound : Endpoint) → role_of h id ≡ Some (Idle buffers (Some bound)) → listen_refusal h id backlog ≡ (if (backlog == 0) || nat_lt 8 backlog then Some EINVAL else None) }
     ensures listens { (h : SocketsView) (id : SocketId) (backlog : ℕ) (buffers : Buffers) (bound : Endpoint) → role_of h id ≡ Some (Idle buffers (Some bound)) → role_of (after_listen h id backlog) id ≡ Some (Listener bound backlog) }
 {}
