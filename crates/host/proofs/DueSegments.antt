@@ -6,12 +6,10 @@ use Rattle.tcp_segment.proofs.Sending.{most_offset}
 use Rattle.tcp_state.specs.declared.emission.Due.{Due}
 use Rattle.tcp_state.specs.declared.emission.Due.TheVariants.{Rst, Syn, Text, Probe, Ack}
 use Rattle.tcp_state.specs.declared.emission.Stretch.{Stretch}
-use Rattle.tcp_halves.specs.Halves.{Receiving}
-use Rattle.tcp_halves.specs.Stream.{receive_window, ReceivingFits}
-use Rattle.tcp_halves.specs.Windows.{receive_room, has_grown, after_advertisement}
 use Rattle.tcp_state.specs.View.{View, IsSound}
-use Rattle.tcp_state.specs.Due.{MayGoOut, IsHeld, probe_stretch, head_of, octets_of, octets_of_stretch, number_of, flags_of, window_of}
+use Rattle.tcp_state.specs.Due.{MayGoOut, IsHeld, probe_stretch, head_of, octets_of, octets_of_stretch, number_of, flags_of}
 use Rattle.tcp_state.proofs.AckNumbers.{ack_fits}
+use Rattle.tcp_state.proofs.Saying.{window_fits}
 use Rattle.sockets.specs.Sound.{IsSoundConnection}
 
 number_fits : (v : View) (due : Due) → IsSound v → number_of v due < 2 ^ 32
@@ -35,21 +33,6 @@ text_fits v Syn may = omega arith
 text_fits v (Text stretch) may = stretch_fits v stretch may
 text_fits v Probe may = stretch_fits v (probe_stretch v) may
 text_fits v Ack may = omega arith
-
--- the window up to the edge that is told with a segment
-told_fits : (r : Receiving) → r.rnext < 2 ^ 32 → r.size ≤ 65535 → ReceivingFits r → receive_window (after_advertisement r) < 2 ^ 16
-told_fits r small told fits = by_growth (has_grown r)
-  where
-    by_growth : (grown : Bool) → receive_window (if grown then record r { edge = (r.rnext + receive_room r) % 2 ^ 32 } else r) < 2 ^ 16
-    by_growth true = omega (arith, small, told)
-    by_growth false = omega (arith, told, fits)
-
-window_fits : (v : View) (due : Due) → IsSound v → window_of v due < 2 ^ 16
-window_fits v Rst sound = omega arith
-window_fits v Syn sound = told_fits v.receiving sound.rnext sound.receive_size sound.window
-window_fits v (Text stretch) sound = told_fits v.receiving sound.rnext sound.receive_size sound.window
-window_fits v Probe sound = told_fits v.receiving sound.rnext sound.receive_size sound.window
-window_fits v Ack sound = told_fits v.receiving sound.rnext sound.receive_size sound.window
 
 fields_fit : (v : View) (due : Due) → IsSoundConnection v → FieldsFit (sent_segment (head_of v due) (octets_of v due))
 fields_fit v due k = record {

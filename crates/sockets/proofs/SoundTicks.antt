@@ -54,6 +54,10 @@ ended_sound v error sound = record {
   receive_size = sound.receive_size;
   places = sound.places;
   capacity = sound.capacity;
+  unit_some = sound.unit_some;
+  unit_few = sound.unit_few;
+  peer_unit_some = sound.peer_unit_some;
+  peer_unit_few = sound.peer_unit_few;
 }
   where
     no : (b : Bool) → (b && false) ≡ false
@@ -182,6 +186,10 @@ acted_sound v w sound kept f =
       receive_size = sound.receive_size;
       places = sound.places;
       capacity = sound.capacity;
+      unit_some = sound.unit_some;
+      unit_few = sound.unit_few;
+      peer_unit_some = sound.peer_unit_some;
+      peer_unit_few = sound.peer_unit_few;
     })
 
 -- Every tick.

@@ -9,7 +9,7 @@ use Rattle.tcp_halves.specs.Numbers.{is_before}
 use Rattle.tcp_state.specs.View.{View, IsSound, is_opening, is_syn_sent, is_syn_received, is_closed, is_write_closed, is_read_closed, is_write_finished, awaits_fin_ack}
 use Rattle.tcp_halves.specs.Halves.{Receiving as ReceivingHalf}
 use Rattle.tcp_halves.specs.Stream.{outstanding, is_new_ack, after_acknowledged, receive_window, after_octets, stands_next, after_end}
-use Rattle.tcp_halves.specs.Windows.{updates_window}
+use Rattle.tcp_halves.specs.Windows.{window_in, updates_window}
 use Rattle.tcp_state.specs.Arrival.{after_segment, is_simultaneous_syn, after_simultaneous_syn, after_syn_ack, is_right_syn_ack, is_of_fin, is_acceptable_to, after_acceptable_segment, after_acknowledging_segment, after_ack, is_read_on, after_window, may_delay, after_text, owing_ack, after_establishment, ends_by_syn, fin_acknowledged, after_new_ack, beyond_fin, beyond_end, is_receiving, counts_fin, after_fin}
 use Rattle.stream_law.specs.Channel.{Channel, Sending, Open, Receiving, Waiting, Synchronised, IsAmong, IsRecent, number_of}
 use Rattle.stream_law.specs.ChannelSteps.{Step, nothing_kept}
@@ -371,7 +371,7 @@ arrives-stream cap limit v s c d rnext room fits past_syn from came =
 window_told : (v : View) (s : Segment) → sender_of v ≡ sender_of (after_window v s)
 window_told v s = told (updates_window v.sending s.number s.acknowledgement)
   where
-    told : (tells : Bool) → sender_of v ≡ sender_of (record v { sending = if tells then record v.sending { window = s.window; max_window = max v.sending.max_window s.window; wl1 = s.number; wl2 = s.acknowledgement } else v.sending })
+    told : (tells : Bool) → sender_of v ≡ sender_of (record v { sending = if tells then record v.sending { window = window_in v.sending s.window; max_window = max v.sending.max_window (window_in v.sending s.window); wl1 = s.number; wl2 = s.acknowledgement } else v.sending })
     told true = refl
     told false = refl
 

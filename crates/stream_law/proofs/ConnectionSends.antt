@@ -13,6 +13,8 @@ use Rattle.tcp_state.specs.declared.state.State.TheVariants.{FinWait1, Closing, 
 use Rattle.tcp_state.specs.View.{View, IsSound, is_opening, is_syn_sent, is_write_finished, is_write_closed, awaits_fin_ack}
 use Rattle.tcp_halves.specs.Numbers.{later_number}
 use Rattle.tcp_halves.specs.Stream.{send_room, outstanding}
+use Rattle.tcp_halves.specs.Windows.{hears_next}
+use Rattle.tcp_state.proofs.AckNumbers.{unheard_beyond}
 use Rattle.tcp_state.specs.Timing.{clocked}
 use Rattle.tcp_state.specs.Calls.{send_count, with_octets, after_send}
 use Rattle.tcp_state.specs.Due.{IsHeld, probe_stretch, end_of, octets_of_stretch, head_of, octets_of}
@@ -139,14 +141,14 @@ emits-probe cap limit v c unfinished una is shows =
     at_una true = refl
     at_una false = refl
 
--- An acknowledgement alone goes out at SND.NXT. Where the peer's window ends before, it goes out there, behind octets that are held: as a stretch
+-- An acknowledgement alone goes out at SND.NXT. Where the peer's window ends before, and it doesn't hear that, it goes out there, behind octets that are held: as a stretch
 -- of none, which leaves SND.NXT.
 pub emits-alone : (cap limit : ℕ) (v : View) (c : Channel) → IsSound v → SendsInto v c
     → Step cap limit c (record c {
       sending = Open (sender_of v);
       frames = frame_of (sent_segment (head_of v AckAlone) (octets_of v AckAlone)) (length c.written) ∷ c.frames;
     })
-emits-alone cap limit v c sound shows = by (is_opening v.state) (nat_le (outstanding v.sending) v.sending.window) refl refl
+emits-alone cap limit v c sound shows = by (is_opening v.state) (hears_next v.sending) refl refl
   where
     Alone : ℕ → Type 0
     Alone n = Step cap limit c (record c {
@@ -203,14 +205,11 @@ emits-alone cap limit v c sound shows = by (is_opening v.state) (nat_le (outstan
         })) first
         (emits_text c s before [] after false shows.sending acked (unfinished opened beyond (is_write_finished v.state) refl) cut (λ t. cc)))
 
-    by : (opening within : Bool) → is_opening v.state ≡ opening → nat_le (outstanding v.sending) v.sending.window ≡ within
-        → Alone (if opening || within then v.sending.nxt else (v.sending.una + v.sending.window) % 2 ^ 32)
-    by true within opens fits = at_next
-    by false true opened fits = at_next
-    by false false opened fits =
-        let beyond : v.sending.window < outstanding v.sending =
-        elim (leb_tells (outstanding v.sending) v.sending.window) [ inl le ↦ let bad : true ≡ false = sym le.0 ∙ fits in cc | inr lt ↦ lt.1 ] in
-        at_edge opened beyond
+    by : (opening heard : Bool) → is_opening v.state ≡ opening → hears_next v.sending ≡ heard
+        → Alone (if opening || heard then v.sending.nxt else (v.sending.una + v.sending.window) % 2 ^ 32)
+    by true heard opens next = at_next
+    by false true opened next = at_next
+    by false false opened past_it = at_edge opened (unheard_beyond v.sending past_it)
 
 -- a segment with ACK acknowledges
 pub emits-ack : (cap limit : ℕ) (v : View) (d : Channel) → is_syn_sent v.state ≡ false → ReceivesFrom v d

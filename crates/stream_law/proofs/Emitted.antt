@@ -1,16 +1,17 @@
 -- What goes out moves SND.NXT at most, and of the rest of both streams it changes nothing.
-use Rattle.std.proofs.Common.{◌≡◌, ℕ, ◌+◌, ◌%◌, ◌^◌, if◌then◌else◌, not, Bool, true, false, nat_lt, refl, sym, ◌∙◌, ap₂}
+use Rattle.std.proofs.Common.{◌≡◌, ℕ, ◌+◌, ◌%◌, ◌^◌, if◌then◌else◌, not, Bool, true, false, nat_lt, nat_le, refl, sym, ◌∙◌, ap₂}
 use Rattle.clock.specs.declared.moment.Moment.{Moment}
 use Rattle.tcp_state.specs.declared.emission.Due.TheVariants.{Syn, Text, Probe, Ack}
 use Rattle.tcp_state.specs.declared.emission.Stretch.{Stretch}
 use Rattle.tcp_state.specs.declared.state.State.{State}
 use Rattle.tcp_state.specs.View.{View, is_opening, is_syn_sent, is_syn_received, is_write_finished}
+use Rattle.tcp_segment.specs.declared.TheConstants.{MSS}
 use Rattle.tcp_halves.specs.Halves.{Sending as SendingHalf, Receiving as ReceivingHalf}
-use Rattle.tcp_halves.specs.Stream.{outstanding, after_sent}
-use Rattle.tcp_halves.specs.Windows.{receive_room, has_grown, after_advertisement}
+use Rattle.tcp_halves.specs.Stream.{outstanding, after_sent, receive_window}
+use Rattle.tcp_halves.specs.Windows.{has_grown, after_advertisement, syn_window, after_syn_advertisement}
 use Rattle.tcp_state.specs.Resend.{resend_probed}
 use Rattle.tcp_state.specs.Timing.{clocked}
-use Rattle.tcp_state.specs.Due.{probe_stretch, end_of, brings_new_octets, after_ack_paid, after_resent, after_first_sent, after_numbers, after_new_octets, after_stretch, after_probe, after_syn_again, after_syn_out, after_going_out, after_emitted}
+use Rattle.tcp_state.specs.Due.{probe_stretch, end_of, brings_new_octets, after_ack_paid, after_syn_ack_paid, after_resent, after_first_sent, after_numbers, after_new_octets, after_stretch, after_probe, after_syn_again, after_syn_out, after_going_out, after_emitted}
 use Rattle.stream_law.specs.Channel.{Sender, Receiver, Waiting, Synchronised}
 use Rattle.stream_law.specs.ChannelViews.{sender_of, receiver_of, receiving_of}
 use Rattle.stream_law.proofs.ConnectionArrival.{either}
@@ -23,18 +24,21 @@ pub record GoesOut (v w : View) (half : SendingHalf) : Type 0 where
   pub readable : w.receiving.readable ≡ v.receiving.readable
 
 -- the window that is advertised is no part of a channel
-same_receiver : (r : ReceivingHalf) → (receiver_of (after_advertisement r) ≡ receiver_of r) × ((after_advertisement r).readable ≡ r.readable)
-same_receiver r = same (has_grown r)
-  where
-    told : Bool → ReceivingHalf
-    told grown = if grown then record r { edge = (r.rnext + receive_room r) % 2 ^ 32 } else r
+abbrev IsSame : ReceivingHalf → ReceivingHalf → Type 0
+IsSame r told = (receiver_of told ≡ receiver_of r) × (told.readable ≡ r.readable)
 
-    same : (grown : Bool) → (receiver_of (told grown) ≡ receiver_of r) × ((told grown).readable ≡ r.readable)
-    same true = (refl, refl)
-    same false = (refl, refl)
+same_receiver : (r : ReceivingHalf) (tells : Bool) (edge : ℕ) → IsSame r (if tells then record r { edge = edge } else r)
+same_receiver r true edge = (refl, refl)
+same_receiver r false edge = (refl, refl)
+
+told : (v w : View) (half : SendingHalf) (r : ReceivingHalf) (spoke : Bool) → IsSame w.receiving r → GoesOut v w half → GoesOut v (record w { receiving = r; owes_ack = false; delays_ack = false; spoke = spoke }) half
+told v w half r spoke same g = record { state = g.state; sending = g.sending; receiver = same.0 ∙ g.receiver; readable = same.1 ∙ g.readable }
 
 paid : (v w : View) (half : SendingHalf) (spoke : Bool) → GoesOut v w half → GoesOut v (record (after_ack_paid w) { spoke = spoke }) half
-paid v w half spoke g = let same = same_receiver w.receiving in record { state = g.state; sending = g.sending; receiver = same.0 ∙ g.receiver; readable = same.1 ∙ g.readable }
+paid v w half spoke g = told v w half (after_advertisement w.receiving) spoke (same_receiver w.receiving (has_grown w.receiving) _) g
+
+paid_by_syn : (v w : View) (half : SendingHalf) → GoesOut v w half → GoesOut v (after_syn_ack_paid w) half
+paid_by_syn v w half g = let r = w.receiving in told v w half (after_syn_advertisement r) w.spoke (same_receiver r (nat_le (receive_window r + MSS) (syn_window r)) _) g
 
 -- .. nor is the clock
 timed : (v w : View) (half : SendingHalf) (now : Moment) → GoesOut v w half → GoesOut v (clocked false w now) half
@@ -64,8 +68,8 @@ pub syn-out : (v : View) (now : Moment) → GoesOut v (after_emitted v Syn now) 
 syn-out v now =
     let half = after_sent v.sending 1 in
     timed v (after_going_out v Syn now) half now
-    (either (λ w. GoesOut v w half) (is_syn_received v.state) (after_ack_paid (after_syn_out v now)) (after_syn_out v now)
-    (λ reply. let sent = after_syn_out v now in paid v sent half sent.spoke (syn_numbered v now))
+    (either (λ w. GoesOut v w half) (is_syn_received v.state) (after_syn_ack_paid (after_syn_out v now)) (after_syn_out v now)
+    (λ reply. paid_by_syn v (after_syn_out v now) half (syn_numbered v now))
     (λ alone. syn_numbered v now))
 
 pub stretch-out : (v : View) (stretch : Stretch) (now : Moment) → GoesOut v (after_emitted v (Text stretch) now) (after_sent v.sending (end_of stretch))

@@ -1,17 +1,20 @@
 -- Why what is kept ahead of a gap stays in the window, and the octets gained never pass it.
-use Rattle.std.proofs.Common.{◌≡◌, ℕ, zero, suc, ◌+◌, ◌-◌, ◌%◌, ◌^◌, ◌<◌, ◌≤◌, if◌then◌else◌, Bool, true, false, List, [], ◌∷◌, ◌++◌, length, get_or, take, drop, replicate, Option, Some, None, inl, inr, arith, refl, sym, ◌∙◌, ap, subst, length-append}
+use Rattle.std.proofs.Common.{nat_le, ◌≡◌, ℕ, zero, suc, ◌+◌, ◌-◌, ◌*◌, ◌/◌, ◌%◌, ◌^◌, ◌<◌, ◌≤◌, if◌then◌else◌, Bool, true, false, List, [], ◌∷◌, ◌++◌, length, get_or, take, drop, replicate, Option, Some, None, inl, inr, arith, refl, sym, ◌∙◌, ap, subst, length-append}
 use Rattle.std.proofs.lemmas.List.{length-take, length-drop, length-replicate, get_or-drop, append-nil}
+use Rattle.std.proofs.lemmas.Bool.{leb-true}
 use Rattle.std.proofs.lemmas.Bool.Decides.{leb_tells}
+use Rattle.std.proofs.lemmas.Nat.{div-add-mod', mod_below}
 use Rattle.stream_buf.specs.Receiving.{ReceiveView, nothing_received, front, behind_front, laid, is_taken, joined, after_insert, forgotten, IsReceiving}
 use Rattle.stream_buf.proofs.Inserting.{all_behind, laid_none, receives_laid, receives_read, receives_nothing}
 use Rattle.stream_buf.proofs.Standing.{laid_before, laid_behind, at_more}
 use Rattle.stream_buf.proofs.Taking.{few_left}
 use Rattle.tcp_segment.specs.Wire.{past}
 use Rattle.tcp_halves.specs.Numbers.{is_before}
-use Rattle.tcp_halves.specs.declared.buffers.TheConstants.{LARGEST_CAPACITY}
+use Rattle.tcp_segment.specs.declared.TheConstants.{MSS}
+use Rattle.tcp_halves.specs.declared.buffers.TheConstants.{CAPACITY, LARGEST_CAPACITY}
 use Rattle.tcp_halves.specs.Halves.{Receiving}
 use Rattle.tcp_halves.specs.Stream.{size_of, receiving_nothing, buffer_of, ReceivingFits, KeptInWindow, receive_window, after_syn, distance_of, octets_within, octets_gained, after_octets, after_end, after_read}
-use Rattle.tcp_halves.specs.Windows.{receive_room, has_grown, after_advertisement}
+use Rattle.tcp_halves.specs.Windows.{receive_room, has_grown, whole_units, after_advertisement, syn_window, after_syn_advertisement}
 use Rattle.tcp_halves.proofs.Choices.{either}
 
 -- every octet kept in these places lies below a distance
@@ -130,6 +133,9 @@ pub record IsKeeping (r : Receiving) : Type 0 where
   pub fits : ReceivingFits r
   pub buffer : IsReceiving (buffer_of r)
   pub kept : KeptInWindow r
+  pub some : 0 < r.unit
+  pub few : r.unit ≤ MSS
+  pub told : r.size ≤ CAPACITY * r.unit
 
 moved : (rnext edge n : ℕ) → rnext < 2 ^ 32 → n ≤ past edge rnext → past edge ((rnext + n) % 2 ^ 32) ≡ past edge rnext - n
 moved rnext edge n small within = omega (arith, small, within)
@@ -174,8 +180,8 @@ grown_by_none r distance small is =
     let none = nothing_joined (buffer_of r) distance is in
     let count : length (joined (buffer_of r) distance []) ≡ 0 = ap (λ (l : List ℕ). length l) none in
     let rnext : (r.rnext + length (joined (buffer_of r) distance [])) % 2 ^ 32 ≡ r.rnext = omega (arith, small, count) in
-    ap (λ (b : ReceiveView). record { readable = b.readable; kept = b.kept; rnext = (r.rnext + length (joined (buffer_of r) distance [])) % 2 ^ 32; edge = r.edge; size = r.size; capacity = r.capacity }) same
-    ∙ ap (λ (n : ℕ). record { readable = r.readable; kept = r.kept; rnext = n; edge = r.edge; size = r.size; capacity = r.capacity }) rnext
+    ap (λ (b : ReceiveView). record { readable = b.readable; kept = b.kept; rnext = (r.rnext + length (joined (buffer_of r) distance [])) % 2 ^ 32; edge = r.edge; size = r.size; capacity = r.capacity; unit = r.unit }) same
+    ∙ ap (λ (n : ℕ). record { readable = r.readable; kept = r.kept; rnext = n; edge = r.edge; size = r.size; capacity = r.capacity; unit = r.unit }) rnext
 
 grown_keeps : (r : Receiving) (distance : ℕ) (within : List ℕ) → IsKeeping r → distance + length within ≤ receive_window r → IsKeeping (grown r distance within)
 grown_keeps r distance within is room =
@@ -190,6 +196,9 @@ grown_keeps r distance within is room =
       small = omega arith;
       sized = is.sized;
       most = is.most;
+      some = is.some;
+      few = is.few;
+      told = is.told;
       fits = omega (arith, left, few, readable, length-append r.readable (joined b distance within), is.fits);
       buffer = subst IsReceiving (whole b distance within) (inserted_receives b distance within inside is.buffer);
       kept = subst (λ (w : ℕ). AreBelow (grown r distance within).kept w) (sym left) (inserted_below b distance within (receive_window r) inside room is.kept);
@@ -211,7 +220,7 @@ none_within r number octets is none = by (octets_within r number octets) none
     by (x ∷ within) e = absurd (omega (arith, e))
 
 pub nothing_keeps : (capacity : ℕ) → capacity ≤ LARGEST_CAPACITY → IsKeeping (receiving_nothing capacity)
-nothing_keeps capacity most = record { small = omega arith; sized = omega arith; most = most; fits = omega arith; buffer = receives_nothing capacity; kept = none_below capacity 0 }
+nothing_keeps capacity most = record { small = omega arith; sized = omega arith; most = most; some = omega arith; few = omega arith; told = omega arith; fits = omega arith; buffer = receives_nothing capacity; kept = none_below capacity 0 }
 
 -- where no window is advertised, nothing is kept
 pub syn_keeps : (r : Receiving) (number advertised : ℕ) → IsKeeping r → receive_window r ≡ 0 → length r.readable + advertised ≤ r.size → IsKeeping (after_syn r number advertised)
@@ -219,6 +228,9 @@ syn_keeps r number advertised is shut room = record {
   small = omega arith;
   sized = is.sized;
   most = is.most;
+  some = is.some;
+  few = is.few;
+  told = is.told;
   fits = omega (arith, room);
   buffer = is.buffer;
   kept = λ distance octet at. let bad = is.kept distance octet at in absurd (omega (arith, bad, shut));
@@ -239,6 +251,9 @@ end_keeps r is room =
       small = omega arith;
       sized = is.sized;
       most = is.most;
+      some = is.some;
+      few = is.few;
+      told = is.told;
       fits = omega (arith, left, is.fits);
       buffer = forgotten_receives (buffer_of r) is.buffer;
       kept = none_below (length r.kept) (receive_window (after_end r));
@@ -249,35 +264,58 @@ read_keeps r count within is = record {
   small = is.small;
   sized = is.sized;
   most = is.most;
+  some = is.some;
+  few = is.few;
+  told = is.told;
   fits = omega (arith, length-drop count r.readable, is.fits);
   buffer = receives_read (buffer_of r) count within is.buffer;
   kept = λ distance octet at. is.kept distance octet (sym (at_more r.kept count distance) ∙ at);
 }
 
--- the window up to the whole room
-widened_keeps : (r : Receiving) → IsKeeping r → has_grown r ≡ true → IsKeeping (record r { edge = (r.rnext + receive_room r) % 2 ^ 32 })
-widened_keeps r is grown =
-    let wide : past ((r.rnext + receive_room r) % 2 ^ 32) r.rnext ≡ receive_room r = omega (arith, is.small, is.sized, is.most) in
+-- a wider window, up to the room
+widened_keeps : (r : Receiving) (window : ℕ) → IsKeeping r → receive_window r ≤ window → window ≤ receive_room r → IsKeeping (record r { edge = (r.rnext + window) % 2 ^ 32 })
+widened_keeps r window is wider within =
+    let wide : past ((r.rnext + window) % 2 ^ 32) r.rnext ≡ window = omega (arith, is.small, is.sized, is.most, within) in
     record {
       small = is.small;
       sized = is.sized;
       most = is.most;
-      fits = omega (arith, wide, is.fits);
+      some = is.some;
+      few = is.few;
+      told = is.told;
+      fits = omega (arith, wide, within, is.fits);
       buffer = is.buffer;
-      kept = λ distance octet at. let near = is.kept distance octet at in omega (arith, near, wide, is.fits);
+      kept = λ distance octet at. let near = is.kept distance octet at in omega (arith, near, wide, wider);
     }
 
+-- the units that octets fill are less than a unit short of them
+pub in_units : (unit octets : ℕ) → 0 < unit → (whole_units unit octets ≤ octets) × (octets < whole_units unit octets + unit)
+in_units unit octets some =
+    let parts = div-add-mod' octets unit in
+    let below = mod_below octets unit some in
+    (omega (arith, parts), omega (arith, parts, below))
+
+grown_keeps_units : (r : Receiving) → IsKeeping r → has_grown r ≡ true → IsKeeping (record r { edge = (r.rnext + whole_units r.unit (receive_room r)) % 2 ^ 32 })
+grown_keeps_units r is grown =
+    let filled = in_units r.unit (receive_room r) is.some in
+    let more = leb-true (receive_window r + MSS) (receive_room r) grown in
+    widened_keeps r (whole_units r.unit (receive_room r)) is (omega (arith, filled.1, more, is.few)) filled.0
+
 pub advertisement_keeps : (r : Receiving) → IsKeeping r → IsKeeping (after_advertisement r)
-advertisement_keeps r is = either Receiving IsKeeping (has_grown r) (record r { edge = (r.rnext + receive_room r) % 2 ^ 32 }) r (widened_keeps r is) (λ small. is)
+advertisement_keeps r is = either Receiving IsKeeping (has_grown r) _ r (grown_keeps_units r is) (λ small. is)
+
+pub syn_advertisement_keeps : (r : Receiving) → IsKeeping r → IsKeeping (after_syn_advertisement r)
+syn_advertisement_keeps r is = either Receiving IsKeeping (nat_le (receive_window r + MSS) (syn_window r)) _ r
+    (λ wider. let more = leb-true (receive_window r + MSS) (syn_window r) wider in widened_keeps r (syn_window r) is (omega (arith, more)) (omega arith)) (λ wide. is)
 
 -- a buffer is seen through its receiving half
-pub seen : (b : ReceiveView) (rnext edge size : ℕ) → b ≡ buffer_of (record { readable = b.readable; kept = b.kept; rnext = rnext; edge = edge; size = size; capacity = b.capacity })
-seen b rnext edge size = refl
+pub seen : (b : ReceiveView) (rnext edge size unit : ℕ) → b ≡ buffer_of (record { readable = b.readable; kept = b.kept; rnext = rnext; edge = edge; size = size; capacity = b.capacity; unit = unit })
+seen b rnext edge size unit = refl
 
 -- what was taken, step by step
 pub taken_is : (r : Receiving) (number : ℕ) (octets : List ℕ) (b new : ReceiveView) (distance count rnext : ℕ) (within : List ℕ) → b ≡ buffer_of r → distance ≡ distance_of r number
     → within ≡ octets_within r number octets → new ≡ after_insert b distance within → count ≡ length (joined b distance within) → rnext ≡ (r.rnext + count) % 2 ^ 32
-    → after_octets r number octets ≡ record { readable = new.readable; kept = new.kept; rnext = rnext; edge = r.edge; size = r.size; capacity = new.capacity }
+    → after_octets r number octets ≡ record { readable = new.readable; kept = new.kept; rnext = rnext; edge = r.edge; size = r.size; capacity = new.capacity; unit = r.unit }
 taken_is r number octets b new distance count rnext within same at cut after counted moves =
     let places : new.capacity ≡ r.capacity = ap (λ (x : ReceiveView). x.capacity) (after ∙ whole b distance within) ∙ ap (λ (x : ReceiveView). x.capacity) same in
     cc
@@ -292,7 +330,7 @@ taken_count r number octets b distance count within is same at cut counted =
 
 -- a new buffer is that of nothing received
 pub new_is : (b : ReceiveView) (size : ℕ) → b ≡ nothing_received b.capacity → size ≡ size_of b.capacity
-    → receiving_nothing b.capacity ≡ record { readable = b.readable; kept = b.kept; rnext = 0; edge = 0; size = size; capacity = b.capacity }
+    → receiving_nothing b.capacity ≡ record { readable = b.readable; kept = b.kept; rnext = 0; edge = 0; size = size; capacity = b.capacity; unit = 1 }
 new_is b size is sized =
-    ap (λ (n : ℕ). record { readable = []; kept = replicate b.capacity None; rnext = 0; edge = 0; size = n; capacity = b.capacity }) (sym sized)
-    ∙ ap (λ (x : ReceiveView). record { readable = x.readable; kept = x.kept; rnext = 0; edge = 0; size = size; capacity = b.capacity }) (sym is)
+    ap (λ (n : ℕ). record { readable = []; kept = replicate b.capacity None; rnext = 0; edge = 0; size = n; capacity = b.capacity; unit = 1 }) (sym sized)
+    ∙ ap (λ (x : ReceiveView). record { readable = x.readable; kept = x.kept; rnext = 0; edge = 0; size = size; capacity = b.capacity; unit = 1 }) (sym is)

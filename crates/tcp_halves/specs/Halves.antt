@@ -2,8 +2,8 @@
 use Rattle.std.specs.Prelude.{ℕ, List, Option}
 
 -- the sending half: the octets taken from the caller and not acknowledged, SND.UNA, SND.NXT (the number after the
--- highest sent), SND.WND, the largest window that the peer ever advertised, SND.WL1, SND.WL2, the size of the segments that the peer takes, and how many
--- octets are held at most
+-- highest sent), SND.WND, the largest window that the peer ever advertised, SND.WL1, SND.WL2, the size of the segments that the peer takes, how many octets are
+-- held at most, and how many octets a unit of the peer's windows has (RFC 7323 section 2.3)
 pub record Sending : Type 0 where
   pub held : List ℕ
   pub una : ℕ
@@ -14,10 +14,11 @@ pub record Sending : Type 0 where
   pub wl2 : ℕ
   pub smss : ℕ
   pub size : ℕ
+  pub unit : ℕ
 
 -- the receiving half: the octets in order that the caller has not read, those kept ahead of a gap, by their distance from RCV.NXT, with a place for each
--- octet that may still come, RCV.NXT, the number after the last that a window advertised has room for, how many octets the half holds at most, and how many
--- places were made for them
+-- octet that may still come, RCV.NXT, the number after the last that a window advertised has room for, how many octets the half holds at most, how many places
+-- were made for them, and how many octets a unit of the windows has that are told
 pub record Receiving : Type 0 where
   pub readable : List ℕ
   pub kept : List (Option ℕ)
@@ -25,3 +26,4 @@ pub record Receiving : Type 0 where
   pub edge : ℕ
   pub size : ℕ
   pub capacity : ℕ
+  pub unit : ℕ

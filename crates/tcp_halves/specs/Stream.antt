@@ -14,7 +14,7 @@ size_of capacity = min capacity CAPACITY
 
 -- nothing has come, and no window is advertised; so many places are made
 abbrev pub receiving_nothing : ℕ → Receiving
-receiving_nothing capacity = record { readable = []; kept = replicate capacity None; rnext = 0; edge = 0; size = size_of capacity; capacity = capacity }
+receiving_nothing capacity = record { readable = []; kept = replicate capacity None; rnext = 0; edge = 0; size = size_of capacity; capacity = capacity; unit = 1 }
 
 -- the buffer of the receiving half
 abbrev pub buffer_of : Receiving → ReceiveView
@@ -42,7 +42,7 @@ is_new_ack s ack = nat_lt 0 (past ack s.una) && nat_le (past ack s.una) (outstan
 
 -- nothing sent yet, the SYN will have the number isn, and so many octets are held at most
 abbrev pub sending_from : ℕ → ℕ → Sending
-sending_from size isn = record { held = []; una = isn; nxt = isn; window = 0; max_window = 0; wl1 = isn; wl2 = isn; smss = DEFAULT_MSS; size = size }
+sending_from size isn = record { held = []; una = isn; nxt = isn; window = 0; max_window = 0; wl1 = isn; wl2 = isn; smss = DEFAULT_MSS; size = size; unit = 1 }
 
 -- our SYN is acknowledged, the one number that is outstanding
 abbrev pub after_syn_acknowledged : Sending → Sending

@@ -1,11 +1,21 @@
 -- The windows that the two ends advertise to each other, and how much may go out at once (RFC 9293 sections 3.8.6 and 3.10.7.4).
-use Rattle.std.specs.Prelude.{ℕ, ◌+◌, ◌-◌, ◌*◌, ◌%◌, ◌^◌, ◌==◌, ◌&&◌, ◌||◌, not, nat_le, nat_lt, min, max, Bool, if◌then◌else◌, length}
+use Rattle.std.specs.Prelude.{ℕ, ◌+◌, ◌-◌, ◌*◌, ◌/◌, ◌%◌, ◌^◌, ◌==◌, ◌&&◌, ◌||◌, not, nat_le, nat_lt, min, max, Bool, if◌then◌else◌, length}
 use Rattle.tcp_segment.specs.declared.TheConstants.{MSS}
 use Rattle.tcp_halves.specs.Numbers.{is_before}
+use Rattle.tcp_halves.specs.declared.buffers.TheConstants.{CAPACITY}
 use Rattle.tcp_halves.specs.Halves.{Sending, Receiving}
 use Rattle.tcp_halves.specs.Stream.{outstanding, receive_window}
 
--- the peer's SYN has its window and the size of the segments that it takes
+-- the window of a segment without SYN in octets: its field counts units of the peer's (RFC 7323 section 2.3)
+abbrev pub window_in : Sending → ℕ → ℕ
+window_in s field = field * s.unit
+
+-- the peer hears a segment at SND.NXT: that lies within its window, or past one that isn't closed by less than a unit, which the window that it told may have
+-- rounded away (RFC 7323 section 2.4)
+abbrev pub hears_next : Sending → Bool
+hears_next s = nat_le (outstanding s) s.window || (nat_lt 0 s.window && nat_lt (outstanding s - s.window) s.unit)
+
+-- the peer's SYN has its window, in octets, and the size of the segments that it takes
 abbrev pub after_syn_heard : Sending → ℕ → ℕ → ℕ → Sending
 after_syn_heard s number window smss = record s { window = window; max_window = max s.max_window window; wl1 = number; smss = smss }
 
@@ -57,6 +67,21 @@ receive_room r = r.size - length r.readable
 abbrev pub has_grown : Receiving → Bool
 has_grown r = nat_le (receive_window r + MSS) (receive_room r)
 
--- the window that is advertised: the whole room where that is a step worth telling, else up to the edge that it had
+-- the units of a window that so many octets fill, in octets (RFC 7323 section 2.3)
+abbrev pub whole_units : ℕ → ℕ → ℕ
+whole_units unit octets = octets / unit * unit
+
+-- the window that is advertised: the whole room, as far as units fill it, where that is a step worth telling, else up to the edge that it had
 abbrev pub after_advertisement : Receiving → Receiving
-after_advertisement r = if has_grown r then record r { edge = (r.rnext + receive_room r) % 2 ^ 32 } else r
+after_advertisement r = if has_grown r then record r { edge = (r.rnext + whole_units r.unit (receive_room r)) % 2 ^ 32 } else r
+
+-- the window of a segment without SYN as its header has it: in units, and never more than the window (section 2.3)
+abbrev pub window_field : Receiving → ℕ
+window_field r = receive_window r / r.unit
+
+-- a segment with SYN tells its window in octets, and so no more than 16 bits hold (section 2.2): it is advertised where it is a step further than what was
+abbrev pub syn_window : Receiving → ℕ
+syn_window r = min (receive_room r) CAPACITY
+
+abbrev pub after_syn_advertisement : Receiving → Receiving
+after_syn_advertisement r = if nat_le (receive_window r + MSS) (syn_window r) then record r { edge = (r.rnext + syn_window r) % 2 ^ 32 } else r

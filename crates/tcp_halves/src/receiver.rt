@@ -1,12 +1,12 @@
 //! The receiving half: what came in order and the caller has not read, and what came ahead of a gap (RFC 9293 section 3.3.1).
 
-ghost use Rattle.std.specs.Prelude.{◌≡◌, ◌+◌, ◌%◌, ◌^◌, ◌≤◌, ◌<◌, ◌++◌, ◌==◌, length, take, drop, min};
+ghost use Rattle.std.specs.Prelude.{◌≡◌, ◌+◌, ◌%◌, ◌^◌, ◌≤◌, ◌<◌, ◌++◌, ◌==◌, ◌*◌, length, take, drop, min};
 ghost use Rattle.stream_buf.specs.Receiving.{nothing_received, ranges, IsReceiving};
 ghost use Rattle.tcp_halves.specs.Halves.{Receiving};
 ghost use Rattle.tcp_halves.specs.Stream.{receive_window, is_in_window, is_acceptable, receiving_nothing, buffer_of, after_syn, distance_of, octets_within, after_octets, after_read, stands_next, after_end, ReceivingFits, KeptInWindow};
 ghost use Rattle.tcp_segment.specs.Wire.{past};
-ghost use Rattle.tcp_halves.specs.declared.buffers.TheConstants.{LARGEST_CAPACITY};
-ghost use Rattle.tcp_halves.specs.Windows.{receive_room, has_grown, after_advertisement};
+ghost use Rattle.tcp_halves.specs.declared.buffers.TheConstants.{CAPACITY, LARGEST_CAPACITY};
+ghost use Rattle.tcp_halves.specs.Windows.{receive_room, has_grown, whole_units, after_advertisement, window_field, syn_window, after_syn_advertisement};
 
 use crate::buffers::CAPACITY;
 use std::marker::Model;
@@ -24,21 +24,24 @@ pub struct Receiver {
     edge: Seq,
     /// How many octets it holds at most.
     size: u32,
+    /// How many octets a unit of the windows has that are told (RFC 7323 section 2.3).
+    unit: u32,
 }
 
 impl Model for Receiver {
-    ghost use Rattle.std.specs.Prelude.{◌≡◌, ◌≤◌};
+    ghost use Rattle.std.specs.Prelude.{◌≡◌, ◌≤◌, ◌<◌, ◌*◌};
+    ghost use Rattle.tcp_segment.specs.declared.TheConstants.{MSS};
     ghost use Rattle.stream_buf.specs.Receiving.{IsReceiving};
     ghost use Rattle.tcp_halves.specs.Halves.{Receiving};
     ghost use Rattle.tcp_halves.specs.Received.{received_by};
     ghost use Rattle.tcp_halves.specs.Stream.{buffer_of, ReceivingFits, KeptInWindow};
-    ghost use Rattle.tcp_halves.specs.declared.buffers.TheConstants.{LARGEST_CAPACITY};
+    ghost use Rattle.tcp_halves.specs.declared.buffers.TheConstants.{CAPACITY, LARGEST_CAPACITY};
 
     ghost Value = { Receiving };
 
     ghost view = { received_by };
 
-    ghost invariant = { λ r. (r.size ≤ r.buffer.capacity) × (r.buffer.capacity ≤ LARGEST_CAPACITY) × ReceivingFits (received_by r) × IsReceiving (buffer_of (received_by r)) × KeptInWindow (received_by r) };
+    ghost invariant = { λ r. (r.size ≤ r.buffer.capacity) × (r.buffer.capacity ≤ LARGEST_CAPACITY) × ReceivingFits (received_by r) × IsReceiving (buffer_of (received_by r)) × KeptInWindow (received_by r) × (0 < r.unit) × (r.unit ≤ MSS) × (r.size ≤ CAPACITY * r.unit) };
 }
 
 impl Receiver {
@@ -57,6 +60,7 @@ impl Receiver {
             rnext: Seq(0),
             edge: Seq(0),
             size,
+            unit: 1,
         }
     }
 
@@ -95,12 +99,12 @@ impl Receiver {
         u64::from(self.window()) + u64::from(MSS) <= u64::from(self.room())
     }
 
-    /// The window to advertise: the whole room where it has grown by enough, else what is left of the one that is known.
-    pub fn next_window(&self) -> u32
-        ensures value { result ≡ receive_window (after_advertisement self.now) }
-        ensures bound { result ≤ self.now.size }
+    /// The window to advertise, as the header of a segment without SYN has it, in units: the whole room where it has grown by enough, else
+    /// what is left of the one that is known.
+    pub fn next_window(&self) -> u16
+        ensures { result ≡ window_field (after_advertisement self.now) }
     {
-        self.next_edge().past(self.rnext)
+        (self.next_edge().past(self.rnext) / self.unit) as u16
     }
 
     /// The right edge of the window to advertise.
@@ -109,10 +113,46 @@ impl Receiver {
         ensures near { past result.0 self.now.rnext ≤ self.now.size }
     {
         if self.has_grown() {
-            edge_of(self.rnext, self.room())
+            edge_of(self.rnext, self.in_units(self.room()))
         } else {
             self.edge
         }
+    }
+
+    /// Those of so many octets that fill units of the windows that are told.
+    fn in_units(&self, octets: u32) -> u32
+        ensures value { result ≡ whole_units self.now.unit octets }
+        ensures bound { result ≤ octets }
+        ensures near { octets < result + self.now.unit }
+    {
+        octets / self.unit * self.unit
+    }
+
+    /// The window of a segment with SYN, which is told in octets (RFC 7323 section 2.2): that of the room, but no more than 16 bits hold.
+    pub fn next_syn_window(&self) -> u16
+        ensures { result ≡ min (receive_window (after_syn_advertisement self.now)) CAPACITY }
+    {
+        self.next_syn_edge().past(self.rnext).min(CAPACITY as u32) as u16
+    }
+
+    /// The right edge of the window of a segment with SYN: where that is a step further than what was advertised.
+    fn next_syn_edge(&self) -> Seq
+        ensures { result.0 ≡ (after_syn_advertisement self.now).edge }
+    {
+        let window = self.syn_window();
+        if u64::from(self.window()) + u64::from(MSS) <= u64::from(window) {
+            edge_of(self.rnext, window)
+        } else {
+            self.edge
+        }
+    }
+
+    /// As much of the room as a segment with SYN can tell.
+    pub fn syn_window(&self) -> u32
+        ensures value { result ≡ syn_window self.now }
+        ensures bound { result ≤ receive_room self.now }
+    {
+        self.room().min(CAPACITY as u32)
     }
 
     /// How many octets can still come.
@@ -245,6 +285,16 @@ impl Receiver {
         ensures kept { KeptInWindow self.new }
     {
         self.edge = self.next_edge();
+    }
+
+    /// The window of a segment with SYN is advertised.
+    pub fn advertise_syn(&mut self)
+        ensures after { self.new ≡ after_syn_advertisement self.old }
+        ensures fits { ReceivingFits self.new }
+        ensures buffer { IsReceiving (buffer_of self.new) }
+        ensures kept { KeptInWindow self.new }
+    {
+        self.edge = self.next_syn_edge();
     }
 }
 

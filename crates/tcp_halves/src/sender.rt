@@ -7,7 +7,7 @@ ghost use Rattle.tcp_segment.specs.Wire.{past};
 ghost use Rattle.tcp_halves.specs.declared.buffers.TheConstants.{LARGEST_CAPACITY};
 ghost use Rattle.tcp_halves.specs.Halves.{Sending};
 ghost use Rattle.tcp_halves.specs.Stream.{size_of, send_room, outstanding, is_new_ack, sending_from, after_syn_acknowledged, after_acknowledged, after_sent};
-ghost use Rattle.tcp_halves.specs.Windows.{after_syn_heard, after_window_update, open_window, unsent, usable, sendable, next_count, is_worth_sending, waits_for_more};
+ghost use Rattle.tcp_halves.specs.Windows.{window_in, hears_next, after_syn_heard, after_window_update, open_window, unsent, usable, sendable, next_count, is_worth_sending, waits_for_more};
 
 use crate::buffers::CAPACITY;
 use std::marker::Model;
@@ -35,18 +35,21 @@ pub struct Sender {
     smss: u16,
     /// How many octets are held at most.
     size: usize,
+    /// How many octets a unit of the peer's windows has (RFC 7323 section 2.3).
+    unit: u32,
 }
 
 impl Model for Sender {
-    ghost use Rattle.std.specs.Prelude.{◌≡◌, ◌≤◌, length};
+    ghost use Rattle.std.specs.Prelude.{◌≡◌, ◌≤◌, ◌<◌, ◌^◌, length};
+    ghost use Rattle.tcp_segment.specs.declared.TheConstants.{MAX_SHIFT};
     ghost use Rattle.tcp_halves.specs.Halves.{Sending};
     ghost use Rattle.tcp_halves.specs.declared.buffers.TheConstants.{LARGEST_CAPACITY};
 
     ghost Value = { Sending };
 
-    ghost view = { λ s. record { held = s.buffer.held; una = s.una.0; nxt = s.nxt.0; window = s.window; max_window = s.max_window; wl1 = s.wl1.0; wl2 = s.wl2.0; smss = s.smss; size = s.size } };
+    ghost view = { λ s. record { held = s.buffer.held; una = s.una.0; nxt = s.nxt.0; window = s.window; max_window = s.max_window; wl1 = s.wl1.0; wl2 = s.wl2.0; smss = s.smss; size = s.size; unit = s.unit } };
 
-    ghost invariant = { λ s. (length s.buffer.held ≤ s.size) × (s.size ≤ s.buffer.capacity) × (s.size ≤ LARGEST_CAPACITY) };
+    ghost invariant = { λ s. (length s.buffer.held ≤ s.size) × (s.size ≤ s.buffer.capacity) × (s.size ≤ LARGEST_CAPACITY) × (0 < s.unit) × (s.unit ≤ 2 ^ MAX_SHIFT) };
 }
 
 impl Sender {
@@ -66,6 +69,7 @@ impl Sender {
             wl2: isn,
             smss: DEFAULT_MSS,
             size,
+            unit: 1,
         }
     }
 
@@ -172,15 +176,31 @@ impl Sender {
         self.una = acknowledgement;
     }
 
-    /// Takes the window of a segment whose acknowledgement is not below SND.UNA, and that is no older than the one that gave the
+    /// Whether the peer hears a segment at SND.NXT: that lies within its window, or past one that isn't closed by less than a unit.
+    pub fn hears_next(&self) -> bool
+        ensures { result ≡ hears_next self.now }
+    {
+        let outstanding = self.outstanding();
+        outstanding <= self.window
+            || self.window > 0 && outstanding.saturating_sub(self.window) < self.unit
+    }
+
+    /// The window of a segment without SYN in octets, by its header's field (RFC 7323 section 2.3).
+    pub fn window_in(&self, field: u16) -> u32
+        ensures { result ≡ window_in self.now field }
+    {
+        u32::from(field) * self.unit
+    }
+
+    /// Takes the window, in octets, of a segment whose acknowledgement is not below SND.UNA, and that is no older than the one that gave the
     /// present window (RFC 9293 section 3.10.7.4).
-    pub fn update_window(&mut self, number: Seq, acknowledgement: Seq, window: u16)
+    pub fn update_window(&mut self, number: Seq, acknowledgement: Seq, window: u32)
         ensures { self.new ≡ after_window_update self.old number.0 acknowledgement.0 window }
     {
         let is_newer = self.wl1.is_before(number)
             || self.wl1 == number && !acknowledgement.is_before(self.wl2);
         if is_newer && !acknowledgement.is_before(self.una) {
-            self.note_window(u32::from(window));
+            self.note_window(window);
             self.wl1 = number;
             self.wl2 = acknowledgement;
         }

@@ -16,7 +16,7 @@ use Rattle.tcp_state.specs.View.{View, is_opening, is_syn_received, is_closed}
 use Rattle.tcp_state.specs.Resend.{Resend, resend_probed, resend_acknowledged, resend_lost}
 use Rattle.tcp_state.specs.Timing.{KeepsTime, probes, retransmits, awaits_more, running, retransmission_timer, probe_timer, delayed_ack_timer, override_timer, interval_of, awaits_first, unheard_since, clocked, retransmission_expired, probe_expired, after_expiry, delayed_ack_expired, override_expired, after_timers}
 use Rattle.tcp_state.specs.Arrival.{after_heard, is_rejected, begins_wait, answers_probe, is_duplicate, before, since_after, is_moved, resend_heard, resend_after, congestion_event_of, reveals_loss, congestion_after, timed_by, after_segment_at}
-use Rattle.tcp_state.specs.Due.{probe_stretch, end_of, after_ack_paid, after_resent, after_first_sent, after_numbers, after_new_octets, brings_new_octets, after_syn_again, after_syn_out, after_stretch, after_probe, after_going_out, after_emitted}
+use Rattle.tcp_state.specs.Due.{probe_stretch, end_of, after_syn_ack_paid, after_resent, after_first_sent, after_numbers, after_new_octets, brings_new_octets, after_syn_again, after_syn_out, after_stretch, after_probe, after_going_out, after_emitted}
 use Rattle.tcp_state.specs.Edges.{after_first}
 use Rattle.tcp_state.specs.Congestion.{Signal, after_signal}
 use Rattle.tcp_state.specs.Congestion.Signal.{Begins, Counts, Nothing}
@@ -98,7 +98,7 @@ syn_emitted v now =
     let sent = after_syn_out v now in
     let numbers = after_numbers v 0 1 now in
     let all = syn_out v now (λ w. Emitted v w) (numbers_emitted v 0 1 now) (emits_on v numbers (after_syn_again numbers) (numbers_emitted v 0 1 now) refl) in
-    either View (λ w. Emitted v w) (is_syn_received v.state) (after_ack_paid sent) sent (λ received. emits_on v sent (after_ack_paid sent) all refl) (λ waits. all)
+    either View (λ w. Emitted v w) (is_syn_received v.state) (after_syn_ack_paid sent) sent (λ received. emits_on v sent (after_syn_ack_paid sent) all refl) (λ waits. all)
 
 -- the reset of an abort goes out, or something else
 pub emission : (v : View) (due : Due) (now : Moment) → (due ≡ Rst) ⊎ Emitted v (after_emitted v due now)

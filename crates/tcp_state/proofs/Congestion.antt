@@ -25,7 +25,7 @@ use Rattle.tcp_state.specs.Congestion.Signal.{Begins, Counts, Nothing}
 use Rattle.tcp_state.specs.Timing.{clocked, gives_up, retransmission_expired, probe_expired, after_expiry, after_timers, after_tick}
 use Rattle.tcp_state.specs.Calls.{send_count, beyond_shutdown, shutdown_refusal, after_shutdown, aborted_at, after_release, is_removed_by_close, is_aborted_by_close}
 use Rattle.tcp_state.specs.Arrival.{opened_passively, is_receiving, beyond_fin, after_ack, after_window, after_text, after_fin, after_heard, is_rejected, before, is_moved, resend_heard, resend_after, congestion_event_of, congestion_after, timed_by, after_segment_at}
-use Rattle.tcp_state.specs.Due.{after_ack_paid, after_syn_out, after_going_out, first_due}
+use Rattle.tcp_state.specs.Due.{after_syn_ack_paid, after_syn_out, after_going_out, first_due}
 use Rattle.tcp_state.specs.Unreachable.{is_unreachable}
 use Rattle.tcp_state.specs.Hop.{unheard_until}
 use Rattle.tcp_state.specs.Edges.{Event, Hears, Ticks, Emits, Sends, Receives, Shuts, Closes, Aborts, Unreachable, LosesHop, after_first, after_event, congestion_event_at, congestion_event_by}
@@ -267,7 +267,7 @@ emission_segment v Syn now =
     let P : View → Type 0 = λ w. w.sending.smss ≡ v.sending.smss in
     let sent = after_syn_out v now in
     let k : P sent = ap (λ (t : Sending). t.smss) (syn_sends v now) in
-    either View P (is_syn_received v.state) (after_ack_paid sent) sent (λ received. k) (λ waits. k)
+    either View P (is_syn_received v.state) (after_syn_ack_paid sent) sent (λ received. k) (λ waits. k)
 emission_segment v (Text stretch) now = ap (λ (t : Sending). t.smss) (stretch_sends v stretch now)
 emission_segment v Probe now = ap (λ (t : Sending). t.smss) (probe_sends v)
 emission_segment v Ack now = refl

@@ -9,7 +9,7 @@ use Rattle.tcp_state.specs.declared.state.State.TheVariants.{SynSent, SynReceive
 use Rattle.tcp_halves.specs.Numbers.{is_before}
 use Rattle.tcp_halves.specs.Halves.{Sending}
 use Rattle.tcp_halves.specs.Stream.{outstanding, is_new_ack, after_acknowledged}
-use Rattle.tcp_halves.specs.Windows.{updates_window, after_window_update}
+use Rattle.tcp_halves.specs.Windows.{window_in, updates_window, after_window_update}
 use Rattle.tcp_state.specs.View.{View, IsSound, is_opening, is_syn_sent, is_syn_received, is_closed, is_write_finished, takes_flag_number}
 use Rattle.tcp_state.specs.Arrival.{is_acceptable_to, after_establishment, after_new_ack, is_of_fin, fin_acknowledged, after_ack, is_read_on, after_window, is_lost, after_lost, after_segment, after_heard, is_rejected, before, timed_by, after_segment_at}
 use Rattle.tcp_state.specs.Duties.{acknowledges, HoldsFrom}
@@ -111,7 +111,7 @@ reading_frees : (v : View) (s : Segment) → is_new_ack v.sending s.acknowledgem
 reading_frees v s new received_all =
     let w = after_ack v s.acknowledgement in
     let freed = ack_frees v s.acknowledgement new received_all in
-    let told : Held w.sending.una w.sending (after_window w s).sending = told_holds w.sending s.number s.acknowledgement s.window in
+    let told : Held w.sending.una w.sending (after_window w s).sending = told_holds w.sending s.number s.acknowledgement (window_in w.sending s.window) in
     subst (Held s.acknowledgement (after_acknowledged v.sending s.acknowledgement)) (sym (reading_sends v s)) (told.0 ∙ freed.0, told.1 ∙ freed.1, told.2 ∙ freed.2)
 
 pub frees_named : (v : View) (s : Segment) (now : Moment) (own una ack : ℕ) → IsSound v → (is_syn_sent v.state || is_closed v.state) ≡ false → acknowledges v s ≡ true
@@ -155,7 +155,7 @@ unnamed v ack old = by_ack (λ w. w.sending ≡ v.sending) v ack (record {
 reading_frees_none : (v : View) (s : Segment) → (is_new_ack v.sending s.acknowledgement ≡ true → ⊥) → Held v.sending.una v.sending (after_reading v s).sending
 reading_frees_none v s old =
     let w = after_ack v s.acknowledgement in
-    let told : Held w.sending.una w.sending (after_window w s).sending = told_holds w.sending s.number s.acknowledgement s.window in
+    let told : Held w.sending.una w.sending (after_window w s).sending = told_holds w.sending s.number s.acknowledgement (window_in w.sending s.window) in
     subst (Held v.sending.una v.sending) (sym (reading_sends v s)) (subst (λ t. Held t.una t (after_window w s).sending) (unnamed v s.acknowledgement old) told)
 
 pub others_free_none : (v : View) (s : Segment) (now : Moment) (own una : ℕ) → IsSound v → is_syn_sent v.state ≡ false → v.sending.una ≡ wire own una → s.acknowledgement < 2 ^ 32

@@ -21,7 +21,7 @@ use Rattle.tcp_state.specs.Timing.{KeepsTime, probes, waiting_since, awaits_firs
 use Rattle.tcp_state.specs.Hop.{end_of_hop_wait, unheard_until, after_hopless}
 use Rattle.tcp_state.specs.Calls.{latest}
 use Rattle.tcp_state.specs.Arrival.{is_receiving, after_ack, after_window, after_text, after_heard, is_moved, before, since_after, resend_after, congestion_after}
-use Rattle.tcp_state.specs.Due.{MayGoOut, IsHeld, first_due, new_due, again_from, new_octets, fin_alone, probe_stretch, octets_of_stretch, after_resent, after_first_sent, after_numbers, after_new_octets, brings_new_octets, after_syn_out, after_ack_paid, after_going_out, end_of}
+use Rattle.tcp_state.specs.Due.{MayGoOut, IsHeld, first_due, new_due, again_from, new_octets, fin_alone, probe_stretch, octets_of_stretch, after_resent, after_first_sent, after_numbers, after_new_octets, brings_new_octets, after_syn_out, after_syn_ack_paid, after_going_out, end_of}
 use Rattle.tcp_state.specs.Edges.{Event, LosesHop, moment_of, after_first, after_event, fate_by, is_removed, left_by, state_after}
 use Rattle.tcp_state.specs.Positions.{takes_numbers}
 use Rattle.tcp_state.specs.Said.{segment_of}
@@ -173,7 +173,7 @@ going_leaves v Rst now = refl
 going_leaves v Syn now =
     let P : View → Type 0 = λ w. w.unheard ≡ v.unheard in
     let sent : P (after_syn_out v now) = syn_out v now P (numbers_leave v 0 1 now) (numbers_leave v 0 1 now) in
-    either View P (is_syn_received v.state) (after_ack_paid (after_syn_out v now)) (after_syn_out v now) (λ received. sent) (λ first. sent)
+    either View P (is_syn_received v.state) (after_syn_ack_paid (after_syn_out v now)) (after_syn_out v now) (λ received. sent) (λ first. sent)
 going_leaves v (Text stretch) now =
     let P : View → Type 0 = λ w. w.unheard ≡ v.unheard in
     let sent = after_numbers v stretch.offset (end_of stretch) now in

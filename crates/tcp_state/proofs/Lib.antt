@@ -16,6 +16,7 @@ pub mod SilentEnds
 pub mod Positions
 pub mod Resets
 pub mod Windows
+pub mod Overstated
 pub mod Onward
 pub mod Waiting
 pub mod Placing

@@ -13,7 +13,7 @@ use Rattle.tcp_state.specs.Resend.{Resend, stopped, resend_probed}
 use Rattle.tcp_state.specs.View.{View, is_closed, is_syn_received}
 use Rattle.tcp_state.specs.Timing.{clocked, retransmission_expired, probe_expired, after_timers}
 use Rattle.tcp_state.specs.Arrival.{is_receiving, beyond_fin, after_new_ack, after_ack, after_window, after_text, after_heard, before, resend_heard, timed_by}
-use Rattle.tcp_state.specs.Due.{first_due, probe_stretch, end_of, after_resent, after_first_sent, after_numbers, after_new_octets, brings_new_octets, after_ack_paid, after_syn_again, after_syn_out, after_stretch, after_probe, after_emitted}
+use Rattle.tcp_state.specs.Due.{first_due, probe_stretch, end_of, after_resent, after_first_sent, after_numbers, after_new_octets, brings_new_octets, after_syn_ack_paid, after_syn_again, after_syn_out, after_stretch, after_probe, after_emitted}
 use Rattle.tcp_state.specs.Edges.{Event, Emits, after_first, after_event}
 use Rattle.tcp_state.proofs.Clocked.{by_others, after_paced}
 use Rattle.tcp_state.proofs.Congestion.{syn_kept}
@@ -78,13 +78,13 @@ again_syn v now again =
     let told : P (after_syn_again sent) = either View (λ w. (w.resend.syn_resent || nat_lt 0 w.resend.expiries) ≡ (v.resend.syn_resent || nat_lt 0 v.resend.expiries))
     (nat_lt 0 (outstanding v.sending)) (after_resent v 1) (after_first_sent v 1 now) (λ before. refl) (λ first. refl) in
     let all : P (after_syn_out v now) = either View P (nat_lt 0 (outstanding v.sending)) (after_syn_again sent) sent (λ before. told) (λ first. clash (nat_lt 0 (outstanding v.sending)) again first) in
-    either View P (is_syn_received v.state) (after_ack_paid (after_syn_out v now)) (after_syn_out v now) (λ received. all) (λ waits. all)
+    either View P (is_syn_received v.state) (after_syn_ack_paid (after_syn_out v now)) (after_syn_out v now) (λ received. all) (λ waits. all)
 
 first_syn : (v : View) (now : Moment) → nat_lt 0 (outstanding v.sending) ≡ false → Same v (after_emitted v Syn now)
 first_syn v now none =
     let sent = after_numbers v 0 1 now in
     let all : Same v (after_syn_out v now) = either View (Same v) (nat_lt 0 (outstanding v.sending)) (after_syn_again sent) sent (λ before. clash (nat_lt 0 (outstanding v.sending)) before none) (λ first. numbers_same v 0 1 now) in
-    either View (Same v) (is_syn_received v.state) (after_ack_paid (after_syn_out v now)) (after_syn_out v now) (λ received. all) (λ waits. all)
+    either View (Same v) (is_syn_received v.state) (after_syn_ack_paid (after_syn_out v now)) (after_syn_out v now) (λ received. all) (λ waits. all)
 
 -- Every event.
 

@@ -18,7 +18,7 @@ use Rattle.tcp_state.specs.Resend.{Resend, timing_of, timed_left, resend_acknowl
 use Rattle.tcp_state.specs.View.{View, IsSound, is_opening, is_closed, is_syn_received}
 use Rattle.tcp_state.specs.Timing.{clocked, retransmission_expired, probe_expired, after_timers}
 use Rattle.tcp_state.specs.Arrival.{after_heard, before, is_moved, resend_heard, resend_after, timed_by}
-use Rattle.tcp_state.specs.Due.{first_due, sends_again, end_of, after_resent, after_first_sent, after_numbers, after_new_octets, brings_new_octets, after_ack_paid, after_syn_out, after_emitted}
+use Rattle.tcp_state.specs.Due.{first_due, sends_again, end_of, after_resent, after_first_sent, after_numbers, after_new_octets, brings_new_octets, after_syn_ack_paid, after_syn_out, after_emitted}
 use Rattle.tcp_state.specs.Edges.{Event, Hears, Emits, after_first, after_event}
 use Rattle.tcp_state.specs.Counted.{BringsNew, BringsAgain}
 use Rattle.tcp_state.proofs.Clocked.{by_others, syn_out, after_paced}
@@ -47,7 +47,7 @@ new_times v Syn now new = elim new [
       let sent = after_syn_out v now in
       let numbers = numbers_time v 0 1 now (omega (arith, none)) in
       let all : Times v now sent = syn_out v now (Times v now) numbers numbers in
-      either View (Times v now) (is_syn_received v.state) (after_ack_paid sent) sent (λ received. all) (λ waits. all)
+      either View (Times v now) (is_syn_received v.state) (after_syn_ack_paid sent) sent (λ received. all) (λ waits. all)
   | inr stretch ↦ let bad : Syn ≡ Text stretch.0 = stretch.1 in cc
 ]
 new_times v (Text stretch) now new = elim new [

@@ -9,19 +9,19 @@ use Rattle.tcp_state.specs.declared.emission.Stretch.{Stretch}
 use Rattle.tcp_state.specs.declared.calls.Refusal.TheVariants.{ECONNREFUSED, ETIMEDOUT}
 use Rattle.tcp_halves.specs.Halves.{Sending, Receiving}
 use Rattle.tcp_halves.specs.Stream.{outstanding, is_new_ack, receive_window, octets_gained, after_octets, stands_next, after_end, after_sent}
-use Rattle.tcp_halves.specs.Windows.{updates_window, after_window_update, after_advertisement, has_grown, receive_room}
+use Rattle.tcp_halves.specs.Windows.{window_in, updates_window, after_window_update, after_advertisement, has_grown, receive_room, whole_units, syn_window, after_syn_advertisement}
 use Rattle.tcp_state.specs.View.{View, IsSound, is_opening, is_syn_sent, is_syn_received, is_write_finished, takes_flag_number, after_stop, after_reset}
 use Rattle.tcp_state.specs.Timing.{clocked, after_timers}
 use Rattle.tcp_state.specs.Calls.{after_shutdown, aborted_at, after_release}
 use Rattle.tcp_state.specs.Arrival.{reset_error, is_receiving, after_ack, after_window, after_text, after_fin, after_lost, after_heard}
-use Rattle.tcp_state.specs.Due.{first_due, again, fin_alone, new_octets, probe_stretch, end_of, after_ack_paid, after_stretch, after_probe, after_syn_out, after_going_out, after_emitted}
+use Rattle.tcp_state.specs.Due.{first_due, again, fin_alone, new_octets, probe_stretch, end_of, after_ack_paid, after_syn_ack_paid, after_stretch, after_probe, after_syn_out, after_going_out, after_emitted}
 use Rattle.tcp_state.specs.Edges.{Event, after_first, after_event}
 use Rattle.tcp_state.specs.Positions.{GoesOn, NeverBack, HasNumber}
 use Rattle.tcp_state.proofs.Clocked.{timers_keep, syn_out}
 use Rattle.tcp_halves.proofs.Choices.{either, clash, and_right}
 use Rattle.tcp_state.proofs.Segments.{after_reading, by_fin, by_ack, ack_receives, reading_sends, by_hearing}
 use Rattle.tcp_state.proofs.Events.{by_event}
-use Rattle.tcp_halves.proofs.Keeping.{IsKeeping, gained_fits}
+use Rattle.tcp_halves.proofs.Keeping.{IsKeeping, gained_fits, in_units}
 use Rattle.tcp_state.proofs.Sound.{sound_keeping}
 use Rattle.tcp_state.proofs.Emissions.{by_due, numbers_send, numbers_receive, stretch_sends, stretch_receives, probe_sends, probe_receives}
 
@@ -151,7 +151,7 @@ heard : (v w : View) → IsSound v → GoesOn v.sending.una w.sending.una → w.
 heard v w sound una nxt a = record {
   una = una;
   nxt = stays_at v.sending.nxt w.sending.nxt nxt;
-  rnext = λ past_opening. goes v.receiving.rnext w.receiving.rnext a.by (omega (arith, a.within, sound.window, sound.receive_size)) a.rnext;
+  rnext = λ past_opening. goes v.receiving.rnext w.receiving.rnext a.by (omega (arith, a.within, sound.window, sound.places, sound.capacity)) a.rnext;
   edge = λ past_opening. stays_at v.receiving.edge w.receiving.edge a.edge;
 }
 
@@ -160,8 +160,8 @@ by_reading v s sound fits =
     let acked = after_ack v s.acknowledgement in
     let told = after_window acked s in
     let same : told.receiving ≡ v.receiving = ack_receives v s.acknowledgement in
-    let una : (after_reading v s).sending.una ≡ acked.sending.una = ap (λ (x : Sending). x.una) (reading_sends v s) ∙ told_una acked.sending s.number s.acknowledgement s.window in
-    let nxt : (after_reading v s).sending.nxt ≡ acked.sending.nxt = ap (λ (x : Sending). x.nxt) (reading_sends v s) ∙ told_nxt acked.sending s.number s.acknowledgement s.window in
+    let una : (after_reading v s).sending.una ≡ acked.sending.una = ap (λ (x : Sending). x.una) (reading_sends v s) ∙ told_una acked.sending s.number s.acknowledgement (window_in acked.sending s.window) in
+    let nxt : (after_reading v s).sending.nxt ≡ acked.sending.nxt = ap (λ (x : Sending). x.nxt) (reading_sends v s) ∙ told_nxt acked.sending s.number s.acknowledgement (window_in acked.sending s.window) in
     heard v (after_reading v s) sound
     (subst (λ n. GoesOn v.sending.una n) (sym una) (acknowledged v s.acknowledgement sound fits))
     (nxt ∙ acknowledged_nxt v s.acknowledgement)
@@ -185,7 +185,7 @@ opens v w opening una nxt = record {
 by_lost : (v : View) (s : Segment) → IsSound v → NeverBack v (after_lost v s)
 by_lost v s sound =
     let acked = after_ack v s.acknowledgement in
-    let nxt : (after_window acked s).sending.nxt ≡ v.sending.nxt = told_nxt acked.sending s.number s.acknowledgement s.window ∙ acknowledged_nxt v s.acknowledgement in
+    let nxt : (after_window acked s).sending.nxt ≡ v.sending.nxt = told_nxt acked.sending s.number s.acknowledgement (window_in acked.sending s.window) ∙ acknowledged_nxt v s.acknowledgement in
     ended v (after_lost v s) sound nxt nxt (ack_receives v s.acknowledgement)
 
 by_heard : (v : View) (s : Segment) → IsSound v → s.acknowledgement < 2 ^ 32 → NeverBack v (after_heard v s)
@@ -214,12 +214,32 @@ sent_on v count sound few =
     reaches v.sending.nxt end (omega arith) (omega (arith, order, reach, sound.una, sound.nxt, few)))
     (λ lt. rests v.sending.nxt)
 
--- the edge moves up to the free room, or stays
-told_on : (r : Receiving) → r.rnext < 2 ^ 32 → r.size ≤ 65535 → length r.readable + receive_window r ≤ r.size → GoesOn r.edge (after_advertisement r).edge
-told_on r small told fits = either Receiving (λ t. GoesOn r.edge t.edge) (has_grown r) _ r (λ grows. moves) (λ keeps. rests r.edge)
-  where
-    moves : GoesOn r.edge ((r.rnext + receive_room r) % 2 ^ 32)
-    moves initial position at = (receive_room r - receive_window r, omega (arith, told), omega (arith, small, told, fits, at))
+-- the edge moves up to the end of a wider window ..
+wider : (r : Receiving) (window : ℕ) → IsKeeping r → receive_window r ≤ window → window ≤ 1048576 → GoesOn r.edge ((r.rnext + window) % 2 ^ 32)
+wider r window is more few initial position at = (window - receive_window r, omega (arith, few), omega (arith, is.small, more, few, at))
+
+few_left : (r : Receiving) → IsKeeping r → receive_room r ≤ 1048576
+few_left r is = omega (arith, is.sized, is.most)
+
+-- .. that of the room, as far as units fill it, or that of a SYN; or it stays
+told_on : (r : Receiving) → IsKeeping r → GoesOn r.edge (after_advertisement r).edge
+told_on r is = either Receiving (λ t. GoesOn r.edge t.edge) (has_grown r) _ r
+    (λ grows.
+    let filled = in_units r.unit (receive_room r) is.some in
+    let more = leb-true (receive_window r + 1460) (receive_room r) grows in
+    wider r (whole_units r.unit (receive_room r)) is (omega (arith, filled.1, more, is.few)) (omega (arith, filled.0, few_left r is)))
+    (λ keeps. rests r.edge)
+
+syn_told_on : (r : Receiving) → IsKeeping r → GoesOn r.edge (after_syn_advertisement r).edge
+syn_told_on r is = either Receiving (λ t. GoesOn r.edge t.edge) (nat_le (receive_window r + 1460) (syn_window r)) _ r
+    (λ grows. let more = leb-true (receive_window r + 1460) (syn_window r) grows in wider r (syn_window r) is (omega (arith, more)) (omega (arith, few_left r is)))
+    (λ keeps. rests r.edge)
+
+advertised : (r : Receiving) → (after_advertisement r).rnext ≡ r.rnext
+advertised r = either Receiving (λ t. t.rnext ≡ r.rnext) (has_grown r) _ r (λ grows. refl) (λ keeps. refl)
+
+syn_advertised : (r : Receiving) → (after_syn_advertisement r).rnext ≡ r.rnext
+syn_advertised r = either Receiving (λ t. t.rnext ≡ r.rnext) (nat_le (receive_window r + 1460) (syn_window r)) _ r (λ grows. refl) (λ keeps. refl)
 
 -- so many numbers from SND.UNA on went out
 goes_out : (v w : View) (count : ℕ) → IsSound v → count < 2 ^ 21 → w.sending ≡ after_sent v.sending count → w.receiving ≡ v.receiving → NeverBack v w
@@ -230,17 +250,21 @@ goes_out v w count sound few sending receiving = record {
   edge = λ past_opening. stays_at v.receiving.edge w.receiving.edge (ap (λ (r : Receiving). r.edge) receiving);
 }
 
--- an acknowledgement goes out with them, or alone
-pays : (v w : View) → IsSound v → w.receiving ≡ v.receiving → NeverBack v w → NeverBack v (after_ack_paid w)
-pays v w sound same k = record {
+-- an acknowledgement goes out with them, or alone, and advertises a window
+tells : (v w : View) (told : Receiving → Receiving) → (told v.receiving).rnext ≡ v.receiving.rnext → GoesOn v.receiving.edge (told v.receiving).edge → w.receiving ≡ v.receiving → NeverBack v w
+    → NeverBack v (record w { receiving = told w.receiving; owes_ack = false; delays_ack = false })
+tells v w told rnext edge same k = record {
   una = k.una;
   nxt = k.nxt;
-  rnext = λ past_opening. subst (λ r. GoesOn v.receiving.rnext (after_advertisement r).rnext) (sym same) (advertised v.receiving);
-  edge = λ past_opening. subst (λ r. GoesOn v.receiving.edge (after_advertisement r).edge) (sym same) (told_on v.receiving sound.rnext sound.receive_size sound.window);
+  rnext = λ past_opening. subst (λ r. GoesOn v.receiving.rnext (told r).rnext) (sym same) (stays_at v.receiving.rnext (told v.receiving).rnext rnext);
+  edge = λ past_opening. subst (λ r. GoesOn v.receiving.edge (told r).edge) (sym same) edge;
 }
-  where
-    advertised : (r : Receiving) → GoesOn r.rnext (after_advertisement r).rnext
-    advertised r = either Receiving (λ t. GoesOn r.rnext t.rnext) (has_grown r) _ r (λ grows. rests r.rnext) (λ keeps. rests r.rnext)
+
+pays : (v w : View) → IsSound v → w.receiving ≡ v.receiving → NeverBack v w → NeverBack v (after_ack_paid w)
+pays v w sound same k = tells v w after_advertisement (advertised v.receiving) (told_on v.receiving (sound_keeping v sound)) same k
+
+pays_by_syn : (v w : View) → IsSound v → w.receiving ≡ v.receiving → NeverBack v w → NeverBack v (after_syn_ack_paid w)
+pays_by_syn v w sound same k = tells v w after_syn_advertisement (syn_advertised v.receiving) (syn_told_on v.receiving (sound_keeping v sound)) same k
 
 by_text : (v : View) (stretch : Stretch) (now : Moment) → IsSound v → end_of stretch < 2 ^ 21 → NeverBack v (after_ack_paid (after_stretch v stretch now))
 by_text v stretch now sound few =
@@ -260,7 +284,7 @@ by_syn v now sound =
     let receiving = syn_out v now (λ w. w.receiving ≡ v.receiving) (numbers_receive v 0 1 now) (numbers_receive v 0 1 now) in
     let sending = syn_out v now (λ w. w.sending ≡ after_sent v.sending 1) (numbers_send v 0 1 now) (numbers_send v 0 1 now) in
     let on = goes_out v sent 1 sound (omega arith) sending receiving in
-    either View (λ w. NeverBack v w) (is_syn_received v.state) (after_ack_paid sent) sent (λ received. pays v sent sound receiving on) (λ first. on)
+    either View (λ w. NeverBack v w) (is_syn_received v.state) (after_syn_ack_paid sent) sent (λ received. pays_by_syn v sent sound receiving on) (λ first. on)
 
 -- a flag takes a number
 flag_number : (b : Bool) (offset count most : ℕ) → offset + count ≤ most → offset + (count + (if b then 1 else 0)) ≤ most + 1

@@ -1,7 +1,6 @@
 -- Why an acknowledgement that is owed goes out alone where nothing else waits.
-use Rattle.std.proofs.Common.{◌≡◌, ◌+◌, ◌%◌, ◌^◌, ◌≤◌, ◌==◌, ◌||◌, ◌&&◌, not, nat_le, nat_lt, if◌then◌else◌, Bool, true, false, [], length, Some, None, is_some, arith, refl, ◌∙◌, ap, subst}
+use Rattle.std.proofs.Common.{◌≡◌, ◌+◌, ◌≤◌, ◌==◌, ◌||◌, ◌&&◌, not, nat_lt, if◌then◌else◌, Bool, true, false, [], length, Some, None, is_some, inl, arith, refl, ◌∙◌, ap, subst}
 use Rattle.std.specs.Option.{option_or}
-use Rattle.std.proofs.lemmas.Bool.{le-leb}
 use Rattle.tcp_state.specs.declared.emission.Due.TheVariants.{Rst, Syn, Text, Probe, Ack}
 use Rattle.tcp_halves.specs.Stream.{outstanding}
 use Rattle.tcp_halves.specs.Windows.{sendable, is_worth_sending}
@@ -11,7 +10,8 @@ use Rattle.tcp_state.specs.New.{sends_fin}
 use Rattle.tcp_state.specs.Due.{is_ack_due, ack_due, again_from, new_octets, fin_alone, new_due, first_due, ack_number}
 use Rattle.tcp_state.specs.Said.{segment_of}
 use Rattle.tcp_state.specs.Progress.{IsAckAlone}
-use Rattle.tcp_halves.proofs.Choices.{and_false, or_left, or_right}
+use Rattle.tcp_halves.proofs.Choices.{and_false, or_left}
+use Rattle.tcp_state.proofs.AckNumbers.{ack_at_next}
 use Rattle.tcp_state.proofs.Unchanged.{none_below}
 use Rattle.tcp_state.proofs.ResetAges.{live}
 
@@ -53,15 +53,14 @@ ack_first v sound opened shut empty owes =
     ∙ (ap (λ b. if b then Some Probe else ack_due v) (and_false v.resend.owes_probe)
     ∙ ap (λ b. if b then Some Ack else None) due))))))
 
-ack_at_next : (v : View) → IsSound v → is_opening v.state ≡ false → awaits_fin_ack v.state ≡ false → v.sending.held ≡ [] → ack_number v ≡ v.sending.nxt
-ack_at_next v sound opened shut empty =
+alone_at_next : (v : View) → IsSound v → is_opening v.state ≡ false → awaits_fin_ack v.state ≡ false → v.sending.held ≡ [] → ack_number v ≡ v.sending.nxt
+alone_at_next v sound opened shut empty =
     let none = none_out v sound opened shut empty in
-    let within : nat_le (outstanding v.sending) v.sending.window ≡ true = le-leb (outstanding v.sending) v.sending.window (omega (arith, none)) in
-    ap (λ b. if b then v.sending.nxt else (v.sending.una + v.sending.window) % 2 ^ 32) (or_right (is_opening v.state) (nat_le (outstanding v.sending) v.sending.window) within)
+    ack_at_next v sound opened (inl (omega (arith, none)))
 
 pub owed_alone : (v : View) → IsSound v → is_opening v.state ≡ false → awaits_fin_ack v.state ≡ false → v.sending.held ≡ [] → v.owes_ack ≡ true
     → (first_due v ≡ Some Ack) × IsAckAlone v (segment_of v Ack)
 owed_alone v sound opened shut empty owes = (
   ack_first v sound opened shut empty owes,
-  record { number = ack_at_next v sound opened shut empty; acknowledgement = refl; octets = refl; no_fin = refl; ordinary = record { ack = refl; no_rst = refl; no_syn = refl } },
+  record { number = alone_at_next v sound opened shut empty; acknowledgement = refl; octets = refl; no_fin = refl; ordinary = record { ack = refl; no_rst = refl; no_syn = refl } },
 )

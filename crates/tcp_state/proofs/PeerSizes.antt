@@ -15,7 +15,7 @@ use Rattle.tcp_halves.specs.Halves.{Sending}
 use Rattle.tcp_halves.proofs.Choices.{either, by, clash, and_left}
 use Rattle.tcp_state.specs.View.{View, IsSound, is_closed, is_syn_sent, is_syn_received, after_reset}
 use Rattle.tcp_state.specs.Arrival.{owing_ack, reset_error, is_acceptable_to, after_rst_in_syn_sent, after_rst, is_right_syn_ack, is_simultaneous_syn, after_simultaneous_syn, after_syn_ack, after_ack, after_window, after_text, after_fin, after_acceptable_segment, after_segment, is_lost, after_lost, after_heard}
-use Rattle.tcp_state.specs.Due.{first_due, octets_of, octets_of_stretch, probe_stretch, again, new_octets, fin_alone, after_ack_paid, after_syn_out}
+use Rattle.tcp_state.specs.Due.{first_due, octets_of, octets_of_stretch, probe_stretch, again, new_octets, fin_alone, after_syn_ack_paid, after_syn_out}
 use Rattle.tcp_state.specs.Edges.{Event, Hears, after_first, after_event}
 use Rattle.tcp_state.specs.Counted.{BringsSyn}
 use Rattle.tcp_state.proofs.Clocked.{timers_keep}
@@ -48,7 +48,7 @@ past v w past_opening same = (same, λ waits. clash (is_syn_sent v.state) (ap is
 window_sized : (w : View) (s : Segment) → (after_window w s).sending.smss ≡ w.sending.smss
 window_sized w s =
     let x = w.sending in
-    either Sending (λ t. t.smss ≡ x.smss) (updates_window x s.number s.acknowledgement) (record x { window = s.window; max_window = max x.max_window s.window; wl1 = s.number; wl2 = s.acknowledgement }) x (λ updates. refl) (λ stays. refl)
+    either Sending (λ t. t.smss ≡ x.smss) (updates_window x s.number s.acknowledgement) _ x (λ updates. refl) (λ stays. refl)
 
 ack_sized : (v : View) (ack : ℕ) → (after_ack v ack).sending.smss ≡ v.sending.smss
 ack_sized v ack = by_ack (λ w. w.sending.smss ≡ v.sending.smss) v ack (record { old = refl; beyond = refl; opens = λ received new. refl; octets = λ new. refl; fin = λ new fin. refl })
@@ -123,7 +123,7 @@ emitted_sized v (Some Rst) now = refl
 emitted_sized v (Some Syn) now =
     let sent = after_syn_out v now in
     let same : sent.sending.smss ≡ v.sending.smss = ap (λ (x : Sending). x.smss) (syn_sends v now) in
-    either View (λ w. w.sending.smss ≡ v.sending.smss) (is_syn_received v.state) (after_ack_paid sent) sent (λ received. same) (λ first. same)
+    either View (λ w. w.sending.smss ≡ v.sending.smss) (is_syn_received v.state) (after_syn_ack_paid sent) sent (λ received. same) (λ first. same)
 emitted_sized v (Some (Text stretch)) now = ap (λ (x : Sending). x.smss) (stretch_sends v stretch now)
 emitted_sized v (Some Probe) now = ap (λ (x : Sending). x.smss) (probe_sends v)
 emitted_sized v (Some Ack) now = refl

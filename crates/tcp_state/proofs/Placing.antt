@@ -203,9 +203,10 @@ refused_changes r number octets small refused =
           edge = r.edge;
           size = r.size;
           capacity = r.capacity;
+          unit = r.unit;
         } ≡ r
     by true e = cc
-    by false e = let same : (r.rnext + 0) % 2 ^ 32 ≡ r.rnext = omega (arith, small) in ap (λ (n : ℕ). record { readable = r.readable; kept = r.kept; rnext = n; edge = r.edge; size = r.size; capacity = r.capacity }) same
+    by false e = let same : (r.rnext + 0) % 2 ^ 32 ≡ r.rnext = omega (arith, small) in ap (λ (n : ℕ). record { readable = r.readable; kept = r.kept; rnext = n; edge = r.edge; size = r.size; capacity = r.capacity; unit = r.unit }) same
 
     many : (first : Bool) (count : ℕ) → (first || nat_le count 32) ≡ false → 32 < count
     many true count e = cc

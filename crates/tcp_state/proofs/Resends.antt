@@ -7,11 +7,13 @@ use Rattle.retransmit.specs.Deadlines.{no_timers}
 use Rattle.tcp_state.specs.declared.emission.Due.{Due}
 use Rattle.tcp_state.specs.declared.emission.Due.TheVariants.{Rst, Syn, Text, Probe, Ack}
 use Rattle.tcp_state.specs.declared.emission.Stretch.{Stretch}
+use Rattle.tcp_halves.specs.Halves.{Receiving}
 use Rattle.tcp_halves.specs.Stream.{outstanding, after_sent}
+use Rattle.tcp_halves.specs.Windows.{after_advertisement, after_syn_advertisement}
 use Rattle.tcp_state.specs.Resend.{Resend, stopped, timing_of, resend_probed}
 use Rattle.tcp_state.specs.View.{View, is_closed, is_syn_received}
 use Rattle.tcp_state.specs.Arrival.{is_receiving, beyond_fin, fin_acknowledged, after_new_ack, after_ack, after_window, after_text, after_heard}
-use Rattle.tcp_state.specs.Due.{probe_stretch, end_of, after_ack_paid, after_resent, after_first_sent, after_numbers, after_new_octets, brings_new_octets, after_stretch, after_probe, after_syn_out, after_going_out}
+use Rattle.tcp_state.specs.Due.{probe_stretch, end_of, after_syn_ack_paid, after_resent, after_first_sent, after_numbers, after_new_octets, brings_new_octets, after_stretch, after_probe, after_syn_out, after_going_out}
 use Rattle.tcp_state.proofs.Clocked.{syn_out}
 use Rattle.tcp_halves.proofs.Choices.{either, clash, and_left, and_right}
 use Rattle.tcp_state.proofs.Segments.{by_fin, by_ack, by_hearing}
@@ -134,8 +136,8 @@ new_out : (v w : View) (now : Moment) → GoesOut v now w → GoesOut v now (aft
 new_out v w now k = record { timeout = k.timeout; timed = k.timed; overriding = inr refl; others = ap (λ (t : Timers). record t { overriding = None }) k.others; expiries = k.expiries; interval = k.interval; overridden = inr refl }
 
 -- an acknowledgement goes out with them
-paid_out : (v w : View) (now : Moment) (spoke : Bool) → GoesOut v now w → GoesOut v now (record (after_ack_paid w) { spoke = spoke })
-paid_out v w now spoke k = record { timeout = k.timeout; timed = k.timed; overriding = k.overriding; others = k.others; expiries = k.expiries; interval = k.interval; overridden = k.overridden }
+paid_out : (v w : View) (now : Moment) (told : Receiving) (spoke : Bool) → GoesOut v now w → GoesOut v now (record w { receiving = told; owes_ack = false; delays_ack = false; spoke = spoke })
+paid_out v w now told spoke k = record { timeout = k.timeout; timed = k.timed; overriding = k.overriding; others = k.others; expiries = k.expiries; interval = k.interval; overridden = k.overridden }
 
 stretch_out : (v : View) (stretch : Stretch) (now : Moment) → GoesOut v now (after_stretch v stretch now)
 stretch_out v stretch now =
@@ -155,7 +157,7 @@ goes_out v Syn now =
     let sent = after_syn_out v now in
     let n = numbers_out v 0 1 now in
     let k = syn_out v now (GoesOut v now) n (record { timeout = n.timeout; timed = n.timed; overriding = n.overriding; others = n.others; expiries = n.expiries; interval = n.interval; overridden = n.overridden }) in
-    either View (GoesOut v now) (is_syn_received v.state) (after_ack_paid sent) sent (λ received. paid_out v sent now sent.spoke k) (λ first. k)
-goes_out v (Text stretch) now = paid_out v (after_stretch v stretch now) now true (stretch_out v stretch now)
-goes_out v Probe now = paid_out v (after_probe v) now true (probe_out v now)
+    either View (GoesOut v now) (is_syn_received v.state) (after_syn_ack_paid sent) sent (λ received. paid_out v sent now (after_syn_advertisement sent.receiving) sent.spoke k) (λ first. k)
+goes_out v (Text stretch) now = paid_out v (after_stretch v stretch now) now (after_advertisement (after_stretch v stretch now).receiving) true (stretch_out v stretch now)
+goes_out v Probe now = paid_out v (after_probe v) now (after_advertisement (after_probe v).receiving) true (probe_out v now)
 goes_out v Ack now = record { timeout = refl; timed = inl refl; overriding = inl refl; others = refl; expiries = refl; interval = refl; overridden = inl refl }

@@ -9,6 +9,7 @@ use Rattle.tcp_state.specs.declared.connection.Fate.TheVariants.{Stays, Removed,
 use Rattle.tcp_state.specs.declared.state.State.{State}
 use Rattle.tcp_state.specs.declared.state.State.TheVariants.{SynSent}
 use Rattle.tcp_halves.specs.Halves.{Receiving}
+use Rattle.tcp_halves.specs.Windows.{window_in}
 use Rattle.tcp_halves.specs.Stream.{outstanding, is_new_ack, is_in_window, receive_window, is_acceptable}
 use Rattle.tcp_state.specs.View.{View, IsSound, is_opening, is_syn_sent, is_closed, is_over, is_time_wait, is_write_finished, takes_flag_number, after_reset}
 use Rattle.tcp_state.specs.Timing.{KeepsTime}
@@ -112,7 +113,7 @@ duplicate_is_read v s same =
     let goes_on = bare && not s.flags.fin in
     let at_una = goes_on && (s.acknowledgement == v.sending.una) in
     and_right opened (is_read v s) (and_left read (nat_lt 0 (octets_outstanding v)) (and_left flies (length s.octets == 0)
-    (and_left bare (not s.flags.fin) (and_left goes_on (s.acknowledgement == v.sending.una) (and_left at_una (s.window == v.sending.window) same)))))
+    (and_left bare (not s.flags.fin) (and_left goes_on (s.acknowledgement == v.sending.una) (and_left at_una (window_in v.sending s.window == v.sending.window) same)))))
 
 unaccepted_repeats_none : (v : View) (s : Segment) → is_acceptable_to v s ≡ false → is_duplicate v s ≡ false
 unaccepted_repeats_none v s refused = by (is_duplicate v s ≡ false) (is_duplicate v s) (λ same. clash (is_acceptable_to v s) (read_is_accepted v s (duplicate_is_read v s same)) refused) (λ none. none)

@@ -10,12 +10,14 @@ use Rattle.tcp_state.specs.declared.emission.Stretch.{Stretch}
 use Rattle.tcp_state.specs.declared.state.State.{State}
 use Rattle.tcp_halves.specs.Halves.{Sending, Receiving}
 use Rattle.tcp_halves.specs.Stream.{outstanding, after_sent}
-use Rattle.tcp_halves.specs.Windows.{receive_room, has_grown, after_advertisement}
+use Rattle.tcp_halves.specs.Windows.{receive_room, has_grown, whole_units, after_advertisement, after_syn_advertisement}
+use Rattle.tcp_halves.proofs.Keeping.{IsKeeping, in_units}
+use Rattle.tcp_state.proofs.Sound.{sound_keeping}
 use Rattle.tcp_halves.proofs.Choices.{either, clash}
 use Rattle.tcp_state.specs.View.{View, IsSound, is_opening, is_syn_received, is_closed, is_write_finished, awaits_fin_ack, most_outstanding}
 use Rattle.tcp_state.specs.Resend.{mark_past, resend_probed}
 use Rattle.tcp_state.specs.Timing.{probes, clocked}
-use Rattle.tcp_state.specs.Due.{IsHeld, first_due, is_ack_due, again, new_octets, fin_alone, probe_stretch, end_of, after_ack_paid, after_speaking, after_resent, after_first_sent, after_numbers, after_new_octets, brings_new_octets, after_syn_again, after_syn_out, after_stretch, after_probe, after_emitted}
+use Rattle.tcp_state.specs.Due.{IsHeld, first_due, is_ack_due, again, new_octets, fin_alone, probe_stretch, end_of, after_ack_paid, after_syn_ack_paid, after_speaking, after_resent, after_first_sent, after_numbers, after_new_octets, brings_new_octets, after_syn_again, after_syn_out, after_stretch, after_probe, after_emitted}
 use Rattle.tcp_state.specs.Most.{one_if, left_from, numbers_left, most_due}
 use Rattle.tcp_state.proofs.Clocked.{syn_out}
 use Rattle.tcp_state.proofs.Emissions.{by_due}
@@ -37,11 +39,16 @@ held_few false true held size most few = omega (arith, few)
 held_few false false held size most few = omega (arith, most, few)
 
 -- a window that was told has grown by nothing since
-told_stays : (r : Receiving) → r.rnext < 2 ^ 32 → r.size ≤ 65535 → has_grown (after_advertisement r) ≡ false
-told_stays r small told =
-    either Receiving (λ t. has_grown t ≡ false) (has_grown r) (record r { edge = (r.rnext + receive_room r) % 2 ^ 32 }) r
-    (λ grown. lt-leb (past ((r.rnext + receive_room r) % 2 ^ 32) r.rnext + 1460) (receive_room r) (omega (arith, small, told)))
+told_stays : (r : Receiving) → IsKeeping r → has_grown (after_advertisement r) ≡ false
+told_stays r is =
+    let told = whole_units r.unit (receive_room r) in
+    let filled = in_units r.unit (receive_room r) is.some in
+    either Receiving (λ t. has_grown t ≡ false) (has_grown r) _ r
+    (λ grown. lt-leb (past ((r.rnext + told) % 2 ^ 32) r.rnext + 1460) (receive_room r) (short r.rnext told (receive_room r) r.unit is.small (omega (arith, is.sized, is.most)) is.few filled.0 filled.1))
     (λ same. same)
+  where
+    short : (rnext told room unit : ℕ) → rnext < 2 ^ 32 → room ≤ 1048576 → unit ≤ 1460 → told ≤ room → room < told + unit → room < past ((rnext + told) % 2 ^ 32) rnext + 1460
+    short rnext told room unit small few unit_few within near = omega (arith, small, few, unit_few, within, near)
 
 -- What goes out.
 
@@ -67,18 +74,26 @@ unpaid v y s =
     let fewer = s.fewer in omega (arith, reset, owes, fewer)
 
 -- once it was told, no window has to be
-none_to_pay : (y : View) (spoke : Bool) → y.receiving.rnext < 2 ^ 32 → y.receiving.size ≤ 65535 → is_ack_due (record (after_ack_paid y) { spoke = spoke }) ≡ false
-none_to_pay y spoke small told =
-    ap (λ b. not (is_opening y.state) && not (is_closed y.state) && spoke && b) (told_stays y.receiving small told) ∙ nothing (not (is_opening y.state) && not (is_closed y.state) && spoke)
+none_to_pay : (y : View) (spoke : Bool) → IsKeeping y.receiving → is_ack_due (record (after_ack_paid y) { spoke = spoke }) ≡ false
+none_to_pay y spoke is =
+    ap (λ b. not (is_opening y.state) && not (is_closed y.state) && spoke && b) (told_stays y.receiving is) ∙ nothing (not (is_opening y.state) && not (is_closed y.state) && spoke)
   where
     nothing : (b : Bool) → (b && false) ≡ false
     nothing true = refl
     nothing false = refl
 
-paid : (v y : View) (spoke : Bool) → v.receiving.rnext < 2 ^ 32 → v.receiving.size ≤ 65535 → Sends v y → most_due (record (after_ack_paid y) { spoke = spoke }) < most_due v
-paid v y spoke small told s =
+paid : (v y : View) (spoke : Bool) → IsKeeping v.receiving → Sends v y → most_due (record (after_ack_paid y) { spoke = spoke }) < most_due v
+paid v y spoke is s =
     let reset : one_if y.owes_reset ≡ one_if v.owes_reset = ap one_if s.reset in
-    let none : one_if (is_ack_due (record (after_ack_paid y) { spoke = spoke })) ≡ 0 = ap one_if (none_to_pay y spoke (subst (λ (r : Receiving). r.rnext < 2 ^ 32) (sym s.receiving) small) (subst (λ (r : Receiving). r.size ≤ 65535) (sym s.receiving) told)) in
+    let none : one_if (is_ack_due (record (after_ack_paid y) { spoke = spoke })) ≡ 0 = ap one_if (none_to_pay y spoke (subst IsKeeping (sym s.receiving) is)) in
+    let fewer = s.fewer in omega (arith, reset, none, fewer)
+
+-- while the connection opens, no window has to be told
+paid_opening : (v y : View) → is_opening v.state ≡ true → Sends v y → most_due (after_syn_ack_paid y) < most_due v
+paid_opening v y opening s =
+    let reset : one_if y.owes_reset ≡ one_if v.owes_reset = ap one_if s.reset in
+    let opens : is_opening y.state ≡ true = ap is_opening s.state ∙ opening in
+    let none : one_if (is_ack_due (after_syn_ack_paid y)) ≡ 0 = ap (λ b. one_if (not b && not (is_closed y.state) && y.spoke && has_grown (after_syn_advertisement y.receiving))) opens in
     let fewer = s.fewer in omega (arith, reset, none, fewer)
 
 -- the end of an event makes nothing due
@@ -226,7 +241,7 @@ runs_dry v due now sound first = by_due (λ o. (d : Due) → o ≡ Some d → Fa
   nothing = λ quiet d e. cc;
   rst = λ owes d e. let same : Rst ≡ d = cc in let one : one_if v.owes_reset ≡ 1 = ap one_if owes in subst Falls same (falls (record v { owes_reset = false }) (omega (arith, one)));
   syn = λ opening goes d e. let same : Syn ≡ d = cc in let s = syn_goes v now sound opening goes in
-      subst Falls same (either View Less (is_syn_received v.state) (after_ack_paid (after_syn_out v now)) (after_syn_out v now) (λ received. settles (after_syn_out v now) (after_syn_out v now).spoke s) (λ waits. falls (after_syn_out v now) (unpaid v (after_syn_out v now) s)));
+      subst Falls same (either View Less (is_syn_received v.state) (after_syn_ack_paid (after_syn_out v now)) (after_syn_out v now) (λ received. falls (after_syn_ack_paid (after_syn_out v now)) (paid_opening v (after_syn_out v now) opening s)) (λ waits. falls (after_syn_out v now) (unpaid v (after_syn_out v now) s)));
   once_more = λ opened mark is goes d e. let same : Text (again v mark) ≡ d = cc in
       subst Falls same (settles (after_stretch v (again v mark) now) true (again_goes v mark now sound is (held_again v mark sound opened (sound.mark mark is))));
   octets = λ opened sends d e. let same : Text (new_octets v) ≡ d = cc in subst Falls same (settles (after_stretch v (new_octets v) now) true (new_goes v (new_octets v) now sound refl (held_new v sound opened sends)));
@@ -234,7 +249,7 @@ runs_dry v due now sound first = by_due (λ o. (d : Due) → o ≡ Some d → Fa
   probe = λ opened owes goes d e. let same : Probe ≡ d = cc in subst Falls same (settles (after_probe v) true (probe_goes v sound owes));
   ack = λ owes d e. let same : Ack ≡ d = cc in
       let one : one_if (is_ack_due v) ≡ 1 = ap one_if owes in
-      let none : one_if (is_ack_due (after_speaking v)) ≡ 0 = ap one_if (none_to_pay v true sound.rnext sound.receive_size) in
+      let none : one_if (is_ack_due (after_speaking v)) ≡ 0 = ap one_if (none_to_pay v true (sound_keeping v sound)) in
       subst Falls same (falls (after_speaking v) (omega (arith, one, none)));
 }) due first
   where
@@ -248,4 +263,4 @@ runs_dry v due now sound first = by_due (λ o. (d : Due) → o ≡ Some d → Fa
     falls x less = let ends = at_its_end x false now in omega (arith, ends, less)
 
     settles : (y : View) (spoke : Bool) → Sends v y → Less (record (after_ack_paid y) { spoke = spoke })
-    settles y spoke s = falls (record (after_ack_paid y) { spoke = spoke }) (paid v y spoke sound.rnext sound.receive_size s)
+    settles y spoke s = falls (record (after_ack_paid y) { spoke = spoke }) (paid v y spoke (sound_keeping v sound) s)

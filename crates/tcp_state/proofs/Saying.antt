@@ -1,8 +1,9 @@
 -- Why each segment that goes out says what is so.
-use Rattle.std.proofs.Common.{◌≡◌, ℕ, ◌+◌, ◌-◌, ◌%◌, ◌^◌, ◌<◌, ◌≤◌, ◌==◌, ◌&&◌, not, nat_lt, min, if◌then◌else◌, Bool, true, false, List, length, take, drop, Some, inl, inr, arith, refl, sym, ◌∙◌, ap}
+use Rattle.std.proofs.Common.{◌≡◌, ℕ, ◌+◌, ◌-◌, ◌*◌, ◌/◌, ◌%◌, ◌^◌, ◌<◌, ◌≤◌, ◌==◌, ◌&&◌, not, nat_lt, nat_le, min, if◌then◌else◌, Bool, true, false, List, length, take, drop, Some, inl, inr, arith, refl, sym, ◌∙◌, ap}
 use Rattle.std.specs.Prelude.{slice_get}
 use Rattle.std.proofs.lemmas.List.{length-drop, length-take, get_or-take, get_or-drop}
 use Rattle.std.proofs.lemmas.Option.{slice_get-get_or}
+use Rattle.std.proofs.Math.Nat.{div-le_of_le-mul}
 use Rattle.std.proofs.lemmas.Bool.Decides.{eqb_tells}
 use Rattle.std.proofs.lemmas.Bool.{lt-ltb, ltb-true, eq-eqb, eqb-true, le-leb}
 use Rattle.tcp_segment.specs.Segment.{Spells}
@@ -17,11 +18,11 @@ use Rattle.tcp_state.specs.declared.state.State.{State}
 use Rattle.tcp_state.specs.declared.state.State.TheVariants.{SynSent, SynReceived}
 use Rattle.tcp_halves.specs.Halves.{Receiving}
 use Rattle.tcp_halves.specs.Stream.{receive_window}
-use Rattle.tcp_halves.specs.Windows.{receive_room, has_grown, after_advertisement}
+use Rattle.tcp_halves.specs.Windows.{has_grown, after_advertisement, window_field, syn_window, after_syn_advertisement}
 use Rattle.tcp_halves.proofs.Choices.{either, clash, and_left, and_right, both}
-use Rattle.tcp_halves.proofs.Keeping.{advertisement_keeps}
+use Rattle.tcp_halves.proofs.Keeping.{IsKeeping, advertisement_keeps}
 use Rattle.tcp_state.specs.View.{View, IsSound, is_opening, is_syn_sent, is_syn_received}
-use Rattle.tcp_state.specs.Due.{IsHeld, MayGoOut, probe_stretch, flags_of, flags_of_stretch, number_of, window_of, head_of, octets_of, octets_of_stretch, segment_octets, after_syn_out, after_stretch, after_probe, after_ack_paid, after_emitted}
+use Rattle.tcp_state.specs.Due.{IsHeld, MayGoOut, probe_stretch, flags_of, flags_of_stretch, number_of, window_of, head_of, octets_of, octets_of_stretch, segment_octets, after_syn_out, after_stretch, after_probe, after_ack_paid, after_syn_ack_paid, after_emitted}
 use Rattle.tcp_state.specs.Said.{segment_of, IsSo}
 use Rattle.tcp_state.proofs.Sizes.{emitted_short}
 use Rattle.tcp_state.proofs.Sound.{sound_keeping}
@@ -47,23 +48,35 @@ octet_at l offset count i within below =
 
 -- The window that is told.
 
-edge_kept : (r : Receiving) → receive_window (after_advertisement r) ≡ past (after_advertisement r).edge r.rnext
-edge_kept r = either Receiving (λ x. receive_window x ≡ past x.edge r.rnext) (has_grown r) (record r { edge = (r.rnext + receive_room r) % 2 ^ 32 }) r (λ grown. refl) (λ small. refl)
+edge_kept : (r : Receiving) → window_field (after_advertisement r) ≡ past (after_advertisement r).edge r.rnext / r.unit
+edge_kept r = either Receiving (λ x. window_field x ≡ past x.edge r.rnext / r.unit) (has_grown r) _ r (λ grown. refl) (λ small. refl)
 
-told_size : (r : Receiving) → (after_advertisement r).size ≡ r.size
-told_size r = either Receiving (λ t. t.size ≡ r.size) (has_grown r) (record r { edge = (r.rnext + receive_room r) % 2 ^ 32 }) r (λ grown. refl) (λ small. refl)
+field_small : (r : Receiving) → IsKeeping r → window_field r < 2 ^ 16
+field_small r is =
+    let few : receive_window r ≤ r.unit * 65535 = omega (arith, is.fits, is.told) in
+    let least = div-le_of_le-mul r.unit few in
+    omega (arith, least)
 
-window_small : (v : View) → IsSound v → receive_window (after_advertisement v.receiving) < 2 ^ 16
-window_small v sound = let is = advertisement_keeps v.receiving (sound_keeping v sound) in let fits = is.fits in omega (arith, fits, told_size v.receiving, sound.receive_size)
+window_small : (v : View) → IsSound v → window_field (after_advertisement v.receiving) < 2 ^ 16
+window_small v sound = field_small (after_advertisement v.receiving) (advertisement_keeps v.receiving (sound_keeping v sound))
 
-told : (v w : View) (edge : ℕ) → w.receiving ≡ v.receiving → edge ≡ (after_ack_paid w).receiving.edge → receive_window (after_advertisement v.receiving) ≡ past edge v.receiving.rnext
-told v w edge same is = edge_kept v.receiving ∙ ap (λ n. past n v.receiving.rnext) (sym (is ∙ ap (λ (r : Receiving). (after_advertisement r).edge) same))
+told : (v w : View) (edge : ℕ) → w.receiving ≡ v.receiving → edge ≡ (after_ack_paid w).receiving.edge → window_field (after_advertisement v.receiving) ≡ past edge v.receiving.rnext / v.receiving.unit
+told v w edge same is = edge_kept v.receiving ∙ ap (λ n. past n v.receiving.rnext / v.receiving.unit) (sym (is ∙ ap (λ (r : Receiving). (after_advertisement r).edge) same))
+
+-- .. and with a SYN, in octets
+syn_edge_kept : (r : Receiving) → receive_window (after_syn_advertisement r) ≡ past (after_syn_advertisement r).edge r.rnext
+syn_edge_kept r = either Receiving (λ x. receive_window x ≡ past x.edge r.rnext) (nat_le (receive_window r + 1460) (syn_window r)) _ r (λ grown. refl) (λ small. refl)
+
+syn_told : (v w : View) (edge : ℕ) → w.receiving ≡ v.receiving → edge ≡ (after_syn_ack_paid w).receiving.edge
+    → min (receive_window (after_syn_advertisement v.receiving)) 65535 ≡ min (past edge v.receiving.rnext) 65535
+syn_told v w edge same is =
+    ap (λ n. min n 65535) (syn_edge_kept v.receiving ∙ ap (λ n. past n v.receiving.rnext) (sym (is ∙ ap (λ (r : Receiving). (after_syn_advertisement r).edge) same)))
 
 -- the window of a SYN alone: nothing was advertised or read yet
-first_told : (r : Receiving) → r.rnext < 2 ^ 32 → receive_window r ≡ 0 → length r.readable ≡ 0 → 1460 ≤ r.size → r.size ≤ 65535 → receive_window (after_advertisement r) ≡ r.size
-first_told r small shut empty wide told =
-    let has : has_grown r ≡ true = le-leb (receive_window r + 1460) (receive_room r) (omega (arith, shut, empty, wide)) in
-    ap (λ b. let t = if b then record r { edge = (r.rnext + receive_room r) % 2 ^ 32 } else r in receive_window t) has ∙ omega (arith, small, empty, told)
+first_told : (r : Receiving) → r.rnext < 2 ^ 32 → receive_window r ≡ 0 → length r.readable ≡ 0 → 1460 ≤ r.size → min (receive_window (after_syn_advertisement r)) 65535 ≡ min r.size 65535
+first_told r small shut empty wide =
+    let has : nat_le (receive_window r + 1460) (syn_window r) ≡ true = le-leb (receive_window r + 1460) (syn_window r) (omega (arith, shut, empty, wide)) in
+    ap (λ b. let t = if b then record r { edge = (r.rnext + syn_window r) % 2 ^ 32 } else r in min (receive_window t) 65535) has ∙ omega (arith, small, empty)
 
 sent_alone : (t : State) → is_opening t ≡ true → is_syn_received t ≡ false → t ≡ SynSent
 sent_alone SynSent opening waits = refl
@@ -88,14 +101,14 @@ at_una v sound = let first = from_una v in omega (arith, sound.una, first)
 -- What each says.
 
 so_stretch : (v : View) (stretch : Stretch) (number edge : ℕ) → IsSound v → IsHeld v stretch → number ≡ wire v.sending.una stretch.offset
-    → receive_window (after_advertisement v.receiving) ≡ past edge v.receiving.rnext
+    → window_field (after_advertisement v.receiving) ≡ past edge v.receiving.rnext / v.receiving.unit
     → IsSo v edge (sent_segment (record {
       source = v.local.port;
       destination = v.peer.port;
       number = record { 0 = number };
       acknowledgement = record { 0 = v.receiving.rnext };
       flags = flags_of_stretch v stretch;
-      window = receive_window (after_advertisement v.receiving);
+      window = window_field (after_advertisement v.receiving);
       scales = false;
     }) (octets_of_stretch v stretch))
 so_stretch v stretch number edge sound held is window =
@@ -116,7 +129,8 @@ so_stretch v stretch number edge sound held is window =
             both (nat_lt 0 stretch.count) last (lt-ltb 0 stretch.count (omega (arith, len, some))) (eq-eqb (stretch.offset + stretch.count) (length l) (omega (arith, len, place, end)))),
       );
       acknowledgement = λ acks. refl;
-      window = λ acks. window;
+      window = λ plain acks. window;
+      syn_window = λ syn acks. cc;
       unacknowledging = λ none. cc;
       first = λ syn none. cc;
       syn = λ syn. cc;
@@ -138,14 +152,15 @@ so_syn v now sound opening =
       fin = λ ends. cc;
       psh = ((λ psh. cc), (λ p. let some = p.0 in absurd (omega (arith, some))));
       acknowledgement = λ acks. ap (λ b. if b then r.rnext else 0) acks;
-      window = λ acks. told v sent (after_emitted v Syn now).receiving.edge same (ap (λ b. let w = if b then after_ack_paid sent else sent in w.receiving.edge) acks);
+      window = λ plain acks. cc;
+      syn_window = λ syn acks. syn_told v sent (after_emitted v Syn now).receiving.edge same (ap (λ b. let w = if b then after_syn_ack_paid sent else sent in w.receiving.edge) acks);
       unacknowledging = λ none. ap (λ b. if b then r.rnext else 0) none;
       first = λ syn none. let shut = shut_at_first v.receiving.size v.state (receive_window r) (length r.readable) (sent_alone v.state opening none) sound.untold sound.readable in
-          first_told r sound.rnext shut.0 shut.1 sound.receive_least sound.receive_size;
+          first_told r sound.rnext shut.0 shut.1 sound.receive_least;
       syn = λ syn. (refl, refl, refl);
       plain = λ none. cc;
       rst = λ rst. cc;
-      small = window_small v sound;
+      small = omega arith;
       urgent = refl;
     }
 
@@ -157,7 +172,8 @@ says_what_is_so v Rst now sound may = record {
   fin = λ ends. cc;
   psh = ((λ psh. cc), (λ p. let some = p.0 in absurd (omega (arith, some))));
   acknowledgement = λ acks. cc;
-  window = λ acks. cc;
+  window = λ plain acks. cc;
+  syn_window = λ syn acks. cc;
   unacknowledging = λ none. refl;
   first = λ syn none. cc;
   syn = λ syn. cc;
@@ -178,7 +194,8 @@ says_what_is_so v Ack now sound may = record {
   fin = λ ends. cc;
   psh = ((λ psh. cc), (λ p. let some = p.0 in absurd (omega (arith, some))));
   acknowledgement = λ acks. refl;
-  window = λ acks. told v v (after_emitted v Ack now).receiving.edge refl refl;
+  window = λ plain acks. told v v (after_emitted v Ack now).receiving.edge refl refl;
+  syn_window = λ syn acks. cc;
   unacknowledging = λ none. cc;
   first = λ syn none. cc;
   syn = λ syn. cc;
@@ -197,9 +214,9 @@ number_fits v (Text stretch) sound = omega arith
 number_fits v Probe sound = sound.una
 number_fits v Ack sound = ack_fits v sound
 
-window_fits : (v : View) (due : Due) → IsSound v → window_of v due < 2 ^ 16
+pub window_fits : (v : View) (due : Due) → IsSound v → window_of v due < 2 ^ 16
 window_fits v Rst sound = omega arith
-window_fits v Syn sound = window_small v sound
+window_fits v Syn sound = omega arith
 window_fits v (Text stretch) sound = window_small v sound
 window_fits v Probe sound = window_small v sound
 window_fits v Ack sound = window_small v sound

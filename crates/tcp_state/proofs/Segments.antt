@@ -6,7 +6,7 @@ use Rattle.tcp_state.specs.declared.state.State.{State}
 use Rattle.tcp_state.specs.declared.state.State.TheVariants.{SynSent, Established}
 use Rattle.tcp_halves.specs.Numbers.{is_before}
 use Rattle.tcp_halves.specs.Stream.{is_new_ack, is_in_window, after_syn, after_end, after_syn_acknowledged}
-use Rattle.tcp_halves.specs.Windows.{after_syn_heard}
+use Rattle.tcp_halves.specs.Windows.{after_syn_heard, syn_window}
 use Rattle.tcp_state.specs.Resend.{unmarked}
 use Rattle.tcp_state.specs.View.{View, is_syn_sent, is_syn_received, is_closed, after_reset}
 use Rattle.tcp_state.specs.Arrival.{owing_ack, reset_error, after_rst_in_syn_sent, after_rst, is_right_syn_ack, after_syn_ack, is_simultaneous_syn, after_simultaneous_syn, is_acceptable_to, ends_by_syn, is_acting_reset, ends_by_reset, after_establishment, is_of_fin, fin_acknowledged, after_new_ack, after_ack, is_read_on, is_receiving, after_window, after_text, after_fin, after_acknowledging_segment, after_acceptable_segment, after_segment, is_read, is_lost, after_lost, after_heard, acknowledges_unsent, is_rejected, before, timed_by, after_segment_at}
@@ -25,7 +25,7 @@ abbrev pub opened_by_syn_ack : View → Segment → View
 opened_by_syn_ack v s = record v {
   state = Established;
   sending = after_syn_acknowledged (after_syn_heard v.sending s.number s.window (smss_of s));
-  receiving = after_syn v.receiving s.number v.receiving.size;
+  receiving = after_syn v.receiving s.number (syn_window v.receiving);
   owes_ack = true;
   resend = unmarked v.resend;
 }

@@ -1,5 +1,5 @@
 -- What an event is to the congestion window, in the words of what it acknowledges.
-use Rattle.std.proofs.Common.{◌≡◌, ◌≢◌, ℕ, ◌+◌, ◌-◌, ◌%◌, ◌^◌, ◌<◌, ◌≤◌, ◌==◌, ◌&&◌, ◌||◌, ◌⊎◌, ◌↔◌, not, nat_lt, nat_le, min, max, if◌then◌else◌, Bool, true, false, List, [], ◌∷◌, length, drop, Some, inl, inr, arith, refl, sym, ◌∙◌, ap, ap₂, subst}
+use Rattle.std.proofs.Common.{◌≡◌, ◌≢◌, ℕ, ◌+◌, ◌-◌, ◌%◌, ◌^◌, ◌<◌, ◌≤◌, ◌==◌, ◌&&◌, ◌||◌, ◌⊎◌, ◌↔◌, not, nat_lt, nat_le, min, if◌then◌else◌, Bool, true, false, List, [], ◌∷◌, length, drop, Some, inl, inr, arith, refl, sym, ◌∙◌, ap, ap₂, subst}
 use Rattle.std.proofs.lemmas.Bool.{eqb-true, eq-eqb, lt-ltb, ltb-true}
 use Rattle.std.proofs.lemmas.Bool.Decides.{eqb_tells, leb_tells}
 use Rattle.std.proofs.lemmas.List.{length-drop}
@@ -14,7 +14,7 @@ use Rattle.tcp_state.specs.declared.state.State.TheVariants.{SynSent, SynReceive
 use Rattle.tcp_halves.specs.Halves.{Sending}
 use Rattle.tcp_halves.specs.Numbers.{is_before}
 use Rattle.tcp_halves.specs.Stream.{outstanding, is_new_ack, stands_next, after_octets, after_end}
-use Rattle.tcp_halves.specs.Windows.{updates_window}
+use Rattle.tcp_halves.specs.Windows.{window_in, updates_window}
 use Rattle.tcp_halves.proofs.Choices.{either, by, clash, and_left, and_right, and_false, both, not_true, of_false, or_right}
 use Rattle.tcp_state.specs.View.{View, IsSound, is_opening, is_syn_sent, is_syn_received, is_closed, is_write_finished, takes_flag_number, is_at_end, after_stop, after_reset}
 use Rattle.tcp_state.specs.Congestion.{Signal, after_signal}
@@ -90,7 +90,7 @@ duplicate_tells v s e =
     let bare = flies && (length s.octets == 0) in
     let goes_on = bare && not s.flags.fin in
     let at_una = goes_on && (s.acknowledgement == v.sending.una) in
-    let six = and_left at_una (s.window == v.sending.window) e in
+    let six = and_left at_una (window_in v.sending s.window == v.sending.window) e in
     let five = and_left goes_on (s.acknowledgement == v.sending.una) six in
     let four = and_left bare (not s.flags.fin) five in
     let three = and_left flies (length s.octets == 0) four in
@@ -103,7 +103,7 @@ duplicate_tells v s e =
       acceptable = r.accepted;
       ack = r.ack;
       at_una = eqb-true s.acknowledgement v.sending.una (and_right goes_on (s.acknowledgement == v.sending.una) six);
-      window = eqb-true s.window v.sending.window (and_right at_una (s.window == v.sending.window) e);
+      window = eqb-true (window_in v.sending s.window) v.sending.window (and_right at_una (window_in v.sending s.window == v.sending.window) e);
       octets = no_octets s.octets (eqb-true (length s.octets) 0 (and_right flies (length s.octets == 0) four));
       no_syn = r.no_syn;
       no_fin = not_true s.flags.fin (and_right bare (not s.flags.fin) five);
@@ -124,7 +124,7 @@ is_repeated v s sound d =
     let four = both flies (length s.octets == 0) three (eq-eqb (length s.octets) 0 (ap length d.octets)) in
     let five = both bare (not s.flags.fin) four (of_false s.flags.fin d.no_fin) in
     let six = both goes_on (s.acknowledgement == v.sending.una) five (eq-eqb s.acknowledgement v.sending.una d.at_una) in
-    both at_una (s.window == v.sending.window) six (eq-eqb s.window v.sending.window d.window)
+    both at_una (window_in v.sending s.window == v.sending.window) six (eq-eqb (window_in v.sending s.window) v.sending.window d.window)
 
 pub duplicates_are : (v : View) (s : Segment) → IsSound v → (is_duplicate v s ≡ true) ↔ IsDuplicate v s
 duplicates_are v s sound = (duplicate_tells v s, is_repeated v s sound)
@@ -180,8 +180,7 @@ only_window v s sound d =
 window_stays : (v : View) (s : Segment) → ((after_window v s).sending.una ≡ v.sending.una) × ((after_window v s).sending.nxt ≡ v.sending.nxt) × ((after_window v s).sending.held ≡ v.sending.held)
 window_stays v s =
     let x = v.sending in
-    either Sending (λ t. (t.una ≡ x.una) × (t.nxt ≡ x.nxt) × (t.held ≡ x.held)) (updates_window x s.number s.acknowledgement)
-    (record x { window = s.window; max_window = max x.max_window s.window; wl1 = s.number; wl2 = s.acknowledgement }) x (λ updates. (refl, refl, refl)) (λ stays. (refl, refl, refl))
+    either Sending (λ t. (t.una ≡ x.una) × (t.nxt ≡ x.nxt) × (t.held ≡ x.held)) (updates_window x s.number s.acknowledgement) _ x (λ updates. (refl, refl, refl)) (λ stays. (refl, refl, refl))
 
 -- What a segment is that comes to the connection.
 

@@ -1,5 +1,5 @@
 -- Why two connections that open to each other at the same time both open.
-use Rattle.std.proofs.Common.{◌≡◌, ℕ, ◌+◌, ◌-◌, ◌%◌, ◌^◌, ◌<◌, ◌==◌, ◌||◌, ◌&&◌, not, min, max, nat_lt, nat_le, if◌then◌else◌, Bool, true, false, [], Option, Some, None, inl, inr, option_map, arith, refl, sym, ◌∙◌, ap, subst}
+use Rattle.std.proofs.Common.{◌≡◌, ℕ, ◌+◌, ◌-◌, ◌*◌, ◌/◌, ◌%◌, ◌^◌, ◌<◌, ◌==◌, ◌||◌, ◌&&◌, not, min, max, nat_lt, nat_le, if◌then◌else◌, Bool, true, false, [], Option, Some, None, inl, inr, option_map, arith, refl, sym, ◌∙◌, ap, subst}
 use Rattle.std.proofs.lemmas.Bool.{lt-ltb, le-ltb, lt-leb, le-leb}
 use Rattle.std.proofs.lemmas.Bool.Decides.{eqb_tells}
 use Rattle.ipv4.specs.declared.addr.Endpoint.{Endpoint}
@@ -18,14 +18,14 @@ use Rattle.tcp_state.specs.declared.state.State.TheVariants.{SynReceived, Establ
 use Rattle.tcp_halves.specs.Numbers.{is_before, later_number}
 use Rattle.tcp_halves.specs.Halves.{Receiving}
 use Rattle.tcp_halves.specs.Stream.{outstanding, sending_from, receiving_nothing, receive_window, is_in_window, is_acceptable}
-use Rattle.tcp_halves.specs.Windows.{updates_window, is_worth_sending, has_grown, after_advertisement}
+use Rattle.tcp_halves.specs.Windows.{window_in, updates_window, is_worth_sending, has_grown, after_advertisement, window_field, after_syn_advertisement}
 use Rattle.tcp_state.specs.Resend.{Resend, first_resend, mark_past, resend_lost}
 use Rattle.tcp_state.specs.Timing.{waiting_since, clocked}
 use Rattle.tcp_state.specs.View.{View, first_congestion, opened_actively}
 use Rattle.tcp_state.specs.Congestion.{after_signal}
 use Rattle.tcp_state.specs.Congestion.Signal.{Begins, Nothing}
 use Rattle.tcp_state.specs.Arrival.{owing_ack, after_establishment, after_window, after_text, after_fin, after_acceptable_segment, is_acceptable_to, acknowledges_unsent, answers_probe, before, reveals_loss, timed_by, after_heard}
-use Rattle.tcp_state.specs.Due.{first_due, ack_due, new_octets, head_of, octets_of, after_ack_paid, after_resent, after_first_sent, after_syn_again}
+use Rattle.tcp_state.specs.Due.{first_due, ack_due, new_octets, head_of, octets_of, after_syn_ack_paid, after_resent, after_first_sent, after_syn_again}
 use Rattle.tcp_state.specs.Edges.{Hears, Emits, after_first, after_event}
 use Rattle.tcp_state.specs.Simultaneous.{first_segment, after_coming, Ends, crossed, AnswersSyn, HasOpened}
 use Rattle.tcp_state.proofs.Clocked.{comes_to, unmoved, timed_unmoved}
@@ -46,7 +46,7 @@ waiting here there isn first = record (opened_actively 65535 here there isn firs
 
 -- it has both SYNs
 abbrev receives : ℕ → Receiving
-receives other = record { readable = []; kept = (receiving_nothing 65535).kept; rnext = wire other 1; edge = (wire other 1 + 65535) % 2 ^ 32; size = 65535; capacity = 65535 }
+receives other = record { readable = []; kept = (receiving_nothing 65535).kept; rnext = wire other 1; edge = (wire other 1 + 65535) % 2 ^ 32; size = 65535; capacity = 65535; unit = 1 }
 
 abbrev answering : Endpoint → Endpoint → ℕ → ℕ → Bool → Bool → Resend → Moment → View
 answering here there isn other owes spoke resend first = record (opened_actively 65535 here there isn first) {
@@ -72,7 +72,7 @@ again_sent here there isn other owes spoke first = answering here there isn othe
 abbrev opened : Endpoint → Endpoint → ℕ → ℕ → View
 opened here there isn other = record (opened_actively 65535 here there isn (record { 0 = 0 })) {
   state = Established;
-  sending = record { held = []; una = wire isn 1; nxt = wire isn 1; window = 65535; max_window = 65535; wl1 = wire other 1; wl2 = wire isn 1; smss = 1460; size = 65535 };
+  sending = record { held = []; una = wire isn 1; nxt = wire isn 1; window = 65535; max_window = 65535; wl1 = wire other 1; wl2 = wire isn 1; smss = 1460; size = 65535; unit = 1 };
   receiving = receives other;
   spoke = true;
   congestion = initial_window 1460 false;
@@ -103,6 +103,9 @@ full n fits = ap (λ w. nat_le (w + 1460) 65535) (told n fits)
 
 still_told : (n : ℕ) → n < 2 ^ 32 → after_advertisement (receives n) ≡ receives n
 still_told n fits = ap (λ b. if b then record (receives n) { edge = (wire n 1 + 65535) % 2 ^ 32 } else receives n) (full n fits)
+
+still_told_by_syn : (n : ℕ) → n < 2 ^ 32 → after_syn_advertisement (receives n) ≡ receives n
+still_told_by_syn n fits = ap (λ b. if b then record (receives n) { edge = (wire n 1 + 65535) % 2 ^ 32 } else receives n) (full n fits)
 
 -- its acknowledgement moves SND.UNA
 moves : (n : ℕ) → n < 2 ^ 32 → not (n == wire n 1) ≡ true
@@ -163,10 +166,10 @@ syn_ack_goes here there isn other first now fits other_fits =
     let v = again_due here there isn other first in
     let w = again_sent here there isn other false false first in
     ap (λ d. after_first v d now) (first_is_syn_ack here there isn other first fits)
-    ∙ (ap (λ n. clocked false (after_ack_paid (out_again v now n)) now) (one_out isn fits)
-    ∙ (ap (λ n. clocked false (after_ack_paid (record w { sending = record w.sending { nxt = n }; resend = record first_resend { mark = mark_past 1 (past n isn) } })) now) (sent_again isn)
-    ∙ (ap (λ n. clocked false (after_ack_paid (record w { resend = record first_resend { mark = mark_past 1 n } })) now) (one_out isn fits)
-    ∙ (ap (λ r. clocked false (record w { receiving = r }) now) (still_told other other_fits) ∙ ap (running_if w None now first) (one_out isn fits)))))
+    ∙ (ap (λ n. clocked false (after_syn_ack_paid (out_again v now n)) now) (one_out isn fits)
+    ∙ (ap (λ n. clocked false (after_syn_ack_paid (record w { sending = record w.sending { nxt = n }; resend = record first_resend { mark = mark_past 1 (past n isn) } })) now) (sent_again isn)
+    ∙ (ap (λ n. clocked false (after_syn_ack_paid (record w { resend = record first_resend { mark = mark_past 1 n } })) now) (one_out isn fits)
+    ∙ (ap (λ r. clocked false (record w { receiving = r }) now) (still_told_by_syn other other_fits) ∙ ap (running_if w None now first) (one_out isn fits)))))
 
 abbrev syn_ack_of : Endpoint → Endpoint → ℕ → ℕ → Moment → Segment
 syn_ack_of here there isn other first = sent_segment (head_of (again_due here there isn other first) Syn) []
@@ -238,9 +241,9 @@ ack_heard here there isn other first fits other_fits =
     let e = after_establishment v in
     ap (λ b. if b then after_acceptable_segment v s else owing_ack v) (in_order other other_fits)
     ∙ (ap (λ b. if b then after_fin (after_text (after_window (if b then e else v) s) s) s else (if b then e else v)) (acknowledges isn fits)
-    ∙ (ap (λ b. record w { sending = if b then record w.sending { window = s.window; max_window = max 65535 s.window } else e.sending }) (updates isn other other_fits)
-    ∙ (ap (λ r. record w { sending = record w.sending { window = receive_window r; max_window = max 65535 (receive_window r) } }) (still_told isn fits)
-    ∙ ap (λ n. record w { sending = record w.sending { window = n; max_window = max 65535 n } }) (told isn fits))))
+    ∙ (ap (λ b. record w { sending = if b then record w.sending { window = window_in e.sending s.window; max_window = max 65535 (window_in e.sending s.window) } else e.sending }) (updates isn other other_fits)
+    ∙ (ap (λ r. record w { sending = record w.sending { window = window_field r * 1; max_window = max 65535 (window_field r * 1) } }) (still_told isn fits)
+    ∙ ap (λ n. record w { sending = record w.sending { window = n / 1 * 1; max_window = max 65535 (n / 1 * 1) } }) (told isn fits))))
 
 -- the connection is open: no timer runs
 at_rest : (here there : Endpoint) (isn other : ℕ) (first now : Moment) → clocked true (record (opened here there isn other) { timers = runs_from first }) now ≡ opened here there isn other

@@ -13,7 +13,7 @@ use Rattle.tcp_halves.specs.Windows.{receive_room, has_grown}
 use Rattle.tcp_halves.proofs.Choices.{either, clash, and_left, and_right, both, or_else, of_false}
 use Rattle.tcp_state.specs.View.{View, is_opening, is_syn_received, is_closed}
 use Rattle.tcp_state.specs.Arrival.{beyond_fin, beyond_end, is_receiving, after_ack, after_window, after_text, after_heard}
-use Rattle.tcp_state.specs.Due.{first_due, flags_of, after_ack_paid, after_resent, after_first_sent, after_numbers, after_syn_out, after_emitted}
+use Rattle.tcp_state.specs.Due.{first_due, flags_of, after_syn_ack_paid, after_resent, after_first_sent, after_numbers, after_syn_out, after_emitted}
 use Rattle.tcp_state.specs.Edges.{Event, Emits, after_first, after_event}
 use Rattle.tcp_state.proofs.Clocked.{timers_keep, syn_out}
 use Rattle.tcp_state.proofs.Emissions.{is_ack_due, by_due}
@@ -77,7 +77,7 @@ syn_spoke v now =
     let P : View → Type 0 = λ w. w.spoke ≡ v.spoke in
     let numbers : P (after_numbers v 0 1 now) = either View P _ (after_resent v 1) (after_first_sent v 1 now) (λ again. refl) (λ first. refl) in
     let sent : P (after_syn_out v now) = syn_out v now P numbers numbers in
-    either View P (is_syn_received v.state) (after_ack_paid (after_syn_out v now)) (after_syn_out v now) (λ received. sent) (λ waits. sent)
+    either View P (is_syn_received v.state) (after_syn_ack_paid (after_syn_out v now)) (after_syn_out v now) (λ received. sent) (λ waits. sent)
 
 emission_spoke : (v : View) (now : Moment) → Spoken v (Emits now) (after_first v (first_due v) now)
 emission_spoke v now = gone (first_due v) refl

@@ -1,5 +1,5 @@
 -- Why the clock, and what goes out, leave the streams as they are.
-use Rattle.std.proofs.Common.{◌≡◌, ℕ, ◌+◌, ◌%◌, ◌^◌, true, false, [], Option, Some, None, refl, sym, ◌∙◌, ap}
+use Rattle.std.proofs.Common.{◌≡◌, ℕ, ◌+◌, nat_le, true, false, [], Option, Some, None, refl, sym, ◌∙◌, ap}
 use Rattle.clock.specs.declared.moment.Moment.{Moment}
 use Rattle.clock.specs.Moments.{has_come}
 use Rattle.retransmit.specs.Deadlines.{next_of}
@@ -7,11 +7,12 @@ use Rattle.tcp_state.specs.declared.calls.Refusal.TheVariants.{ETIMEDOUT}
 use Rattle.tcp_state.specs.declared.emission.Due.{Due}
 use Rattle.tcp_state.specs.declared.emission.Due.TheVariants.{Rst, Syn, Text, Probe, Ack}
 use Rattle.tcp_halves.specs.Halves.{Sending, Receiving}
-use Rattle.tcp_halves.specs.Windows.{receive_room, has_grown, after_advertisement}
+use Rattle.tcp_halves.specs.Windows.{has_grown, after_advertisement, syn_window, after_syn_advertisement}
+use Rattle.tcp_halves.specs.Stream.{receive_window}
 use Rattle.tcp_halves.proofs.Choices.{either, clash}
 use Rattle.tcp_state.specs.View.{View, is_closed, is_syn_received, is_at_end, after_stop, after_reset}
 use Rattle.tcp_state.specs.Timing.{clocked, gives_up, after_timers, after_tick}
-use Rattle.tcp_state.specs.Due.{first_due, after_ack_paid, after_syn_out, after_stretch, after_probe, after_emitted}
+use Rattle.tcp_state.specs.Due.{first_due, after_syn_ack_paid, after_syn_out, after_stretch, after_probe, after_emitted}
 use Rattle.tcp_state.specs.Edges.{Ticks, Emits, after_first, after_event}
 use Rattle.tcp_state.proofs.Clocked.{timers_keep, syn_out}
 use Rattle.tcp_state.proofs.Edges.{emitted-state}
@@ -48,23 +49,27 @@ sent_as : (s t : Sending) (n : ℕ) → t ≡ record s { nxt = n } → t ≡ rec
 sent_as s t n is = is ∙ ap (λ m. record s { nxt = m }) (sym (ap (λ (x : Sending). x.nxt) is))
 
 advertised : (r : Receiving) → after_advertisement r ≡ record r { edge = (after_advertisement r).edge }
-advertised r = either Receiving (λ t. t ≡ record r { edge = t.edge }) (has_grown r) (record r { edge = (r.rnext + receive_room r) % 2 ^ 32 }) r (λ grown. refl) (λ small. refl)
+advertised r = either Receiving (λ t. t ≡ record r { edge = t.edge }) (has_grown r) _ r (λ grown. refl) (λ small. refl)
 
--- an acknowledgement goes with it
-paid : (v w : View) (n : ℕ) → w.sending ≡ record v.sending { nxt = n } → w.receiving ≡ v.receiving → Moves v (after_ack_paid w)
-paid v w n sends receives =
-    (sent_as v.sending w.sending n sends, ap after_advertisement receives ∙ advertised v.receiving ∙ ap (λ r. record v.receiving { edge = (after_advertisement r).edge }) (sym receives))
+syn_advertised : (r : Receiving) → after_syn_advertisement r ≡ record r { edge = (after_syn_advertisement r).edge }
+syn_advertised r = either Receiving (λ t. t ≡ record r { edge = t.edge }) (nat_le (receive_window r + 1460) (syn_window r)) _ r (λ grown. refl) (λ small. refl)
+
+-- an acknowledgement goes with it, which advertises a window
+paid : (v w : View) (n : ℕ) (told : Receiving → Receiving) → ((r : Receiving) → told r ≡ record r { edge = (told r).edge }) → w.sending ≡ record v.sending { nxt = n } → w.receiving ≡ v.receiving
+    → Moves v (record w { receiving = told w.receiving; owes_ack = false; delays_ack = false })
+paid v w n told edge sends receives =
+    (sent_as v.sending w.sending n sends, ap told receives ∙ edge v.receiving ∙ ap (λ r. record v.receiving { edge = (told r).edge }) (sym receives))
 
 moves : (v : View) (due : Due) (now : Moment) → Moves v (after_emitted v due now)
 moves v Rst now = (refl, refl)
 moves v Syn now =
     let sent = after_syn_out v now in
     let receives : sent.receiving ≡ v.receiving = syn_out v now (λ w. w.receiving ≡ v.receiving) (numbers_receive v 0 1 now) (numbers_receive v 0 1 now) in
-    either View (Moves v) (is_syn_received v.state) (after_ack_paid sent) sent (λ received. paid v sent _ (syn_sends v now) receives)
+    either View (Moves v) (is_syn_received v.state) (after_syn_ack_paid sent) sent (λ received. paid v sent _ after_syn_advertisement syn_advertised (syn_sends v now) receives)
     (λ first. (sent_as v.sending sent.sending _ (syn_sends v now), receives ∙ ap (λ (r : Receiving). record v.receiving { edge = r.edge }) (sym receives)))
-moves v (Text stretch) now = paid v (after_stretch v stretch now) _ (stretch_sends v stretch now) (stretch_receives v stretch now)
-moves v Probe now = paid v (after_probe v) _ (probe_sends v) (probe_receives v)
-moves v Ack now = paid v v _ refl refl
+moves v (Text stretch) now = paid v (after_stretch v stretch now) _ after_advertisement advertised (stretch_sends v stretch now) (stretch_receives v stretch now)
+moves v Probe now = paid v (after_probe v) _ after_advertisement advertised (probe_sends v) (probe_receives v)
+moves v Ack now = paid v v _ after_advertisement advertised refl refl
 
 moves_first : (v : View) (o : Option Due) (now : Moment) → Moves v (after_first v o now)
 moves_first v None now = (refl, refl)

@@ -14,6 +14,7 @@ use Rattle.tcp_state.specs.declared.state.State.{State}
 use Rattle.tcp_state.specs.declared.state.State.TheVariants.{SynSent, SynReceived}
 use Rattle.tcp_halves.specs.Numbers.{later_number}
 use Rattle.tcp_halves.specs.Halves.{Sending}
+use Rattle.tcp_halves.specs.Windows.{window_in}
 use Rattle.tcp_halves.specs.Stream.{outstanding, is_new_ack}
 use Rattle.tcp_state.specs.View.{View, IsSound, is_opening, is_syn_sent, is_syn_received, is_closed, is_over, is_write_closed, after_reset}
 use Rattle.tcp_state.specs.Resend.{mark_past}
@@ -58,7 +59,7 @@ then_sent una nxt small fits few =
 -- while the connection opens, no segment is a duplicate ACK
 repeats_none : (v : View) (s : Segment) → is_opening v.state ≡ true → is_duplicate v s ≡ false
 repeats_none v s opens =
-    ap (λ b. not b && is_read v s && nat_lt 0 (octets_outstanding v) && (length s.octets == 0) && not s.flags.fin && (s.acknowledgement == v.sending.una) && (s.window == v.sending.window)) opens
+    ap (λ b. not b && is_read v s && nat_lt 0 (octets_outstanding v) && (length s.octets == 0) && not s.flags.fin && (s.acknowledgement == v.sending.una) && (window_in v.sending s.window == v.sending.window)) opens
 
 answers : (v : View) (s : Segment) (now : Moment) → IsSound v → v.state ≡ SynSent → AnswersSyn v.sending.una s.number (timed_by (before v s) (after_simultaneous_syn v s) now)
 answers v s now sound opens =

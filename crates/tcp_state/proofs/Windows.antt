@@ -1,12 +1,12 @@
 -- Why a window is believed only from a segment that is no older than the one that told the last.
-use Rattle.std.proofs.Common.{◌≡◌, ℕ, ◌^◌, ◌<◌, ◌≤◌, ◌≢◌, ◌==◌, ◌||◌, ◌&&◌, ◌⊎◌, ◌↔◌, not, Bool, true, false, inl, inr, arith, refl, sym, ◌∙◌, ap, subst}
+use Rattle.std.proofs.Common.{◌≡◌, ℕ, ◌*◌, ◌^◌, ◌<◌, ◌≤◌, ◌≢◌, ◌==◌, ◌||◌, ◌&&◌, ◌⊎◌, ◌↔◌, not, Bool, true, false, inl, inr, arith, refl, sym, ◌∙◌, ap, subst}
 use Rattle.std.proofs.lemmas.Bool.Decides.{leb_tells, eqb_tells}
 use Rattle.tcp_segment.specs.Wire.{wire, past}
 use Rattle.tcp_segment.specs.Segment.{Segment}
 use Rattle.clock.specs.declared.moment.Moment.{Moment}
 use Rattle.tcp_halves.specs.Numbers.{is_before}
 use Rattle.tcp_halves.specs.Halves.{Sending}
-use Rattle.tcp_halves.specs.Windows.{updates_window}
+use Rattle.tcp_halves.specs.Windows.{window_in, updates_window}
 use Rattle.tcp_state.specs.Positions.{AreNear}
 use Rattle.tcp_state.specs.View.{View, is_syn_sent}
 use Rattle.tcp_state.specs.Arrival.{after_ack, after_window, after_heard, after_segment_at}
@@ -68,13 +68,17 @@ told_by_positions peer own una last latest number ack s is_una is_wl1 is_wl2 nea
     (believed (is_before (wire own ack) (wire own una)) (is_before (wire peer last) (wire peer number)) (wire peer last == wire peer number) (is_before (wire own ack) (wire own latest)) una ack last number latest
     (before_tells own ack una near_una) (before_tells peer last number near_last) (same_tells peer last number near_last) (before_tells own ack latest near_latest))
 
--- What a segment makes of the window that is believed: it stays with the number that told it, or it is the segment's, which is no older, or which opens the
--- connection.
+-- What a segment makes of the window that is believed: it stays with the number that told it, or it is the segment's, which is no older, in units of the peer's, or which opens
+-- the connection.
 abbrev Believes : View → Segment → View → Type 0
 Believes v s w =
     ((w.sending.window ≡ v.sending.window) × (w.sending.wl1 ≡ v.sending.wl1))
-    ⊎ ((w.sending.window ≡ s.window) × (w.sending.wl1 ≡ s.number)
-    × ((is_syn_sent v.state ≡ true) ⊎ ((updates_window (after_ack v s.acknowledgement).sending s.number s.acknowledgement ≡ true) × (w.sending.wl2 ≡ s.acknowledgement))))
+    ⊎ ((w.sending.wl1 ≡ s.number) × (((is_syn_sent v.state ≡ true) × (w.sending.window ≡ s.window))
+    ⊎ ((w.sending.window ≡ window_in v.sending s.window) × (updates_window (after_ack v s.acknowledgement).sending s.number s.acknowledgement ≡ true) × (w.sending.wl2 ≡ s.acknowledgement))))
+
+-- an acknowledgement leaves the unit of the peer's windows
+ack_unit : (v : View) (ack : ℕ) → (after_ack v ack).sending.unit ≡ v.sending.unit
+ack_unit v ack = by_ack (λ w. w.sending.unit ≡ v.sending.unit) v ack (record { old = refl; beyond = refl; opens = λ received new. refl; octets = λ new. refl; fin = λ new fin. refl })
 
 ack_believes : (v : View) (ack : ℕ) → ((after_ack v ack).sending.window ≡ v.sending.window) × ((after_ack v ack).sending.wl1 ≡ v.sending.wl1)
 ack_believes v ack =
@@ -85,21 +89,22 @@ window_believes : (v : View) (s : Segment) → Believes v s (after_window (after
 window_believes v s =
     let acked = after_ack v s.acknowledgement in
     either Sending (λ t. Believes v s (record acked { sending = t })) (updates_window acked.sending s.number s.acknowledgement) _ acked.sending
-    (λ tells. inr (refl, refl, inr (tells, refl))) (λ none. inl (ack_believes v s.acknowledgement))
+    (λ tells. inr (refl, inr (ap (λ n. s.window * n) (ack_unit v s.acknowledgement), tells, refl))) (λ none. inl (ack_believes v s.acknowledgement))
 
 heard_believes : (v : View) (s : Segment) → Believes v s (after_heard v s)
 heard_believes v s = by_hearing (λ w. Believes v s w) v s (window_believes v s) (record {
   dropped = inl (refl, refl);
   drawn = inl (refl, refl);
   reset = λ acts. inl (refl, refl);
-  crossed = λ waits. inr (refl, refl, inl waits);
-  opened = λ waits right. inr (refl, refl, inl waits);
+  crossed = λ waits. inr (refl, inl (waits, refl));
+  opened = λ waits right. inr (refl, inl (waits, refl));
   acknowledged = λ taken. inl (ack_believes v s.acknowledgement);
   read = λ on. subst (λ x. Believes v s (record v { sending = x })) (sym (reading_sends v s)) (window_believes v s);
 })
 
 pub believes : (v : View) (s : Segment) (now : Moment)
     → (((after_segment_at v s now).sending.window ≡ v.sending.window) × ((after_segment_at v s now).sending.wl1 ≡ v.sending.wl1))
-    ⊎ (((after_segment_at v s now).sending.window ≡ s.window) × ((after_segment_at v s now).sending.wl1 ≡ s.number)
-    × ((is_syn_sent v.state ≡ true) ⊎ ((updates_window (after_ack v s.acknowledgement).sending s.number s.acknowledgement ≡ true) × ((after_segment_at v s now).sending.wl2 ≡ s.acknowledgement))))
+    ⊎ (((after_segment_at v s now).sending.wl1 ≡ s.number) × (((is_syn_sent v.state ≡ true) × ((after_segment_at v s now).sending.window ≡ s.window))
+    ⊎ (((after_segment_at v s now).sending.window ≡ window_in v.sending s.window)
+    × (updates_window (after_ack v s.acknowledgement).sending s.number s.acknowledgement ≡ true) × ((after_segment_at v s now).sending.wl2 ≡ s.acknowledgement))))
 believes v s now = by_clock (λ w. Believes v s w) v s now (inl (refl, refl)) (λ lives. heard_believes v s)

@@ -11,7 +11,7 @@ use Rattle.clock.specs.declared.moment.Moment.{Moment}
 use Rattle.tcp_state.specs.declared.state.State.{State}
 use Rattle.tcp_state.specs.declared.state.State.TheVariants.{SynSent, SynReceived, Established, FinWait1, FinWait2, CloseWait, Closing, LastAck, TimeWait, Closed}
 use Rattle.tcp_halves.specs.Stream.{size_of, outstanding, is_new_ack, sending_from, receiving_nothing, after_syn_acknowledged, after_acknowledged, is_in_window, is_acceptable, after_syn, after_octets, stands_next, after_end}
-use Rattle.tcp_halves.specs.Windows.{after_syn_heard, after_window_update}
+use Rattle.tcp_halves.specs.Windows.{window_in, after_syn_heard, after_window_update, syn_window}
 use Rattle.tcp_state.specs.View.{View, first_congestion, is_opening, is_syn_sent, is_syn_received, is_closed, is_fin_wait_2, is_time_wait, awaits_fin_ack, after_reset, is_over}
 use Rattle.tcp_state.specs.Resend.{Resend, first_resend, stopped, mark_past, mark_moved, unmarked, resend_acknowledged, resend_lost}
 use Rattle.congestion.specs.Window.{Window, third_is_next}
@@ -65,7 +65,7 @@ abbrev pub after_rst_in_syn_sent : View → Segment → View
 after_rst_in_syn_sent v s =
     if s.flags.ack && is_new_ack v.sending s.acknowledgement then after_reset v (reset_error v.state) else v
 
--- in SYN-SENT a SYN is taken that acknowledges ours, which ends the opening (section 3.10.7.3, fourth); our SYN advertised the whole room of an empty buffer
+-- in SYN-SENT a SYN is taken that acknowledges ours, which ends the opening (section 3.10.7.3, fourth); our SYN advertised as much of the room as one can
 abbrev pub is_right_syn_ack : View → Segment → Bool
 is_right_syn_ack v s = s.flags.syn && s.flags.ack && is_new_ack v.sending s.acknowledgement
 
@@ -74,13 +74,13 @@ after_syn_ack v s =
     if is_right_syn_ack v s then record v {
       state = Established;
       sending = after_syn_acknowledged (after_syn_heard v.sending s.number s.window (smss_of s));
-      receiving = after_syn v.receiving s.number v.receiving.size;
+      receiving = after_syn v.receiving s.number (syn_window v.receiving);
       owes_ack = true;
       resend = unmarked v.resend;
     } else v
 
--- .. or one without ACK, of a peer that opens at the same time (section 3.5, figure 7): a SYN-ACK is due, with the number of our SYN. That had advertised the
--- whole room, if it went out.
+-- .. or one without ACK, of a peer that opens at the same time (section 3.5, figure 7): a SYN-ACK is due, with the number of our SYN. That had advertised its
+-- window, if it went out.
 abbrev pub is_simultaneous_syn : View → Segment → Bool
 is_simultaneous_syn v s = s.flags.syn && not s.flags.ack
 
@@ -88,7 +88,7 @@ abbrev pub after_simultaneous_syn : View → Segment → View
 after_simultaneous_syn v s = record v {
   state = SynReceived;
   sending = after_syn_heard v.sending s.number s.window (smss_of s);
-  receiving = after_syn v.receiving s.number (if outstanding v.sending == 0 then 0 else v.receiving.size);
+  receiving = after_syn v.receiving s.number (if outstanding v.sending == 0 then 0 else syn_window v.receiving);
   resend = record v.resend { mark = mark_past 0 (outstanding v.sending) };
 }
 
@@ -157,7 +157,7 @@ abbrev pub is_read_on : View → ℕ → Bool
 is_read_on v ack = if is_syn_received v.state then is_new_ack v.sending ack else is_new_ack v.sending ack || not (is_before v.sending.nxt ack)
 
 abbrev pub after_window : View → Segment → View
-after_window v s = record v { sending = after_window_update v.sending s.number s.acknowledgement s.window }
+after_window v s = record v { sending = after_window_update v.sending s.number s.acknowledgement (window_in v.sending s.window) }
 
 -- the peer's side is not closed, as far as we know
 abbrev pub is_receiving : State → Bool
@@ -268,7 +268,7 @@ abbrev pub is_duplicate : View → Segment → Bool
 is_duplicate v s =
     not (is_opening v.state) && is_read v s && nat_lt 0 (octets_outstanding v)
     && (length s.octets == 0) && not s.flags.fin
-    && (s.acknowledgement == v.sending.una) && (s.window == v.sending.window)
+    && (s.acknowledgement == v.sending.una) && (window_in v.sending s.window == v.sending.window)
 
 -- what the clock and the congestion window have to know of a connection before a segment and of the segment
 abbrev pub before : View → Segment → Before

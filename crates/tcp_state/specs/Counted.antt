@@ -8,6 +8,7 @@ use Rattle.tcp_state.specs.declared.emission.Stretch.{Stretch}
 use Rattle.tcp_state.specs.declared.state.State.{State}
 use Rattle.tcp_state.specs.declared.state.State.TheVariants.{SynSent, FinWait2, TimeWait}
 use Rattle.tcp_halves.specs.Stream.{outstanding}
+use Rattle.tcp_halves.specs.Windows.{window_in}
 use Rattle.tcp_state.specs.View.{View, is_opening}
 use Rattle.tcp_state.specs.declared.calls.Refusal.TheVariants.{ETIMEDOUT}
 use Rattle.tcp_state.specs.Timing.{deadline}
@@ -43,7 +44,7 @@ pub record IsDuplicate (v : View) (s : Segment) : Type 0 where
   pub acceptable : is_acceptable_to v s ≡ true
   pub ack : s.flags.ack ≡ true
   pub at_una : s.acknowledgement ≡ v.sending.una
-  pub window : s.window ≡ v.sending.window
+  pub window : window_in v.sending s.window ≡ v.sending.window
   pub octets : s.octets ≡ []
   pub no_syn : s.flags.syn ≡ false
   pub no_fin : s.flags.fin ≡ false

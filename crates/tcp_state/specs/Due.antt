@@ -1,5 +1,5 @@
 -- What goes out, and what that makes of a connection (RFC 9293 section 3.8).
-use Rattle.std.specs.Prelude.{◌≡◌, ℕ, ◌+◌, ◌-◌, ◌*◌, ◌%◌, ◌^◌, ◌<◌, ◌≤◌, ◌==◌, ◌&&◌, ◌||◌, not, nat_le, nat_lt, min, Bool, true, false, if◌then◌else◌, List, [], length, take, drop, Option, Some, None, is_some}
+use Rattle.std.specs.Prelude.{◌≡◌, ℕ, ◌+◌, ◌-◌, ◌*◌, ◌%◌, ◌^◌, ◌<◌, ◌≤◌, ◌==◌, ◌&&◌, ◌||◌, not, nat_lt, min, Bool, true, false, if◌then◌else◌, List, [], length, take, drop, Option, Some, None, is_some}
 use Rattle.std.specs.Option.{option_or}
 use Rattle.tcp_segment.specs.declared.TheConstants.{MSS}
 use Rattle.tcp_segment.specs.declared.flags.Flags.{Flags}
@@ -10,8 +10,9 @@ use Rattle.tcp_state.specs.declared.emission.Due.TheVariants.{Rst, Syn, Text, Pr
 use Rattle.tcp_state.specs.declared.emission.Stretch.{Stretch}
 use Rattle.clock.specs.declared.moment.Moment.{Moment}
 use Rattle.tcp_state.specs.Resend.{resend_again, resend_sent, resend_probed, resend_syn_again}
+use Rattle.tcp_halves.specs.declared.buffers.TheConstants.{CAPACITY}
 use Rattle.tcp_halves.specs.Stream.{outstanding, after_sent, receive_window}
-use Rattle.tcp_halves.specs.Windows.{open_window, next_count, has_grown, after_advertisement}
+use Rattle.tcp_halves.specs.Windows.{hears_next, open_window, next_count, has_grown, after_advertisement, window_field, after_syn_advertisement}
 use Rattle.tcp_state.specs.View.{View, is_opening, is_syn_sent, is_syn_received, is_closed, awaits_fin_ack}
 use Rattle.tcp_state.specs.New.{sends_new, sends_fin}
 use Rattle.tcp_state.specs.Timing.{probes, clocked}
@@ -49,10 +50,10 @@ flags_of v (Text stretch) = flags_of_stretch v stretch
 flags_of v Probe = flags_of_stretch v (probe_stretch v)
 flags_of v Ack = record { fin = false; syn = false; rst = false; psh = false; ack = true; urg = false }
 
--- The number of an acknowledgement alone: SND.NXT; or where a probe brought numbers past the peer's window, the end of that window, since the peer hears
--- nothing from further on (sections 3.8.6.1 and 3.10.7.4). While the connection opens no window bounds it.
+-- The number of an acknowledgement alone: SND.NXT, as far as the peer hears that; or where a probe brought numbers past its window, the end of that window, since it hears nothing from
+-- further on (sections 3.8.6.1 and 3.10.7.4, RFC 7323 section 2.4). While the connection opens no window bounds it.
 abbrev pub ack_number : View → ℕ
-ack_number v = if is_opening v.state || nat_le (outstanding v.sending) v.sending.window then v.sending.nxt else (v.sending.una + v.sending.window) % 2 ^ 32
+ack_number v = if is_opening v.state || hears_next v.sending then v.sending.nxt else (v.sending.una + v.sending.window) % 2 ^ 32
 
 abbrev pub number_of : View → Due → ℕ
 number_of v Rst = v.sending.nxt
@@ -69,10 +70,11 @@ octets_of v (Text stretch) = octets_of_stretch v stretch
 octets_of v Probe = octets_of_stretch v (probe_stretch v)
 octets_of v _ = []
 
--- the window up to the edge that is advertised with it, and none in a reset
+-- The window up to the edge that is advertised with it: in units, and in octets where SYN stands, as many of them as 16 bits hold (RFC 7323 section 2.2). A reset has none.
 abbrev pub window_of : View → Due → ℕ
 window_of v Rst = 0
-window_of v _ = receive_window (after_advertisement v.receiving)
+window_of v Syn = min (receive_window (after_syn_advertisement v.receiving)) CAPACITY
+window_of v _ = window_field (after_advertisement v.receiving)
 
 -- the header: the acknowledgement is RCV.NXT
 abbrev pub head_of : View → Due → Head
@@ -109,6 +111,10 @@ sends_again v Ack = false
 -- an acknowledgement that goes out advertises the window, and none is owed any more
 abbrev pub after_ack_paid : View → View
 after_ack_paid v = record v { receiving = after_advertisement v.receiving; owes_ack = false; delays_ack = false }
+
+-- .. and a SYN-ACK advertises its own
+abbrev pub after_syn_ack_paid : View → View
+after_syn_ack_paid v = record v { receiving = after_syn_advertisement v.receiving; owes_ack = false; delays_ack = false }
 
 -- a segment with ACK and without SYN went out: from then on the connection has spoken
 abbrev pub after_speaking : View → View
@@ -155,7 +161,7 @@ after_syn_out v now = let sent = after_numbers v 0 1 now in if nat_lt 0 (outstan
 -- .. without the timers
 abbrev pub after_going_out : View → Due → Moment → View
 after_going_out v Rst now = record v { owes_reset = false }
-after_going_out v Syn now = if is_syn_received v.state then after_ack_paid (after_syn_out v now) else after_syn_out v now
+after_going_out v Syn now = if is_syn_received v.state then after_syn_ack_paid (after_syn_out v now) else after_syn_out v now
 after_going_out v (Text stretch) now = after_speaking (after_stretch v stretch now)
 after_going_out v Probe now = after_speaking (after_probe v)
 after_going_out v Ack now = after_speaking v

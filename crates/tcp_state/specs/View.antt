@@ -1,7 +1,7 @@
 -- A connection as its callers see it (RFC 9293 section 3.3).
-use Rattle.std.specs.Prelude.{◌≡◌, ℕ, ◌+◌, ◌≤◌, ◌^◌, ◌==◌, ◌&&◌, ◌||◌, ◌<◌, not, Bool, true, false, if◌then◌else◌, [], length, Option, Some, None, is_some}
+use Rattle.std.specs.Prelude.{◌≡◌, ℕ, ◌+◌, ◌*◌, ◌≤◌, ◌^◌, ◌==◌, ◌&&◌, ◌||◌, ◌<◌, not, Bool, true, false, if◌then◌else◌, [], length, Option, Some, None, is_some}
 use Rattle.ipv4.specs.declared.addr.Endpoint.{Endpoint}
-use Rattle.tcp_segment.specs.declared.TheConstants.{MSS, DEFAULT_MSS, LEAST_MSS}
+use Rattle.tcp_segment.specs.declared.TheConstants.{MSS, DEFAULT_MSS, LEAST_MSS, MAX_SHIFT}
 use Rattle.tcp_halves.specs.declared.buffers.TheConstants.{CAPACITY, LARGEST_CAPACITY}
 use Rattle.tcp_state.specs.declared.state.State.{State}
 use Rattle.tcp_state.specs.declared.state.State.TheVariants.{Closed, Listen, SynSent, SynReceived, FinWait1, FinWait2, CloseWait, Closing, LastAck, TimeWait}
@@ -184,7 +184,8 @@ most_outstanding v = length v.sending.held + (if takes_flag_number v.state then 
 -- outstanding is of what is held, with the SYN or the FIN; the resend mark stands within it. A segment may
 -- have `LEAST_MSS` octets at least, so that what is held can always go out. An acknowledgement is owed once a SYN came, and none when all is closed.
 -- An error is pending, and a reset owed, only where all is closed; what its caller closed is closed on our side. The receiving half is no larger than the places that were made for it, nor than a window can be
--- told, and has room for a segment, so that its window is told.
+-- told in its units, and has room for a segment, so that its window is told. A unit of a window is an octet at least; one of the windows that are told is a segment at most, and one of the peer's as much as the window scale
+-- option can say (RFC 7323 section 2.3).
 pub record IsSound (v : View) : Type 0 where
   pub una : v.sending.una < 2 ^ 32
   pub nxt : v.sending.nxt < 2 ^ 32
@@ -207,6 +208,10 @@ pub record IsSound (v : View) : Type 0 where
   pub release : (v.released && not (is_write_closed v.state)) ≡ false
   pub send_size : v.sending.size ≤ LARGEST_CAPACITY
   pub receive_least : MSS ≤ v.receiving.size
-  pub receive_size : v.receiving.size ≤ CAPACITY
+  pub receive_size : v.receiving.size ≤ CAPACITY * v.receiving.unit
   pub places : v.receiving.size ≤ v.receiving.capacity
   pub capacity : v.receiving.capacity ≤ LARGEST_CAPACITY
+  pub unit_some : 0 < v.receiving.unit
+  pub unit_few : v.receiving.unit ≤ MSS
+  pub peer_unit_some : 0 < v.sending.unit
+  pub peer_unit_few : v.sending.unit ≤ 2 ^ MAX_SHIFT

@@ -81,7 +81,7 @@ impl Connection {
             && segment.payload().is_empty()
             && !segment.flags().fin
             && segment.acknowledgement() == self.sender.una()
-            && u32::from(segment.window()) == self.sender.window()
+            && self.sender.window_in(segment.window()) == self.sender.window()
     }
 
     /// How many octets are outstanding, past the opening: our FIN, behind all that are held, is none.
@@ -334,11 +334,9 @@ impl Connection {
     fn hear_window(&mut self, segment: &TcpView<'_>)
         ensures { self.new ≡ after_window self.old segment.now }
     {
-        self.sender.update_window(
-            segment.number(),
-            segment.acknowledgement(),
-            segment.window(),
-        );
+        let window = self.sender.window_in(segment.window());
+        self.sender
+            .update_window(segment.number(), segment.acknowledgement(), window);
     }
 
     /// Takes a segment without RST in SYN-SENT: a SYN that acknowledges ours, or one without ACK (RFC 9293 section 3.10.7.3).
@@ -367,8 +365,8 @@ impl Connection {
         ensures { self.new ≡ after_simultaneous_syn self.old segment.now }
     {
         let was_sent = self.sender.outstanding() != 0;
-        let size = self.receiver.size();
-        self.take_syn(segment, if was_sent { size } else { 0 });
+        let told = self.receiver.syn_window();
+        self.take_syn(segment, if was_sent { told } else { 0 });
         self.resend.mark_all(self.sender.outstanding());
     }
 
@@ -389,8 +387,8 @@ impl Connection {
         requires right { is_right_syn_ack self.old segment.now ≡ true }
         ensures { self.new ≡ after_syn_ack self.old segment.now }
     {
-        let size = self.receiver.size();
-        self.take_syn(segment, size);
+        let told = self.receiver.syn_window();
+        self.take_syn(segment, told);
         self.sender.acknowledge_syn();
         self.state = State::Established;
         self.resend.unmark();

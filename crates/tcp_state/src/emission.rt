@@ -7,7 +7,7 @@ ghost use Rattle.tcp_halves.specs.Stream.{outstanding};
 ghost use Rattle.tcp_segment.specs.declared.TheConstants.{MSS};
 ghost use Rattle.tcp_state.specs.New.{sends_new, sends_fin};
 ghost use Rattle.tcp_state.specs.Timing.{probes};
-ghost use Rattle.tcp_state.specs.Due.{MayGoOut, IsHeld, first_due, ack_due, again, goes_again, again_from, new_octets, fin_alone, new_due, probe_stretch, numbers_of, end_of, flags_of, flags_of_stretch, ack_number, number_of, octets_of, window_of, head_of, segment_octets, emitted_len, after_emitted, after_going_out, after_ack_paid, after_speaking, after_numbers, after_resent, after_first_sent, after_new_octets, brings_new_octets, after_stretch, after_probe, after_syn_out};
+ghost use Rattle.tcp_state.specs.Due.{MayGoOut, IsHeld, first_due, ack_due, again, goes_again, again_from, new_octets, fin_alone, new_due, probe_stretch, numbers_of, end_of, flags_of, flags_of_stretch, ack_number, number_of, octets_of, window_of, head_of, segment_octets, emitted_len, after_emitted, after_going_out, after_ack_paid, after_syn_ack_paid, after_speaking, after_numbers, after_resent, after_first_sent, after_new_octets, brings_new_octets, after_stretch, after_probe, after_syn_out};
 
 use crate::connection::Connection;
 use crate::state::State;
@@ -314,25 +314,25 @@ impl Connection {
         }
     }
 
-    /// The number of an acknowledgement alone: SND.NXT, or the end of the peer's window where a probe brought numbers past it.
+    /// The number of an acknowledgement alone: SND.NXT, as far as the peer hears that, or the end of its window where a probe brought numbers past it.
     fn ack_number(&self) -> Seq
         ensures { result.0 ≡ ack_number self.now }
     {
-        let window = self.sender.window();
-        if self.state.is_opening() || self.sender.outstanding() <= window {
+        if self.state.is_opening() || self.sender.hears_next() {
             self.sender.nxt()
         } else {
-            self.sender.una() + window
+            self.sender.una() + self.sender.window()
         }
     }
 
-    /// The window that the segment for what is due advertises.
+    /// The window that the segment for what is due advertises, as its header has it.
     fn window(&self, due: Due) -> u16
         ensures { result ≡ window_of self.now due }
     {
         match due {
             Due::Rst => 0,
-            Due::Syn | Due::Text(_) | Due::Probe | Due::Ack => self.receiver.next_window() as u16,
+            Due::Syn => self.receiver.next_syn_window(),
+            Due::Text(_) | Due::Probe | Due::Ack => self.receiver.next_window(),
         }
     }
 
@@ -377,7 +377,7 @@ impl Connection {
             Due::Syn => {
                 self.note_syn(now);
                 if self.state == State::SynReceived {
-                    self.pay_ack();
+                    self.pay_syn_ack();
                 }
             }
             Due::Text(stretch) => {
@@ -477,6 +477,22 @@ impl Connection {
         ensures { self.new ≡ after_ack_paid self.old }
     {
         self.receiver.advertise();
+        self.owe_no_ack();
+    }
+
+    /// A SYN-ACK went out, and advertised its window.
+    fn pay_syn_ack(&mut self)
+        requires { is_syn_sent self.old.state ≡ false }
+        ensures { self.new ≡ after_syn_ack_paid self.old }
+    {
+        self.receiver.advertise_syn();
+        self.owe_no_ack();
+    }
+
+    /// No acknowledgement is owed any more, and none waits.
+    fn owe_no_ack(&mut self)
+        ensures { self.new ≡ record self.old { owes_ack = false; delays_ack = false } }
+    {
         self.owes_ack = false;
         self.delays_ack = false;
     }

@@ -21,7 +21,7 @@ ghost use Rattle.tcp_halves.specs.Halves.{Sending, Receiving};
 ghost use Rattle.std.specs.Option.{option_or};
 ghost use Rattle.stream_buf.specs.Receiving.{ranges, IsReceiving};
 ghost use Rattle.tcp_halves.specs.Stream.{outstanding, receive_window, is_acceptable, buffer_of, octets_gained, after_octets};
-ghost use Rattle.tcp_halves.specs.Windows.{updates_window};
+ghost use Rattle.tcp_halves.specs.Windows.{window_in, updates_window, receive_room, whole_units, syn_window};
 ghost use Rattle.tcp_state.specs.Positions.{ReceivesAt, IsNear, MeetsWindow, AreNear, brought, known_at, places_after, takes_octets, kept_with, AreFree, NeverBack, HasNumber, HasToSend, takes_numbers};
 ghost use Rattle.retransmit.specs.declared.timers.TimerKind.{TimerKind};
 ghost use Rattle.retransmit.specs.Deadlines.{deadline_of};
@@ -31,7 +31,7 @@ ghost use Rattle.tcp_state.specs.Timing.{KeepsTime, probes, expires, wants_out, 
 ghost use Rattle.congestion.specs.Window.{is_recovering, third_is_next};
 ghost use Rattle.tcp_state.specs.Congestion.{KeepsCongestion, after_signal};
 ghost use Rattle.tcp_state.specs.Arrival.{opened_passively, fate, is_acceptable_to, is_receiving, is_read, is_duplicate, after_ack, after_heard, after_segment_at};
-ghost use Rattle.tcp_state.specs.Due.{MayGoOut, first_due, number_of, end_of, flags_of, octets_of, sends_again, again, after_emitted};
+ghost use Rattle.tcp_state.specs.Due.{MayGoOut, first_due, number_of, end_of, flags_of, octets_of, window_of, sends_again, again, after_emitted};
 ghost use Rattle.tcp_state.specs.Unreachable.{IsRefused};
 ghost use Rattle.tcp_state.specs.Simultaneous.{crossed, AnswersSyn, HasOpened};
 ghost use Rattle.tcp_state.specs.Opening.{OpenedBy, Confirmed};
@@ -59,6 +59,13 @@ pub fn sizes_stay()
         → (let w = opened_passively capacity local peer isn syn now in (w.sending.size ≡ capacity) × (w.receiving.size ≡ capacity) × (w.receiving.capacity ≡ capacity)) }
     ensures stays { (v : View) (e : Event)
         → ((after_event v e).sending.size ≡ v.sending.size) × ((after_event v e).receiving.size ≡ v.receiving.size) × ((after_event v e).receiving.capacity ≡ v.receiving.capacity) }
+{}
+
+/// A unit of the windows is an octet in each half when a connection opens, and no event changes that.
+pub fn units_stay()
+    ensures opened { (capacity : ℕ) (local peer : Endpoint) (isn : ℕ) (now : Moment) → (let w = opened_actively capacity local peer isn now in (w.sending.unit ≡ 1) × (w.receiving.unit ≡ 1)) }
+    ensures accepted { (capacity : ℕ) (local peer : Endpoint) (isn : ℕ) (syn : Segment) (now : Moment) → (let w = opened_passively capacity local peer isn syn now in (w.sending.unit ≡ 1) × (w.receiving.unit ≡ 1)) }
+    ensures stays { (v : View) (e : Event) → ((after_event v e).sending.unit ≡ v.sending.unit) × ((after_event v e).receiving.unit ≡ v.receiving.unit) }
 {}
 
 /// One event joins only states that the table of edges joins, or leaves the state.
@@ -177,22 +184,28 @@ pub fn resets_act_at_the_next_number()
 
 /// A window is believed exactly from a segment that is no older than the one that updated it last, by the position of its first number and then by that of its
 /// acknowledgement, and that acknowledges no less than is acknowledged (RFC 9293 section 3.10.7.4, fifth); but for the SYN that opens a connection, no segment
-/// changes it otherwise.
+/// changes it otherwise. The window of that SYN is in octets, and any other's in units of the peer's (RFC 7323 sections 2.2 and 2.3).
 pub fn no_older_window_is_believed()
     ensures test { (peer own una last latest number ack : ℕ) (s : Sending) → s.una ≡ wire own una → s.wl1 ≡ wire peer last → s.wl2 ≡ wire own latest
         → AreNear ack una → AreNear last number → AreNear ack latest
         → (updates_window s (wire peer number) (wire own ack) ≡ true) ↔ ((una ≤ ack) × ((last < number) ⊎ ((last ≡ number) × (latest ≤ ack)))) }
     ensures alone { (v : View) (s : Segment) (now : Moment)
         → (((after_segment_at v s now).sending.window ≡ v.sending.window) × ((after_segment_at v s now).sending.wl1 ≡ v.sending.wl1))
-        ⊎ (((after_segment_at v s now).sending.window ≡ s.window) × ((after_segment_at v s now).sending.wl1 ≡ s.number)
-        × ((is_syn_sent v.state ≡ true) ⊎ ((updates_window (after_ack v s.acknowledgement).sending s.number s.acknowledgement ≡ true) × ((after_segment_at v s now).sending.wl2 ≡ s.acknowledgement)))) }
+        ⊎ (((after_segment_at v s now).sending.wl1 ≡ s.number) × (((is_syn_sent v.state ≡ true) × ((after_segment_at v s now).sending.window ≡ s.window))
+        ⊎ (((after_segment_at v s now).sending.window ≡ window_in v.sending s.window)
+        × (updates_window (after_ack v s.acknowledgement).sending s.number s.acknowledgement ≡ true) × ((after_segment_at v s now).sending.wl2 ≡ s.acknowledgement)))) }
 {}
 
-/// An acknowledgement alone is heard by a peer that has probed, or was probed (RFC 9293 sections 3.4 and 3.8.6.1). Once a connection is open it goes out at SND.NXT, or at the end of the peer's
-/// window where a probe brought numbers past that. So a peer whose window is closed, and that stands at SND.UNA, takes it for acceptable (section 3.10.7.4, first), and with it what it
+/// An acknowledgement alone is heard by a peer that has probed, or was probed (RFC 9293 sections 3.4 and 3.8.6.1). Once a connection is open it goes out at SND.NXT, also where
+/// that lies past a window that isn't closed by less than one of the peer's units, which rounding takes in ordinary traffic (RFC 7323 section 2.4), and else at the end of the peer's window. So a peer whose window is closed, and that stands at SND.UNA, takes it for acceptable (section 3.10.7.4, first), and with it what it
 /// acknowledges and the window that it advertises.
 pub fn acknowledgements_are_heard()
-    ensures within { (v : View) → IsSound v → is_opening v.state ≡ false → past (number_of v Due.Ack) v.sending.una ≡ min (outstanding v.sending) v.sending.window }
+    ensures within { (v : View) → IsSound v → is_opening v.state ≡ false → (past (number_of v Due.Ack) v.sending.una ≤ v.sending.window)
+        ⊎ ((0 < v.sending.window) × (past (number_of v Due.Ack) v.sending.una < v.sending.window + v.sending.unit)) }
+    ensures next { (v : View) → IsSound v → is_opening v.state ≡ false → (outstanding v.sending ≤ v.sending.window) ⊎ ((0 < v.sending.window) × (outstanding v.sending < v.sending.window + v.sending.unit))
+        → number_of v Due.Ack ≡ v.sending.nxt }
+    ensures end { (v : View) → IsSound v → is_opening v.state ≡ false → v.sending.window < outstanding v.sending → (v.sending.window ≡ 0) ⊎ (v.sending.window + v.sending.unit ≤ outstanding v.sending)
+        → past (number_of v Due.Ack) v.sending.una ≡ v.sending.window }
     ensures closed { (v : View) (peer : Receiving) → IsSound v → is_opening v.state ≡ false → v.sending.window ≡ 0 → peer.rnext ≡ v.sending.una → receive_window peer ≡ 0
         → is_acceptable peer (number_of v Due.Ack) 0 ≡ true }
 {}
@@ -363,13 +376,32 @@ pub fn second_segments_are_acknowledged()
     ensures owed { (v : View) → IsSound v → v.owes_ack ≡ true → (due : Due) × (first_due v ≡ Some due) × ((let f = flags_of v due in f.ack) ≡ true) }
 {}
 
-/// The window is told in steps of a segment at least (RFC 1122 section 4.2.3.3, RFC 9293 section 3.8.6.2.2): its right edge stays, or moves on by 1,460 or more, up to the end of the free room. Such a step
-/// is told with what goes out next, and by an acknowledgement alone where nothing else does, once the connection has spoken.
+/// The window is told in steps of a segment at least (RFC 1122 section 4.2.3.3, RFC 9293 section 3.8.6.2.2): its right edge stays, or moves on by 1,460 or more, less what rounding takes, up to the end of
+/// the units that the free room fills (RFC 7323 section 2.3); or by 1,460 or more to that of the window of a SYN, in octets and as many of them as 16 bits hold (section 2.2). Such a step is told with what goes out next, and by an acknowledgement alone where nothing else does, once the connection has spoken.
 pub fn windows_are_advertised_in_whole_steps()
     ensures steps { (v : View) (e : Event) → IsSound v → is_syn_sent v.state ≡ false → v.receiving.edge < 2 ^ 32 → ((after_event v e).receiving.edge ≡ v.receiving.edge)
-        ⊎ ((MSS ≤ past (after_event v e).receiving.edge v.receiving.edge) × ((after_event v e).receiving.edge ≡ (v.receiving.rnext + (v.receiving.size - length v.receiving.readable)) % 2 ^ 32)) }
+        ⊎ (((MSS < past (after_event v e).receiving.edge v.receiving.edge + v.receiving.unit) × ((after_event v e).receiving.edge ≡ (v.receiving.rnext + whole_units v.receiving.unit (receive_room v.receiving)) % 2 ^ 32))
+        ⊎ ((is_opening v.state ≡ true) × (MSS ≤ past (after_event v e).receiving.edge v.receiving.edge) × ((after_event v e).receiving.edge ≡ (v.receiving.rnext + syn_window v.receiving) % 2 ^ 32))) }
     ensures told { (v : View) (now : Moment) → IsSound v → (is_opening v.state || is_closed v.state) ≡ false → (v.spoke ≡ true) ⊎ (first_due v ≢ None)
-        → past v.receiving.edge v.receiving.rnext + MSS + length v.receiving.readable ≤ v.receiving.size → (after_event v (Event.Emits now)).receiving.edge ≡ (v.receiving.rnext + (v.receiving.size - length v.receiving.readable)) % 2 ^ 32 }
+        → past v.receiving.edge v.receiving.rnext + MSS + length v.receiving.readable ≤ v.receiving.size → (after_event v (Event.Emits now)).receiving.edge ≡ (v.receiving.rnext + whole_units v.receiving.unit (receive_room v.receiving)) % 2 ^ 32 }
+{}
+
+/// No window is overstated (RFC 7323 sections 2.2 and 2.3): what a peer makes of the field of a segment without SYN, by our unit, ends where the right edge is that the connection keeps from then on, or less than a unit before it;
+/// and the window of a SYN-ACK, which is in octets, ends at that edge or before it.
+pub fn no_window_is_overstated()
+    ensures units { (v : View) (due : Due) (now : Moment) (peer : Sending) → IsSound v → (let f = flags_of v due in f.ack) ≡ true → (let f = flags_of v due in f.syn) ≡ false → peer.unit ≡ v.receiving.unit
+        → (window_in peer (window_of v due) ≤ receive_window (after_emitted v due now).receiving) × (receive_window (after_emitted v due now).receiving < window_in peer (window_of v due) + peer.unit) }
+    ensures octets { (v : View) (due : Due) (now : Moment) → (let f = flags_of v due in f.ack) ≡ true → (let f = flags_of v due in f.syn) ≡ true
+        → window_of v due ≤ receive_window (after_emitted v due now).receiving }
+{}
+
+/// What a peer sends within any window that it was ever told is acceptable, where some of it is new, also when a later segment told less of it by rounding (RFC 7323 section 2.4): it lies before the right edge, and no event takes that
+/// to an earlier position.
+pub fn told_windows_stay_open()
+    ensures stays { (initial next edge later_next later_edge : ℕ) (v : View) (e : Event) → IsSound v → HasNumber e → is_syn_sent v.state ≡ false → ReceivesAt initial next edge v.receiving
+        → ReceivesAt initial later_next later_edge (after_event v e).receiving → AreNear edge later_edge → edge ≤ later_edge }
+    ensures acceptable { (initial next edge told first : ℕ) (v : View) (s : Segment) → ReceivesAt initial next edge v.receiving → told ≤ edge → s.number ≡ wire initial first → IsNear next first (span_of s)
+        → 0 < span_of s → first + span_of s ≤ told → next < first + span_of s → is_acceptable_to v s ≡ true }
 {}
 
 /// A connection has spoken once a segment with ACK and without SYN went out. Before, no acknowledgement goes out to tell its window alone, as what a listener opened would answer its handshake by one: it

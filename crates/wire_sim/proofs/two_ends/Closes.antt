@@ -8,7 +8,7 @@ use Rattle.tcp_segment.specs.Wire.{past, wire}
 use Rattle.tcp_halves.specs.Halves.{Sending, Receiving}
 use Rattle.tcp_halves.specs.Numbers.{is_before}
 use Rattle.tcp_halves.specs.Stream.{outstanding, is_new_ack, is_acceptable, is_in_window, receive_window, after_end}
-use Rattle.tcp_halves.specs.Windows.{updates_window}
+use Rattle.tcp_halves.specs.Windows.{window_in, updates_window}
 use Rattle.tcp_halves.proofs.Choices.{either, and_false, unowed}
 use Rattle.tcp_state.specs.declared.connection.Fate.{Fate}
 use Rattle.tcp_state.specs.declared.connection.Fate.TheVariants.{Stays, Removed, Rejected}
@@ -176,10 +176,10 @@ none_marked (Some distance) out within none = absurd (omega (arith, within dista
 
 no_duplicate : (v : View) (s : Segment) → s.flags.fin ≡ true → is_duplicate v s ≡ false
 no_duplicate v s fin =
-    ap (λ b. not (is_opening v.state) && is_read v s && nat_lt 0 (octets_outstanding v) && (length s.octets == 0) && not b && (s.acknowledgement == v.sending.una) && (s.window == v.sending.window)) fin
+    ap (λ b. not (is_opening v.state) && is_read v s && nat_lt 0 (octets_outstanding v) && (length s.octets == 0) && not b && (s.acknowledgement == v.sending.una) && (window_in v.sending s.window == v.sending.window)) fin
     ∙ last (not (is_opening v.state)) (is_read v s) (nat_lt 0 (octets_outstanding v)) (length s.octets == 0)
   where
-    last : (a b c d : Bool) → (a && b && c && d && false && (s.acknowledgement == v.sending.una) && (s.window == v.sending.window)) ≡ false
+    last : (a b c d : Bool) → (a && b && c && d && false && (s.acknowledgement == v.sending.una) && (window_in v.sending s.window == v.sending.window)) ≡ false
     last true true true true = refl
     last true true true false = refl
     last true true false d = refl

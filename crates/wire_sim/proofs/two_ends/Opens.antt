@@ -1,5 +1,5 @@
 -- Why the segments of an opening that come lead both ends on.
-use Rattle.std.proofs.Common.{◌≡◌, ◌≢◌, ℕ, ◌+◌, ◌%◌, ◌^◌, ◌<◌, ◌≤◌, ◌==◌, ◌||◌, ◌&&◌, not, nat_le, nat_lt, if◌then◌else◌, Bool, true, false, [], length, Option, Some, None, is_some, arith, refl, sym, ◌∙◌, ap, subst}
+use Rattle.std.proofs.Common.{◌≡◌, ◌≢◌, ℕ, ◌+◌, ◌-◌, ◌%◌, ◌^◌, ◌<◌, ◌≤◌, ◌==◌, ◌||◌, ◌&&◌, not, nat_le, nat_lt, if◌then◌else◌, Bool, true, false, [], length, Option, Some, None, is_some, arith, refl, sym, ◌∙◌, ap, subst}
 use Rattle.std.proofs.lemmas.Bool.{le-leb}
 use Rattle.clock.specs.declared.moment.Moment.{Moment}
 use Rattle.tcp_segment.specs.Segment.{Segment}
@@ -19,7 +19,7 @@ use Rattle.tcp_state.specs.View.{View, IsSound, is_opening, is_closed, is_over, 
 use Rattle.tcp_state.specs.New.{sends_new, sends_fin}
 use Rattle.tcp_state.specs.Due.{ack_number, first_due, new_octets, fin_alone as fin_alone_of, ack_due, again_from, new_due}
 use Rattle.tcp_state.specs.Timing.{has_unacknowledged, probes}
-use Rattle.tcp_halves.specs.Windows.{sendable, is_worth_sending, has_grown}
+use Rattle.tcp_halves.specs.Windows.{window_in, hears_next, sendable, is_worth_sending, has_grown}
 use Rattle.tcp_state.specs.declared.emission.Due.{Due}
 use Rattle.std.specs.Option.{option_or}
 use Rattle.tcp_state.proofs.Clocked.{comes_to, marks_kept}
@@ -170,7 +170,7 @@ opened_by ours theirs f v now answers sound asks out =
     let heard : after_heard v s ≡ opened_by_syn_ack v s = ap (λ b. if b then after_lost v s else after_segment v s) kept ∙ syn_ack_heard v s asks.state refl refl ack new in
     let u = opened_by_syn_ack v s in
     let at : after_segment_at v s now ≡ timed_by (before v s) u now = comes_to v s now (ap is_closed asks.state) taken ∙ ap (λ w. timed_by (before v s) w now) heard in
-    let mark : (resend_after (before v s) u now).mark ≡ None = marks_kept (before v s) u now (ap (λ b. not b && is_read v s && nat_lt 0 (octets_outstanding v) && (length s.octets == 0) && not s.flags.fin && (s.acknowledgement == v.sending.una) && (s.window == v.sending.window)) opens) in
+    let mark : (resend_after (before v s) u now).mark ≡ None = marks_kept (before v s) u now (ap (λ b. not b && is_read v s && nat_lt 0 (octets_outstanding v) && (length s.octets == 0) && not s.flags.fin && (s.acknowledgement == v.sending.una) && (window_in v.sending s.window == v.sending.window)) opens) in
     let w = timed_by (before v s) u now in
     let P : View → Type 0 = λ e. IsOpen ours theirs e × (first_due e ≡ Some Ack) in (
       subst P (sym at) (
@@ -186,9 +186,9 @@ opened_by ours theirs f v now answers sound asks out =
 pub ack_at_next : (v : View) (n : ℕ) → n < 2 ^ 32 → is_opening v.state ≡ false → v.sending.una ≡ n → v.sending.nxt ≡ n → ack_number v ≡ n
 ack_at_next v n small opened una nxt =
     let none : outstanding v.sending ≡ 0 = ap (λ m. past m v.sending.una) nxt ∙ (ap (past n) una ∙ none_past n small) in
-    ap (λ b. if b || nat_le (outstanding v.sending) v.sending.window then v.sending.nxt else (v.sending.una + v.sending.window) % 2 ^ 32) opened
-    ∙ (ap (λ m. if nat_le m v.sending.window then v.sending.nxt else (v.sending.una + v.sending.window) % 2 ^ 32) none
-    ∙ (ap (λ b. if b then v.sending.nxt else (v.sending.una + v.sending.window) % 2 ^ 32) (le-leb 0 v.sending.window (omega arith)) ∙ nxt))
+    ap (λ b. if b || hears_next v.sending then v.sending.nxt else (v.sending.una + v.sending.window) % 2 ^ 32) opened
+    ∙ (ap (λ m. if nat_le m v.sending.window || (nat_lt 0 v.sending.window && nat_lt (m - v.sending.window) v.sending.unit) then v.sending.nxt else (v.sending.una + v.sending.window) % 2 ^ 32) none
+    ∙ (ap (λ b. if b || (nat_lt 0 v.sending.window && nat_lt (0 - v.sending.window) v.sending.unit) then v.sending.nxt else (v.sending.una + v.sending.window) % 2 ^ 32) (le-leb 0 v.sending.window (omega arith)) ∙ nxt))
   where
     none_past : (n : ℕ) → n < 2 ^ 32 → past n n ≡ 0
     none_past n small = omega (arith, small)

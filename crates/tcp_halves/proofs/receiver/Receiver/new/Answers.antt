@@ -8,7 +8,7 @@ invariant_of-result c =
     let size : c.min-size.result ≡ size_of c.args.buffer.capacity = search rules in
     let is = new_is c.args.buffer c.min-size.result c.requires.empty size in
     let k = subst IsKeeping is (nothing_keeps c.args.buffer.capacity c.requires.most) in
-    (k.sized, k.most, k.fits, k.buffer, k.kept)
+    (k.sized, k.most, k.fits, k.buffer, k.kept, k.some, k.few, k.told)
 
 pub returns-clause-value : goal.returns-clause-value
 returns-clause-value c =
