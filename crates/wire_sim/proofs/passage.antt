@@ -5,6 +5,9 @@ pub mod HostsSend
 pub mod HopsAreSpelled
 pub mod SegmentsCarried
 pub mod HostsStay
+pub mod SendersTold
+pub mod SendersTellOwn
 pub mod FramesPass
 pub mod FramesMet
 pub mod FramesAreSent
+pub mod NeighboursAreOthers

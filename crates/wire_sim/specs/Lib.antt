@@ -18,5 +18,6 @@ pub mod Names
 pub mod HostRuns
 pub mod Sent
 pub mod Passage
+pub mod Neighbours
 pub mod Handshakes
 pub mod Duties

@@ -8,6 +8,7 @@ ghost use Rattle.wire_sim.specs.Notes.{EveryNoteIsTraced, EveryDelayIsTraced};
 ghost use Rattle.wire_sim.specs.Rounds.{EveryRoundIsARun};
 ghost use Rattle.wire_sim.specs.RoomyRuns.{EveryRoomyRunIsARun, EveryStepLeavesRoom, EveryRunLeavesRoom, EveryBareRunHasRoom};
 ghost use Rattle.wire_sim.specs.Datagrams.{EveryRunKeepsDatagrams, EveryDatagramIsTraced};
+ghost use Rattle.wire_sim.specs.Neighbours.{EveryNeighbourIsTheOtherHost, EveryKnownHopIsTheOtherHost};
 ghost use Rattle.wire_sim.specs.Passage.{EveryFrameIsHeardAsSent, EveryFrameIsMetAsSent, EverySegmentArrives, EveryHostStays};
 
 /// In every run of a world of two hosts, over every list of socket calls, ticks, emissions and fair deliveries in any order, for
@@ -150,6 +151,13 @@ pub fn every_frame_is_met_as_sent()
 /// No event changes the MAC, the address or the routes of a host of a world.
 pub fn every_host_stays()
     ensures { EveryHostStays }
+{}
+
+/// Each neighbour that a host of a world knows (RFC 826) is the other host: its address, with its MAC, and never another one. So a next hop whose MAC is
+/// known is the other host, whatever address it leads to.
+pub fn every_neighbour_is_the_other_host()
+    ensures pairs { EveryNeighbourIsTheOtherHost }
+    ensures hops { EveryKnownHopIsTheOtherHost }
 {}
 
 /// What is seen of a run of a world with its room is a run of a world, so that each law over runs holds of it.

@@ -1,5 +1,5 @@
 -- What a search finds in a list of which the first element that passes another test was changed.
-use Rattle.std.proofs.Common.{◌≡◌, ℕ, zero, suc, Bool, true, false, cond, List, [], ◌∷◌, ◌++◌, map, Option, Some, None, option_map, refl, sym, ◌∙◌, ap, subst}
+use Rattle.std.proofs.Common.{◌≡◌, ℕ, zero, suc, Bool, true, false, cond, List, [], ◌∷◌, ◌++◌, map, filter, remove, Option, Some, None, option_map, refl, sym, ◌∙◌, ap, subst}
 use Rattle.std.specs.List.{find, slice_get, AllByRecursion}
 use Rattle.sockets.specs.Lists.{change_first, remove_first}
 
@@ -276,6 +276,20 @@ All-map {X} P f keeps = go
     go : (xs : List X) → AllByRecursion P xs → AllByRecursion P (map f xs)
     go [] h = tt
     go (x ∷ xs) h = (keeps x h.0, go xs h.1)
+
+pub All-filter : {X : Type 0} (P : X → Type 0) (t : X → Bool) (xs : List X) → AllByRecursion P xs → AllByRecursion P (filter t xs)
+All-filter P t [] all = tt
+All-filter {X} P t (x ∷ xs) all = by_test (t x) (All-filter P t xs all.1)
+  where
+    by_test : (b : Bool) → AllByRecursion P (filter t xs) → AllByRecursion P (cond b (x ∷ filter t xs) (filter t xs))
+    by_test true rest = (all.0, rest)
+    by_test false rest = rest
+
+pub All-remove : {X : Type 0} (P : X → Type 0) (xs : List X) (k : ℕ) → AllByRecursion P xs → AllByRecursion P (remove xs k)
+All-remove P [] zero all = tt
+All-remove P [] (suc k) all = tt
+All-remove P (x ∷ xs) zero all = all.1
+All-remove P (x ∷ xs) (suc k) all = (all.0, All-remove P xs k all.1)
 
 pub All-weaker : {X : Type 0} (P Q : X → Type 0) → ((x : X) → P x → Q x) → (xs : List X) → AllByRecursion P xs → AllByRecursion Q xs
 All-weaker {X} P Q weaker = go

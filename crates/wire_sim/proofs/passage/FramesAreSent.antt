@@ -16,13 +16,6 @@ use Rattle.frames.specs.declared.meaning.Meaning.TheVariants.{Tcp}
 use Rattle.frames.specs.Meaning.{broadcast, heard, may_send, same_mac}
 use Rattle.frames.specs.Pairs.{pair_between, pair_in}
 use Rattle.frames.proofs.Deciding.{addr-Decides, mac-Decides}
-use Rattle.interface.specs.declared.reply.Reply.{Reply}
-use Rattle.interface.specs.declared.reply.Reply.TheVariants.{Arp, Reset, Echo, Error}
-use Rattle.interface.specs.declared.reply.Waiting.{Waiting}
-use Rattle.interface.specs.declared.way.Way.{Way}
-use Rattle.interface.specs.declared.way.Way.TheVariants.{To, Ask, Waits}
-use Rattle.interface.specs.InterfaceView.{InterfaceView}
-use Rattle.interface.specs.Replies.{way_of}
 use Rattle.interface.specs.Ways.{is_routed}
 use Rattle.sockets.specs.declared.entry.Entry.{Entry}
 use Rattle.sockets.specs.Arrival.{Arrival, Becomes, arrival, arrival_at_connection, local_end, peer_end}
@@ -30,8 +23,7 @@ use Rattle.sockets.specs.Entries.{fate_of, is_between}
 use Rattle.sockets.specs.SocketsView.{SocketsView, later_moment}
 use Rattle.host.specs.Arrival.{MeetsSegment, arrival_by_route}
 use Rattle.host.specs.Carried.{Carried, carried}
-use Rattle.host.specs.ConfigView.{ConfigView}
-use Rattle.host.specs.Emission.{Emission, Replies, Sends, Asks, Nothing, emission, emission_octets}
+use Rattle.host.specs.Emission.{emission_octets}
 use Rattle.host.specs.HostView.{HostView}
 use Rattle.host.proofs.Carriage.{carried-pair}
 use Rattle.sides.specs.declared.side.Side.{Side}
@@ -42,61 +34,21 @@ use Rattle.wire_sim.specs.declared.event.Event.TheVariants as event
 use Rattle.wire_sim.specs.declared.world.bag.Frame.{Frame}
 use Rattle.wire_sim.specs.declared.world.bag.Note.{Note}
 use Rattle.wire_sim.specs.Passage.{EveryFrameIsHeardAsSent, EveryFrameIsMetAsSent, EverySegmentArrives, IsMet, MeetsMeaning, WentOut, addr_at, mac_at}
-use Rattle.wire_sim.specs.Sent.{Sent, datagram_sent, heard_as, reply_sent, reply_sent_by, request_sent, segment_from, sent_at, sent_by, waiting_sent}
+use Rattle.wire_sim.specs.Sent.{Sent, heard_as, segment_from, sent_at}
 use Rattle.wire_sim.specs.Runs.{IsStep, IsReached}
 use Rattle.wire_sim.specs.WorldView.{WorldView, host_of, clock_of}
 use Rattle.wire_sim.proofs.fairness.FairIsUnrefused.{unrefused}
 use Rattle.wire_sim.proofs.fairness.NotesAreTraced.{notes-traced}
-use Rattle.wire_sim.proofs.lists.FoundAfterChange.{All-at}
 use Rattle.wire_sim.proofs.passage.FramesMet.{is-met}
 use Rattle.wire_sim.proofs.passage.FramesPass.{IsOfTwo, IsOut, frame-out, may-send, out-accepted, out-addr, out-ordered, out-routes}
 use Rattle.wire_sim.proofs.passage.HopsAreSpelled.{host-spelled}
 use Rattle.wire_sim.proofs.passage.HostsSend.{IsSent, host-sends}
-use Rattle.wire_sim.proofs.passage.HostsStay.{IsOwn, IsSideOf}
 use Rattle.wire_sim.proofs.passage.SegmentsCarried.{IsCarried, carried-sent}
-
--- What goes out comes from the host's own address.
-
-reply-from : (c : ConfigView) (i : InterfaceView) (theirs : Mac) (r : Reply) → IsSideOf c i → IsOwn c.addr r → (reply_sent i theirs r).from ≡ i.addr
-reply-from c i theirs (Arp packet) s own = own ∙ sym s.addr
-reply-from c i theirs (Reset to head) s own = refl
-reply-from c i theirs (Echo to identifier number octets) s own = refl
-reply-from c i theirs (Error to reason quoted) s own = refl
-
-sent-from : (c : ConfigView) (h : HostView) (now : Moment) (what : Sent) → IsSideOf c h.interface → sent_at h now ≡ Some what → what.from ≡ h.interface.addr
-sent-from c h now what s = by_emission (emission h moment)
-  where
-    moment : Moment
-    moment = later_moment h.sockets now
-
-    i : InterfaceView
-    i = h.interface
-
-    of_sent : (x : Sent) → x ≡ what → x.from ≡ i.addr → what.from ≡ i.addr
-    of_sent x same from = ap (λ (y : Sent). y.from) (sym same) ∙ from
-
-    by_way : (r : Reply) → IsOwn c.addr r → (w : Way) → reply_sent_by i r w ≡ Some what → what.from ≡ i.addr
-    by_way r own (To theirs) is = let same : reply_sent i theirs r ≡ what = cc in of_sent (reply_sent i theirs r) same (reply-from c i theirs r s own)
-    by_way r own (Ask hop) is = let same : request_sent i hop ≡ what = cc in of_sent (request_sent i hop) same refl
-    by_way r own Waits is = cc
-
-    by_waiting : (place : ℕ) (o : Option Waiting) → slice_get i.replies place ≡ o → waiting_sent i moment o ≡ Some what → what.from ≡ i.addr
-    by_waiting place None at is = cc
-    by_waiting place (Some w) at is = by_way w.reply (All-at (λ (x : Waiting). IsOwn c.addr x.reply) i.replies place w s.replies at) (way_of i moment w.reply) is
-
-    by_said : (mac : Mac) (to : Addr) (o : Option Meaning) → option_map (datagram_sent i mac to) o ≡ Some what → what.from ≡ i.addr
-    by_said mac to None is = cc
-    by_said mac to (Some says) is = let same : datagram_sent i mac to says ≡ what = cc in of_sent (datagram_sent i mac to says) same refl
-
-    by_emission : (x : Emission) → sent_by h moment x ≡ Some what → what.from ≡ i.addr
-    by_emission (Replies place) is = by_waiting place (slice_get i.replies place) refl is
-    by_emission (Sends mac to) is = by_said mac to _ is
-    by_emission (Asks hop) is = let same : request_sent i hop ≡ what = cc in of_sent (request_sent i hop) same refl
-    by_emission Nothing is = cc
+use Rattle.wire_sim.proofs.passage.SendersTellOwn.{sent-own}
 
 -- The other side emitted what is delivered.
 
-from-other : (w v : WorldView) (side : Side) (index : ℕ) (isn : Seq) (f : Frame) (answer : Answer) → slice_get w.network.frames index ≡ Some f → IsStep (event.Deliver side index isn) answer w v → f.sender ≡ other_side side
+pub from-other : (w v : WorldView) (side : Side) (index : ℕ) (isn : Seq) (f : Frame) (answer : Answer) → slice_get w.network.frames index ≡ Some f → IsStep (event.Deliver side index isn) answer w v → f.sender ≡ other_side side
 from-other w v side index isn f answer there step =
     let fair = (unrefused w (event.Deliver side index isn)).0 step.fair in
     let same : fair.0 ≡ f = only fair.0 (slice_get w.network.frames index) fair.1 there in
@@ -108,7 +60,7 @@ from-other w v side index isn f answer there step =
 -- Every frame.
 
 -- what goes out of the host that the run tells of
-as-sent : (limit : ℕ) (w : WorldView) (run : IsReached limit w) (index : ℕ) (f : Frame) (o : IsOut limit w run index f)
+pub as-sent : (limit : ℕ) (w : WorldView) (run : IsReached limit w) (index : ℕ) (f : Frame) (o : IsOut limit w run index f)
     → IsSent (emission_octets (host_of o.before.network f.sender) (clock_of o.before.network f.sender)) (sent_at (host_of o.before.network f.sender) (clock_of o.before.network f.sender))
 as-sent limit w run index f o =
     let t : IsOfTwo (host_of o.before.network f.sender) = out-accepted limit o.before o.reached f.sender in
@@ -134,7 +86,7 @@ met-as-sent limit w v run side index isn f answer there step =
     let s = as-sent limit w run index f o in
     let out : WentOut limit w run index f = out-as limit w run index f o s in
     let from : s.what.from ≡ addr_at w.network (other_side side) =
-    sent-from _ (host_of o.before.network f.sender) (clock_of o.before.network f.sender) s.what o.side s.is ∙ out-addr limit w run index f o ∙ ap (addr_at w.network) (from-other w v side index isn f answer there step) in
+    (sent-own _ (host_of o.before.network f.sender) (clock_of o.before.network f.sender) s.what o.side o.sound s.is).from ∙ out-addr limit w run index f o ∙ ap (addr_at w.network) (from-other w v side index isn f answer there step) in
     (out, λ spelled. is-met limit w v run side index isn f answer s.what there step from (out.heard spelled))
 
 -- Every segment.

@@ -5,11 +5,13 @@ use Rattle.std.proofs.lemmas.Bool.{or_parts}
 use Rattle.ipv4.specs.Addresses.{same_addr}
 use Rattle.frames.specs.Meaning.{may_send, same_mac}
 use Rattle.frames.proofs.Deciding.{addr-Decides, never, send-Decides}
+use Rattle.arp.specs.declared.entry.Neighbour.{Neighbour}
 use Rattle.interface.specs.InterfaceView.{InterfaceView}
 use Rattle.sockets.specs.Order.{IsOrdered}
 use Rattle.host.specs.ConfigView.{ConfigView}
 use Rattle.host.specs.Emission.{emission_len, emission_octets}
 use Rattle.host.specs.HostView.{HostView}
+use Rattle.host.specs.Runs.{Event as HostEvent}
 use Rattle.host.specs.Sound.{IsSoundHost}
 use Rattle.datagram_law.specs.Accepted.{Accepted}
 use Rattle.sides.specs.declared.side.Side.{Side}
@@ -26,11 +28,11 @@ use Rattle.wire_sim.specs.Passage.{Passes, EveryHostStays, addr_at, routes_at}
 use Rattle.wire_sim.specs.Sent.{AreWholeRoutes}
 use Rattle.wire_sim.specs.Runs.{IsStep, IsReached, begins, goes_on}
 use Rattle.wire_sim.specs.WorldView.{NetworkView, WorldView, host_of, clock_of, table_of}
-use Rattle.wire_sim.proofs.HostsRun.{IsMoved, moved, sound-at, tables-kept}
+use Rattle.wire_sim.proofs.HostsRun.{AreBrought, IsMoved, moved, sound-at, tables-kept}
 use Rattle.wire_sim.proofs.datagrams.RunsKeepDatagrams.{hosts-keep}
 use Rattle.wire_sim.proofs.datagrams.TablesKeepToAccepted.{IsTableOf}
 use Rattle.wire_sim.proofs.fairness.NotesAreTraced.{PutsFrame, frames-step, got-added}
-use Rattle.wire_sim.proofs.passage.HostsStay.{IsSideOf, stays-on}
+use Rattle.wire_sim.proofs.passage.HostsStay.{Anyone, IsSideOf, Teaches, stays-on}
 
 -- the set-up of a side's host, with which a run began
 abbrev pub config_of : (limit : ℕ) (w : WorldView) → IsReached limit w → Side → ConfigView
@@ -41,14 +43,20 @@ config_of limit w (goes_on old new happens answer run step) side = config_of lim
 abbrev pub side_at : NetworkView → Side → InterfaceView
 side_at n side = let h = host_of n side in h.interface
 
-pub hosts-stay : (limit : ℕ) (w : WorldView) (run : IsReached limit w) (side : Side) → IsSideOf (config_of limit w run side) (side_at w.network side)
-hosts-stay limit w (begins a b apart few) A = record { mac = refl; addr = refl; routes = refl; replies = tt }
-hosts-stay limit w (begins a b apart few) B = record { mac = refl; addr = refl; routes = refl; replies = tt }
-hosts-stay limit _ (goes_on w v happens answer run step) side = by_move (hosts-stay limit w run side) (moved w v happens answer step side)
+-- over one event that teaches it no other neighbours than it may know
+pub side-stays : {knows : Neighbour → Type 0} (c : ConfigView) (w v : WorldView) (happens : Event) (answer : Answer) → IsStep happens answer w v → (side : Side)
+    → ((e : HostEvent) → AreBrought w.network side happens e → Teaches knows e (host_of w.network side)) → IsSideOf c knows (side_at w.network side) → IsSideOf c knows (side_at v.network side)
+side-stays {knows} c w v happens answer step side teaches before = by_move (moved w v happens answer step side)
   where
-    by_move : IsSideOf (config_of limit w run side) (side_at w.network side) → IsMoved w.network (clock_of v.network side) side happens (host_of w.network side) (host_of v.network side) → IsSideOf (config_of limit w run side) (side_at v.network side)
-    by_move before (inl same) = subst (λ (h : HostView). IsSideOf (config_of limit w run side) h.interface) (sym same) before
-    by_move before (inr (e, numbered, makes, brings, up)) = stays-on (config_of limit w run side) e (host_of w.network side) (host_of v.network side) before makes
+    by_move : IsMoved w.network (clock_of v.network side) side happens (host_of w.network side) (host_of v.network side) → IsSideOf c knows (side_at v.network side)
+    by_move (inl same) = subst (λ (h : HostView). IsSideOf c knows h.interface) (sym same) before
+    by_move (inr (e, numbered, makes, brings, up)) = stays-on c e (host_of w.network side) (host_of v.network side) (teaches e brings) before makes
+
+pub hosts-stay : (limit : ℕ) (w : WorldView) (run : IsReached limit w) (side : Side) → IsSideOf (config_of limit w run side) Anyone (side_at w.network side)
+hosts-stay limit w (begins a b apart few) A = record { mac = refl; addr = refl; routes = refl; replies = tt; neighbours = tt }
+hosts-stay limit w (begins a b apart few) B = record { mac = refl; addr = refl; routes = refl; replies = tt; neighbours = tt }
+hosts-stay limit _ (goes_on w v happens answer run step) side =
+    side-stays (config_of limit w run side) w v happens answer step side (λ e brings now isn octets packet is heard moment. tt) (hosts-stay limit w run side)
 
 -- the two addresses differ
 configs-apart : (limit : ℕ) (w : WorldView) (run : IsReached limit w) → same_addr (let a = config_of limit w run A in a.addr) (let b = config_of limit w run B in b.addr) ≡ false
@@ -78,7 +86,7 @@ pub record IsOut (limit : ℕ) (w : WorldView) (run : IsReached limit w) (index 
   pub len : ℕ
   pub passed : Passes limit w run before (event.Emit f.sender) (reply.Frame index len)
   pub sound : IsSoundHost (host_of before.network f.sender)
-  pub side : IsSideOf (config_of limit w run f.sender) (side_at before.network f.sender)
+  pub side : IsSideOf (config_of limit w run f.sender) Anyone (side_at before.network f.sender)
   pub due : emission_len (host_of before.network f.sender) (clock_of before.network f.sender) ≡ Some len
   pub octets : f.octets.items ≡ emission_octets (host_of before.network f.sender) (clock_of before.network f.sender)
 
