@@ -15,6 +15,7 @@ use Rattle.ether.specs.declared.mac.Mac.{Mac}
 use Rattle.frames.specs.declared.meaning.Meaning.{Meaning}
 use Rattle.frames.specs.declared.meaning.Meaning.TheVariants.{Icmp}
 use Rattle.frames.specs.Meaning.{heard}
+use Rattle.interface.specs.InterfaceView.{InterfaceView}
 use Rattle.interface.specs.Ways.{is_routed}
 use Rattle.sockets.specs.declared.entry.Entry.{Entry}
 use Rattle.sockets.specs.declared.entry.Kind.{Kind}
@@ -36,7 +37,7 @@ use Rattle.sockets.proofs.Near.{fresh_near, deadline_near}
 use Rattle.sockets.proofs.Telling.{socket_told, role_tells}
 use Rattle.host.specs.Emission.{after_emission, emission_octets}
 use Rattle.host.specs.HostView.{HostView}
-use Rattle.host.specs.Runs.{Event as HostEvent, Calls, Ticks, Delivers, Emits, IsNumbered, IsUpTo, Makes, Runs, Begins, GoesOn}
+use Rattle.host.specs.Runs.{Event as HostEvent, Calls, Ticks, Delivers, Emits, IsCall, IsNumbered, IsUpTo, Makes, Runs, Begins, GoesOn}
 use Rattle.host.specs.Sound.{IsSoundHost}
 use Rattle.host.specs.ConfigView.{ConfigView}
 use Rattle.routes.specs.declared.route.Route.{Route}
@@ -68,59 +69,59 @@ use Rattle.wire_sim.proofs.openings.HoldingsAreNoted.{other-stays, side_of}
 use Rattle.wire_sim.proofs.runs.ClocksGoOn.{clock-goes-on, tick-told}
 use Rattle.wire_sim.proofs.runs.RunsAreLawful.{own-again, own-with}
 
--- What a call makes of a table: it stays, or takes one event that is allowed.
+-- What a call makes of a table, behind an interface: it stays, or takes one event that is allowed, and is a call.
 
-abbrev IsCalled : SocketsView → SocketsView → Type 0
-IsCalled h new = (new ≡ h) ⊎ ((e : table.Event) × IsAllowed h e × timing.IsNumbered e × ((latest : Moment) → timing.IsUpTo latest e) × (new ≡ table.after_event h e))
+abbrev IsCalled : InterfaceView → SocketsView → SocketsView → Type 0
+IsCalled i h new = (new ≡ h) ⊎ ((e : table.Event) × IsAllowed h e × timing.IsNumbered e × ((latest : Moment) → timing.IsUpTo latest e) × (new ≡ table.after_event h e) × IsCall i.routes e)
 
 -- a call that changes nothing
-asked : {T : Type 0} (r : Result T Refusal) (told : T → Answer) (h : SocketsView) (answer : Answer) (new : SocketsView) → Answers r told h h answer new → IsCalled h new
-asked (Ok value) told h answer new meets = inl meets.1
-asked (Err refusal) told h answer new meets = inl meets.1
+asked : {T : Type 0} (i : InterfaceView) (r : Result T Refusal) (told : T → Answer) (h : SocketsView) (answer : Answer) (new : SocketsView) → Answers r told h h answer new → IsCalled i h new
+asked i (Ok value) told h answer new meets = inl meets.1
+asked i (Err refusal) told h answer new meets = inl meets.1
 
 -- a call that is allowed where it is answered
-answered : {T : Type 0} (r : Result T Refusal) (told : T → Answer) (h : SocketsView) (e : table.Event) (answer : Answer) (new : SocketsView) → timing.IsNumbered e → ((latest : Moment) → timing.IsUpTo latest e) → (is_ok r ≡ true → IsAllowed h e) → Answers r told (table.after_event h e) h answer new → IsCalled h new
-answered (Ok value) told h e answer new small up allowed meets = inr (e, allowed refl, small, up, meets.1)
-answered (Err refusal) told h e answer new small up allowed meets = inl meets.1
+answered : {T : Type 0} (i : InterfaceView) (r : Result T Refusal) (told : T → Answer) (h : SocketsView) (e : table.Event) (answer : Answer) (new : SocketsView) → timing.IsNumbered e → ((latest : Moment) → timing.IsUpTo latest e) → IsCall i.routes e → (is_ok r ≡ true → IsAllowed h e) → Answers r told (table.after_event h e) h answer new → IsCalled i h new
+answered i (Ok value) told h e answer new small up own allowed meets = inr (e, allowed refl, small, up, meets.1, own)
+answered i (Err refusal) told h e answer new small up own allowed meets = inl meets.1
 
 -- .. or where it isn't refused
 unrefused : (r : Option Refusal) → is_ok (unless_refused r (tt {0})) ≡ true → r ≡ None
 unrefused None is = refl
 unrefused (Some refusal) is = cc
 
-made : (kind : Kind) (h : SocketsView) (answer : Answer) (new : SocketsView) → MeetsSocket kind h answer new → IsCalled h new
-made Tcp h (reply.Socket id) new meets = inr (table.Makes CAPACITY, meets.0, tt, λ latest. tt, meets.2)
-made Udp h (reply.Socket id) new meets = inr (table.MakesDatagrams, meets.0, tt, λ latest. tt, meets.2)
-made kind h (reply.Refused EMFILE) new meets = inl meets.1
-made kind h (reply.Refused ENOMEM) new meets = inl meets.1
-made kind h _ new meets = absurd meets
+made : (i : InterfaceView) (kind : Kind) (h : SocketsView) (answer : Answer) (new : SocketsView) → MeetsSocket kind h answer new → IsCalled i h new
+made i Tcp h (reply.Socket id) new meets = inr (table.Makes CAPACITY, meets.0, tt, λ latest. tt, meets.2, tt)
+made i Udp h (reply.Socket id) new meets = inr (table.MakesDatagrams, meets.0, tt, λ latest. tt, meets.2, tt)
+made i kind h (reply.Refused EMFILE) new meets = inl meets.1
+made i kind h (reply.Refused ENOMEM) new meets = inl meets.1
+made i kind h _ new meets = absurd meets
 
-read : (h : SocketsView) (id : SocketId) (len : ℕ) (r : Result Received Refusal) → recv_answer h id len ≡ r → (answer : Answer) (new : SocketsView) → MeetsReceived h id len r answer new → IsCalled h new
-read h id len (Ok (received.Octets count)) is (reply.Octets octets) new meets = inr (table.Receives id len, ap is_ok is, tt, λ latest. tt, meets.1)
-read h id len (Ok received.EndOfStream) is reply.EndOfStream new meets = inr (table.Receives id len, ap is_ok is, tt, λ latest. tt, meets)
-read h id len (Err refusal) is (reply.Refused told) new meets = inl meets.1
-read h id len _ is _ new meets = absurd meets
+read : (i : InterfaceView) (h : SocketsView) (id : SocketId) (len : ℕ) (r : Result Received Refusal) → recv_answer h id len ≡ r → (answer : Answer) (new : SocketsView) → MeetsReceived h id len r answer new → IsCalled i h new
+read i h id len (Ok (received.Octets count)) is (reply.Octets octets) new meets = inr (table.Receives id len, ap is_ok is, tt, λ latest. tt, meets.1, tt)
+read i h id len (Ok received.EndOfStream) is reply.EndOfStream new meets = inr (table.Receives id len, ap is_ok is, tt, λ latest. tt, meets, tt)
+read i h id len (Err refusal) is (reply.Refused told) new meets = inl meets.1
+read i h id len _ is _ new meets = absurd meets
 
-read_from : (h : SocketsView) (id : SocketId) (len : ℕ) (r : Result (ℕ × Endpoint) Refusal) → recvfrom_answer h id len ≡ r → (answer : Answer) (new : SocketsView) → MeetsReceivedFrom h id r answer new → IsCalled h new
-read_from h id len (Ok (count, from)) is (reply.Datagram octets told) new meets = inr (table.ReceivesFrom id len, ap is_ok is, tt, λ latest. tt, meets.2)
-read_from h id len (Err refusal) is (reply.Refused told) new meets = inl meets.1
-read_from h id len _ is _ new meets = absurd meets
+read_from : (i : InterfaceView) (h : SocketsView) (id : SocketId) (len : ℕ) (r : Result (ℕ × Endpoint) Refusal) → recvfrom_answer h id len ≡ r → (answer : Answer) (new : SocketsView) → MeetsReceivedFrom h id r answer new → IsCalled i h new
+read_from i h id len (Ok (count, from)) is (reply.Datagram octets told) new meets = inr (table.ReceivesFrom id len, ap is_ok is, tt, λ latest. tt, meets.2, tt)
+read_from i h id len (Err refusal) is (reply.Refused told) new meets = inl meets.1
+read_from i h id len _ is _ new meets = absurd meets
 
-called : (routed : Addr → Bool) (c : Call) (h : SocketsView) (answer : Answer) (new : SocketsView) → IsNumberedCall c → MeetsCall routed c h answer new → IsCalled h new
-called routed (call.Socket kind) h answer new small meets = made kind h answer new meets
-called routed (call.Bind id local) h answer new small meets = answered _ _ h (table.Binds id local) answer new tt (λ latest. tt) (unrefused (bind_refusal h id local)) meets
-called routed (call.Listen id backlog) h answer new small meets = answered _ _ h (table.Listens id backlog) answer new tt (λ latest. tt) (unrefused (listen_refusal h id backlog)) meets
-called routed (call.Accept id) h answer new small meets = answered (accept_answer h id) _ h (table.Accepts id) answer new tt (λ latest. tt) (λ taken. taken) meets
-called routed (call.Connect isn id peer) h answer new small meets = answered _ _ h (table.Connects isn.0 id peer (routed peer.addr)) answer new small (λ latest. tt) (unrefused (connect_refusal h id peer (routed peer.addr))) meets
-called routed (call.Send id octets) h answer new small meets = answered (send_answer h id octets.items) _ h (table.Sends id octets.items) answer new tt (λ latest. tt) (λ taken. taken) meets
-called routed (call.Recv id len) h answer new small meets = read h id (recv_len len) (recv_answer h id (recv_len len)) refl answer new meets
-called routed (call.SendTo id peer octets) h answer new small meets = answered (sendto_answer h id peer octets.items (routed peer.addr)) _ h (table.SendsTo id peer octets.items (routed peer.addr)) answer new tt (λ latest. tt) (λ taken. taken) meets
-called routed (call.RecvFrom id len) h answer new small meets = read_from h id (recv_len len) (recvfrom_answer h id (recv_len len)) refl answer new meets
-called routed (call.Shutdown id) h answer new small meets = answered _ _ h (table.Shuts id) answer new tt (λ latest. tt) (unrefused (shutdown_refusal h id)) meets
-called routed (call.Close id) h answer new small meets = answered _ _ h (table.Closes id) answer new tt (λ latest. tt) (unrefused (close_refusal h id)) meets
-called routed (call.State id) h answer new small meets = asked (state_answer h id) _ h answer new meets
-called routed (call.SockName id) h answer new small meets = asked (sockname_answer h id) _ h answer new meets
-called routed (call.PeerName id) h answer new small meets = asked (peername_answer h id) _ h answer new meets
+called : (i : InterfaceView) (c : Call) (h : SocketsView) (answer : Answer) (new : SocketsView) → IsNumberedCall c → MeetsCall (is_routed i) c h answer new → IsCalled i h new
+called i (call.Socket kind) h answer new small meets = made i kind h answer new meets
+called i (call.Bind id local) h answer new small meets = answered i _ _ h (table.Binds id local) answer new tt (λ latest. tt) tt (unrefused (bind_refusal h id local)) meets
+called i (call.Listen id backlog) h answer new small meets = answered i _ _ h (table.Listens id backlog) answer new tt (λ latest. tt) tt (unrefused (listen_refusal h id backlog)) meets
+called i (call.Accept id) h answer new small meets = answered i (accept_answer h id) _ h (table.Accepts id) answer new tt (λ latest. tt) tt (λ taken. taken) meets
+called i (call.Connect isn id peer) h answer new small meets = answered i _ _ h (table.Connects isn.0 id peer (is_routed i peer.addr)) answer new small (λ latest. tt) refl (unrefused (connect_refusal h id peer (is_routed i peer.addr))) meets
+called i (call.Send id octets) h answer new small meets = answered i (send_answer h id octets.items) _ h (table.Sends id octets.items) answer new tt (λ latest. tt) tt (λ taken. taken) meets
+called i (call.Recv id len) h answer new small meets = read i h id (recv_len len) (recv_answer h id (recv_len len)) refl answer new meets
+called i (call.SendTo id peer octets) h answer new small meets = answered i (sendto_answer h id peer octets.items (is_routed i peer.addr)) _ h (table.SendsTo id peer octets.items (is_routed i peer.addr)) answer new tt (λ latest. tt) refl (λ taken. taken) meets
+called i (call.RecvFrom id len) h answer new small meets = read_from i h id (recv_len len) (recvfrom_answer h id (recv_len len)) refl answer new meets
+called i (call.Shutdown id) h answer new small meets = answered i _ _ h (table.Shuts id) answer new tt (λ latest. tt) tt (unrefused (shutdown_refusal h id)) meets
+called i (call.Close id) h answer new small meets = answered i _ _ h (table.Closes id) answer new tt (λ latest. tt) tt (unrefused (close_refusal h id)) meets
+called i (call.State id) h answer new small meets = asked i (state_answer h id) _ h answer new meets
+called i (call.SockName id) h answer new small meets = asked i (sockname_answer h id) _ h answer new meets
+called i (call.PeerName id) h answer new small meets = asked i (peername_answer h id) _ h answer new meets
 
 -- What an event of a world makes of a host: it stays, or takes one event of its own, and what that delivers is a frame that the event delivered.
 
@@ -136,19 +137,26 @@ pub record Brings (n : NetworkView) (side : Side) (happens : Event) (octets : Li
 abbrev pub AreBrought : NetworkView → Side → Event → HostEvent → Type 0
 AreBrought n side happens e = (now : Moment) (isn : ℕ) (octets : List ℕ) → e ≡ Delivers now isn octets → Brings n side happens octets
 
+-- a call of a host is one of its table's events that a socket's call is
+abbrev pub IsOwnCall : List Route → HostEvent → Type 0
+IsOwnCall routes (Calls e) = IsCall routes e
+IsOwnCall routes (Ticks now) = Unit {0}
+IsOwnCall routes (Delivers now isn octets) = Unit {0}
+IsOwnCall routes (Emits now) = Unit {0}
+
 -- and that names no later moment than this
 abbrev pub IsMoved : NetworkView → Moment → Side → Event → HostView → HostView → Type 0
-IsMoved n latest side happens h new = (new ≡ h) ⊎ ((e : HostEvent) × IsNumbered e × Makes e h new × AreBrought n side happens e × IsUpTo latest e)
+IsMoved n latest side happens h new = (new ≡ h) ⊎ ((e : HostEvent) × IsNumbered e × Makes e h new × AreBrought n side happens e × IsUpTo latest e × IsOwnCall h.interface.routes e)
 
 call-moves : (n : NetworkView) (latest : Moment) (s : Side) (c : Call) (h : HostView) (answer : Answer) (new : HostView) → IsNumberedCall c → HostMeetsCall c h answer new → IsMoved n latest s (event.Call s c) h new
-call-moves n latest s c h answer new small meets = by_table (called (is_routed h.interface) c h.sockets answer new.sockets small meets.table)
+call-moves n latest s c h answer new small meets = by_table (called h.interface c h.sockets answer new.sockets small meets.table)
   where
     with_table : (t : SocketsView) → new.sockets ≡ t → new ≡ record h { sockets = t }
     with_table t is = meets.others ∙ ap (λ (x : SocketsView). let k : HostView = record h { sockets = x } in k) is
 
-    by_table : IsCalled h.sockets new.sockets → IsMoved n latest s (event.Call s c) h new
+    by_table : IsCalled h.interface h.sockets new.sockets → IsMoved n latest s (event.Call s c) h new
     by_table (inl same) = inl (with_table h.sockets same)
-    by_table (inr (e, allowed, numbered, up, is)) = inr (Calls e, numbered, (allowed, with_table (table.after_event h.sockets e) is), λ now isn octets none. cc, up latest)
+    by_table (inr (e, allowed, numbered, up, is, own)) = inr (Calls e, numbered, (allowed, with_table (table.after_event h.sockets e) is), λ now isn octets none. cc, up latest, own)
 
 frame-moves : (n : NetworkView) (latest : Moment) (s : Side) (index : ℕ) (number : Seq) (f : Frame) (h : HostView) (now : Moment) (answer : Answer) (new : HostView) → number.0 < 2 ^ 32 → now.0 ≤ latest.0 → slice_get n.frames index ≡ Some f
     → MeetsFrame h now number.0 f.octets.items answer new → IsMoved n latest s (event.Deliver s index number) h new
@@ -158,14 +166,14 @@ frame-moves n latest s index number f h now answer new small up there meets = by
     brings then isn octets is = record { index = index; isn = number; is = refl; frame = f; there = there; carries = (let same : f.octets.items ≡ octets = cc in same) }
 
     by_answer : (answer : Answer) → MeetsFrame h now number.0 f.octets.items answer new → IsMoved n latest s (event.Deliver s index number) h new
-    by_answer reply.Taken meets = inr (Delivers now number.0 f.octets.items, small, (Ok tt, meets), brings, up)
-    by_answer (reply.Dropped cause) meets = inr (Delivers now number.0 f.octets.items, small, (Err cause, meets), brings, up)
+    by_answer reply.Taken meets = inr (Delivers now number.0 f.octets.items, small, (Ok tt, meets), brings, up, tt)
+    by_answer (reply.Dropped cause) meets = inr (Delivers now number.0 f.octets.items, small, (Err cause, meets), brings, up, tt)
     by_answer _ meets = absurd meets
 
 own-moves : (happens : Event) (place : ℕ) (answer : Answer) (n m : NetworkView) → world.IsNumbered happens → Steps happens place answer n m → IsMoved n (clock_of m (side_of happens)) (side_of happens) happens (host_of n (side_of happens)) (host_of m (side_of happens))
 own-moves (event.Call s c) place answer n m small step = call-moves n (clock_of m s) s c (host_of n s) answer (host_of m s) small step.0
 own-moves (event.Tick s moment) place answer n m small step =
-    inr (Ticks moment, tt, ap (λ (k : NetworkView). host_of k s) step.1 ∙ own-with n s (station_after_tick (station_of n s) moment), λ now isn octets none. cc, tick-told s moment place answer n m step)
+    inr (Ticks moment, tt, ap (λ (k : NetworkView). host_of k s) step.1 ∙ own-with n s (station_after_tick (station_of n s) moment), λ now isn octets none. cc, tick-told s moment place answer n m step, tt)
 own-moves (event.Emit s) place answer n m small step = by_answer answer step
   where
     by_answer : (answer : Answer) → MeetsEmission s answer n m → IsMoved n (clock_of m s) s (event.Emit s) (host_of n s) (host_of m s)
@@ -173,7 +181,7 @@ own-moves (event.Emit s) place answer n m small step = by_answer answer step
         let next : HostView = after_emission (host_of n s) (clock_of n s) in
         let x : Station = let t = station_of n s in record t { host = next } in
         let k : NetworkView = record (with_host n s next) { frames = n.frames ++ step.frame ∷ [] } in
-        inr (Emits (clock_of n s), tt, ap (λ (v : NetworkView). host_of v s) step.after ∙ (own-again (with_host n s next) k s refl refl ∙ own-with n s x), λ now isn octets none. cc, clock-goes-on (event.Emit s) place (reply.Frame index len) n m step s)
+        inr (Emits (clock_of n s), tt, ap (λ (v : NetworkView). host_of v s) step.after ∙ (own-again (with_host n s next) k s refl refl ∙ own-with n s x), λ now isn octets none. cc, clock-goes-on (event.Emit s) place (reply.Frame index len) n m step s, tt)
     by_answer reply.NoFrame step = inl (ap (λ (v : NetworkView). host_of v s) step.after)
     by_answer _ step = absurd step
 own-moves (event.Deliver s index isn) place answer n m small step = by_frame (slice_get n.frames index) refl step
@@ -249,7 +257,7 @@ run-on w v happens answer step side sound (inl same) r = record {
   runs = subst (Runs r.config r.events) (sym same) r.runs;
   traced = λ now isn octets within. delivered-on w v happens answer step side octets (r.traced now isn octets within);
 }
-run-on w v happens answer step side sound (inr (e, numbered, makes, brings, up)) r = record {
+run-on w v happens answer step side sound (inr (e, numbered, makes, brings, up, own)) r = record {
   config = r.config;
   own = set-up r.config (r.events ++ e ∷ []) (host_of v.network side) (GoesOn r.events e (host_of w.network side) (host_of v.network side) r.runs sound numbered makes);
   events = r.events ++ e ∷ [];
@@ -301,7 +309,7 @@ tables-near limit _ (goes_on w v happens answer reached step) side =
   where
     by_move : AreNear (clock_of v.network side) (table_of w.network side) → IsMoved w.network (clock_of v.network side) side happens (host_of w.network side) (host_of v.network side) → AreNear (clock_of v.network side) (table_of v.network side)
     by_move before (inl same) = subst (λ (h : HostView). AreNear (clock_of v.network side) h.sockets) (sym same) before
-    by_move before (inr (e, numbered, makes, brings, up)) = event-near e (host_of w.network side) (host_of v.network side) (clock_of v.network side) (sound-at w v step side) numbered up makes before
+    by_move before (inr (e, numbered, makes, brings, up, own)) = event-near e (host_of w.network side) (host_of v.network side) (clock_of v.network side) (sound-at w v step side) numbered up makes before
 
 pub tables-kept : EveryTableIsKept
 tables-kept limit w reached side =
@@ -369,7 +377,7 @@ tells-step limit w v happens answer reached step side id error told = by_move (m
 
     by_move : IsMoved w.network (clock_of v.network side) side happens old new → IsTold new.sockets id error
     by_move (inl same) = subst (λ (h : HostView). IsTold h.sockets id error) (sym same) told
-    by_move (inr (e, numbered, makes, brings, up)) =
+    by_move (inr (e, numbered, makes, brings, up, own)) =
         let kept : IsKept (clock_of w.network side) (table_of w.network side) = tables-kept limit w reached side in
         let sound = sound-at w v step side in
         (event-tells e old new id error sound numbered makes kept.time told.1 told.0, omega (arith, told.1, event-given e old new sound numbered makes))

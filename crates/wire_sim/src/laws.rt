@@ -8,7 +8,7 @@ ghost use Rattle.wire_sim.specs.Notes.{EveryNoteIsTraced, EveryDelayIsTraced};
 ghost use Rattle.wire_sim.specs.Rounds.{EveryRoundIsARun};
 ghost use Rattle.wire_sim.specs.RoomyRuns.{EveryRoomyRunIsARun, EveryStepLeavesRoom, EveryRunLeavesRoom, EveryBareRunHasRoom};
 ghost use Rattle.wire_sim.specs.Datagrams.{EveryRunKeepsDatagrams, EveryDatagramIsTraced};
-ghost use Rattle.wire_sim.specs.Neighbours.{EveryNeighbourIsTheOtherHost, EveryKnownHopIsTheOtherHost};
+ghost use Rattle.wire_sim.specs.Neighbours.{EveryNeighbourIsTheOtherHost, EveryKnownHopIsTheOtherHost, EveryOpenConnectionLeadsToTheOther};
 ghost use Rattle.wire_sim.specs.Passage.{EveryFrameIsHeardAsSent, EveryFrameIsMetAsSent, EverySegmentArrives, EveryHostStays};
 
 /// In every run of a world of two hosts, over every list of socket calls, ticks, emissions and fair deliveries in any order, for
@@ -158,6 +158,11 @@ pub fn every_host_stays()
 pub fn every_neighbour_is_the_other_host()
     ensures pairs { EveryNeighbourIsTheOtherHost }
     ensures hops { EveryKnownHopIsTheOtherHost }
+{}
+
+/// The next hop of each connection that is past its opening and not CLOSED is the other host, whatever the routes are: something of it went out, and no other MAC is ever known.
+pub fn every_open_connection_leads_to_the_other_host()
+    ensures { EveryOpenConnectionLeadsToTheOther }
 {}
 
 /// What is seen of a run of a world with its room is a run of a world, so that each law over runs holds of it.

@@ -50,7 +50,7 @@ side-stays {knows} c w v happens answer step side teaches before = by_move (move
   where
     by_move : IsMoved w.network (clock_of v.network side) side happens (host_of w.network side) (host_of v.network side) → IsSideOf c knows (side_at v.network side)
     by_move (inl same) = subst (λ (h : HostView). IsSideOf c knows h.interface) (sym same) before
-    by_move (inr (e, numbered, makes, brings, up)) = stays-on c e (host_of w.network side) (host_of v.network side) (teaches e brings) before makes
+    by_move (inr (e, numbered, makes, brings, up, own)) = stays-on c e (host_of w.network side) (host_of v.network side) (teaches e brings) before makes
 
 pub hosts-stay : (limit : ℕ) (w : WorldView) (run : IsReached limit w) (side : Side) → IsSideOf (config_of limit w run side) Anyone (side_at w.network side)
 hosts-stay limit w (begins a b apart few) A = record { mac = refl; addr = refl; routes = refl; replies = tt; neighbours = tt }

@@ -1,0 +1,3 @@
+pub mod UnsentStaysSilent
+pub mod SpeakersHaveHops
+pub mod OpenConnectionsLead
