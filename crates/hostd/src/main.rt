@@ -92,8 +92,9 @@ fn run_script(
     if are_same_file(rt, path, capture) {
         return report(rt, format_args!("{path} and {capture} are the same file"));
     }
-    let Ok(mut capture) = create(rt, capture) else {
-        return report(rt, TextFault::Write);
+    let mut capture = match create(rt, capture) {
+        Ok(capture) => capture,
+        Err(fault) => return report(rt, fault),
     };
     match captured_too(rt.alloc(), &mut script, ladder, &mut out, &mut capture) {
         Ok(ends) => ended(rt, ends.whole()),
@@ -152,10 +153,15 @@ fn print_frames(rt: &HostRuntime, path: &str) -> ExitCode {
     ended(rt, captured::decode(rt.alloc(), &mut capture, &mut out))
 }
 
-/// The sink of a new file at this path.
-fn create(rt: &HostRuntime, path: &str) -> io::Result<FileSink> {
-    let file = fs::create(rt, path)?;
-    Ok(Writing::new(BufWriter::new(rt.alloc(), file)?))
+/// The sink of a new file at this path. `Write` where the file can't be made, `NoMemory` where there is none for its buffer.
+fn create(rt: &HostRuntime, path: &str) -> Result<FileSink, TextFault> {
+    let Ok(file) = fs::create(rt, path) else {
+        return Err(TextFault::Write);
+    };
+    match BufWriter::new(rt.alloc(), file) {
+        Ok(buffered) => Ok(Writing::new(buffered)),
+        Err(_) => Err(TextFault::NoMemory),
+    }
 }
 
 /// Copies a file to another, which is made anew, over two hosts that two UDP sockets join, and writes a capture of their frames to a third, if one
@@ -180,8 +186,9 @@ fn copy_file(
     if let Some((one, other)) = twice_meant(rt, source, destination, capture) {
         return report(rt, format_args!("{one} and {other} are the same file"));
     }
-    let Ok(capture) = create_reporting(rt, capture) else {
-        return report(rt, TextFault::Write);
+    let capture = match create_if_told(rt, capture) {
+        Ok(capture) => capture,
+        Err(fault) => return report(rt, fault),
     };
     let Ok((a, b)) = pair(rt) else {
         return report(rt, CopyFault::Link);
@@ -232,7 +239,7 @@ fn are_same_file(rt: &HostRuntime, one: &str, other: &str) -> bool {
 }
 
 /// The sink of a new file, if a path of one is told.
-fn create_reporting(rt: &HostRuntime, path: Option<&str>) -> io::Result<Option<FileSink>> {
+fn create_if_told(rt: &HostRuntime, path: Option<&str>) -> Result<Option<FileSink>, TextFault> {
     match path {
         Some(path) => Ok(Some(create(rt, path)?)),
         None => Ok(None),
