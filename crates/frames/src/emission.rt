@@ -61,7 +61,8 @@ impl FrameHead {
         self.emit(self.part_head(part), usize::from(part.fragment.len), out)
     }
 
-    /// Writes the head of the frame and this header of a datagram before a payload.
+    /// Writes the head of the frame and this header of a datagram before a payload. Its callers know most of that header, so it is a part of each.
+    #[inline(always)]
     fn emit(&self, head: ipv4::Head, payload_len: usize, out: &mut [u8; FRAME_MAX]) -> usize
         requires most { payload_len ≤ PAYLOAD_IN_FRAME }
         requires place { HasPlace head.more_fragments head.offset payload_len }
