@@ -5,3 +5,4 @@ pub mod CopyIsSame
 pub mod RoomLasts
 pub mod RoomyRunsLast
 pub mod ClocksGoOn
+pub mod ClocksAreKept

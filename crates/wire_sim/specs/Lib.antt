@@ -10,6 +10,7 @@ pub mod Trace
 pub mod Runs
 pub mod RoomyRuns
 pub mod Rounds
+pub mod Exchanges
 pub mod Datagrams
 pub mod Coverage
 pub mod Holding

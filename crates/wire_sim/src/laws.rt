@@ -6,6 +6,7 @@ ghost use Rattle.wire_sim.specs.HostRuns.{EveryHostRuns, EveryTableIsKept, Every
 ghost use Rattle.wire_sim.specs.Holding.{EveryOpeningIsBegun, EveryHoldingIsNoted};
 ghost use Rattle.wire_sim.specs.Notes.{EveryNoteIsTraced, EveryDelayIsTraced};
 ghost use Rattle.wire_sim.specs.Rounds.{EveryRoundIsARun};
+ghost use Rattle.wire_sim.specs.Exchanges.{EveryClockIsKept, EveryHostIsKept};
 ghost use Rattle.wire_sim.specs.RoomyRuns.{EveryRoomyRunIsARun, EveryStepLeavesRoom, EveryRunLeavesRoom, EveryBareRunHasRoom};
 ghost use Rattle.wire_sim.specs.Datagrams.{EveryRunKeepsDatagrams, EveryDatagramIsTraced};
 ghost use Rattle.wire_sim.specs.Neighbours.{EveryNeighbourIsTheOtherHost, EveryKnownHopIsTheOtherHost, EveryOpenConnectionLeadsToTheOther};
@@ -49,6 +50,13 @@ pub fn every_host_runs()
 /// the moment that its host's clock shows, and no wait is counted from a later one.
 pub fn every_table_is_kept()
     ensures { EveryTableIsKept }
+{}
+
+/// What the clock of a side shows is the moment that its host keeps: none but a tick moves either, and that moves both to the later of the two. So each host that is sound, as all are that an event finds, keeps what the law of a round
+/// asks of a host (`round_law`).
+pub fn every_clock_is_kept()
+    ensures clocks { EveryClockIsKept }
+    ensures hosts { EveryHostIsKept }
 {}
 
 /// So no deadline of the timers of a connection lies more than 240,000 ms past the moment that its host's clock shows, the time that TIME-WAIT lasts (RFC 9293 section 3.4.2), at whatever moments the host was ticked.

@@ -33,6 +33,7 @@ use Rattle.datagram_law.specs.Pools.{IsPoolOf}
 use Rattle.sides.specs.declared.side.Side.{Side}
 use Rattle.sides.specs.declared.side.Side.TheVariants.{A, B}
 use Rattle.sides.specs.Sides.{other_side}
+use Rattle.wire_sim.specs.declared.event.Answer.{Answer}
 use Rattle.wire_sim.specs.declared.event.Event.{Event}
 use Rattle.wire_sim.specs.declared.world.bag.Frame.{Frame}
 use Rattle.wire_sim.specs.Neighbours.{LeadsToTheOther, EveryOpenConnectionLeadsToTheOther}
@@ -152,6 +153,20 @@ came-from : (limit : ℕ) (w : WorldView) (run : IsReached limit w) (side : Side
 came-from limit w run A index f there sender = came-between A B _ _ w index f (hosts-keep limit w run) (λ same. cc) there sender
 came-from limit w run B index f there sender = came-between B A _ _ w index f (hosts-swapped A B _ _ w.network (hosts-keep limit w run)) (λ same. cc) there sender
 
+-- what the table of a side's host took of a frame that an event delivers to it
+pub delivery-takes : (limit : ℕ) (w v : WorldView) → IsReached limit w → (happens : Event) (answer : Answer) → IsStep happens answer w v → (side : Side) (now : Moment) (isn : ℕ) (octets : List ℕ)
+    → AreBrought w.network side happens (Delivers now isn octets) → Makes (Delivers now isn octets) (host_of w.network side) (host_of v.network side)
+    → (other : List Accepted) × TableTakes other (table_of w.network side) (table_of v.network side)
+delivery-takes limit w v run happens answer step side now isn octets brings makes =
+    let b : Brings w.network side happens octets = brings now isn octets refl in
+    let from : b.frame.sender ≡ other_side side = from-other w v side b.index b.isn b.frame answer b.there (subst (λ (x : Event). IsStep x answer w v) b.is step) in
+    let came : Came w side b.frame.octets.items = came-from limit w run side b.index b.frame b.there from in
+    let sound : IsSoundHost (host_of w.network side) = sound-at w v step side in
+    let takes : HostTakes came.other (host_of w.network side) (host_of v.network side) =
+    frame-takes came.other (host_of w.network side) (host_of v.network side) now isn octets makes.0 sound.own came.turn came.pool (subst (KeepsTo came.other) b.carries came.keeps) makes.1
+    in
+    (came.other, takes.table)
+
 -- Any event.
 
 -- that of a host whose table is this
@@ -186,11 +201,8 @@ hosts-lead limit _ (goes_on w v happens answer run step) side = by_move (hosts-l
         (each-hop leads ticked (table.GivesUp (lacks_hop old moment) moment) (tick_sound old.sockets moment sound.table) (λ goes at id c l is found. cc)
         (each-hop leads old.sockets (table.Ticks moment) sound.table (λ goes at id c l is found. cc) before))
     by_event (Delivers now isn octets) makes brings own before =
-        let b : Brings w.network side happens octets = brings now isn octets refl in
-        let from : b.frame.sender ≡ other_side side = from-other w v side b.index b.isn b.frame answer b.there (subst (λ (x : Event). IsStep x answer w v) b.is step) in
-        let came : Came w side b.frame.octets.items = came-from limit w run side b.index b.frame b.there from in
-        let takes : HostTakes came.other old new = frame-takes came.other old new now isn octets makes.0 sound.own came.turn came.pool (subst (KeepsTo came.other) b.carries came.keeps) makes.1 in
-        taken-hop leads came.other old.sockets new.sockets sound.table takes.table before
+        let taken = delivery-takes limit w v run happens answer step side now isn octets brings makes in
+        taken-hop leads taken.0 old.sockets new.sockets sound.table taken.1 before
     by_event (Emits now) makes brings own before =
         let moment : Moment = later_moment old.sockets now in
         hop-to leads (after_emission old now) new makes (going-out limit w run side moment sound.table leads (λ to known. known) before)
