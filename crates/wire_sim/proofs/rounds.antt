@@ -1,3 +1,5 @@
 pub mod RoundsAreRuns
 pub mod FramesInTurn
 pub mod ReadsInTurn
+pub mod FramesInTime
+pub mod RoundsAreExchanges

@@ -1,8 +1,12 @@
 -- The two hosts of a world as those of `round_law`, which names no world.
-use Rattle.std.specs.Prelude.{◌≡◌, ℕ}
+use Rattle.std.specs.Prelude.{◌≡◌, ℕ, ◌<◌}
+use Rattle.sockets.specs.declared.entry.SocketId.{SocketId}
 use Rattle.host.specs.Sound.{IsSoundHost}
 use Rattle.round_law.specs.Alone.{IsKept}
+use Rattle.round_law.specs.Exchange.{Hosts, IsExchange}
 use Rattle.sides.specs.declared.side.Side.{Side}
+use Rattle.sides.specs.Sides.{other_side}
+use Rattle.wire_sim.specs.Rounds.{Reads, IsRound}
 use Rattle.wire_sim.specs.Runs.{IsReached}
 use Rattle.wire_sim.specs.WorldView.{WorldView, host_of, table_of, clock_of}
 
@@ -13,3 +17,12 @@ EveryClockIsKept = (limit : ℕ) (w : WorldView) → IsReached limit w → (side
 -- So each host keeps what a host keeps that is told of no moment but that; it is sound, as `IsStep` says of those that an event finds.
 abbrev pub EveryHostIsKept : Type 0
 EveryHostIsKept = (limit : ℕ) (w : WorldView) → IsReached limit w → (side : Side) → IsSoundHost (host_of w.network side) → IsKept (host_of w.network side)
+
+-- the hosts of a world, that of this side as the writer's
+abbrev pub hosts_from : Side → WorldView → Hosts
+hosts_from side w = record { writer = host_of w.network side; reader = host_of w.network (other_side side) }
+
+-- A round from a world that was reached is an exchange of its two hosts, which leads to a world that was, and then the reads of the reader. (Where the limit is 0, every frame with a segment is stale.)
+abbrev pub EveryRoundIsAnExchange : Type 0
+EveryRoundIsAnExchange = (limit : ℕ) (writer : Side) (reader_id : SocketId) (count : ℕ) (old new : WorldView) → 0 < limit → IsReached limit old → IsRound writer reader_id count old new
+    → (answered : WorldView) × IsReached limit answered × IsExchange (hosts_from writer old) (hosts_from writer answered) × Reads (other_side writer) reader_id count answered new

@@ -6,7 +6,7 @@ ghost use Rattle.wire_sim.specs.HostRuns.{EveryHostRuns, EveryTableIsKept, Every
 ghost use Rattle.wire_sim.specs.Holding.{EveryOpeningIsBegun, EveryHoldingIsNoted};
 ghost use Rattle.wire_sim.specs.Notes.{EveryNoteIsTraced, EveryDelayIsTraced};
 ghost use Rattle.wire_sim.specs.Rounds.{EveryRoundIsARun};
-ghost use Rattle.wire_sim.specs.Exchanges.{EveryClockIsKept, EveryHostIsKept};
+ghost use Rattle.wire_sim.specs.Exchanges.{EveryClockIsKept, EveryHostIsKept, EveryRoundIsAnExchange};
 ghost use Rattle.wire_sim.specs.RoomyRuns.{EveryRoomyRunIsARun, EveryStepLeavesRoom, EveryRunLeavesRoom, EveryBareRunHasRoom};
 ghost use Rattle.wire_sim.specs.Datagrams.{EveryRunKeepsDatagrams, EveryDatagramIsTraced};
 ghost use Rattle.wire_sim.specs.Neighbours.{EveryNeighbourIsTheOtherHost, EveryKnownHopIsTheOtherHost, EveryOpenConnectionLeadsToTheOther};
@@ -37,6 +37,12 @@ pub fn every_moment_is_lawful()
 /// A round, and a beginning of one, is a list of events given in turn, so the law of the stream holds at every moment within it.
 pub fn every_round_is_a_run()
     ensures { EveryRoundIsARun }
+{}
+
+/// A round is an exchange between its two hosts (`round_law`), the writer's and the reader's, and then the reads of the reader. Each frame that went out is brought as it was emitted, at the moment that its hearer keeps. One that is refused would
+/// open a pair a second time: in a round nothing is written, and no epoch rises.
+pub fn every_round_is_an_exchange()
+    ensures { EveryRoundIsAnExchange }
 {}
 
 /// Each host of a world is one that a list of its own events leads to, from a new one of its MAC, its address and its routes: calls that are not refused, ticks, deliveries

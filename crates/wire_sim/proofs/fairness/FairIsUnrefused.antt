@@ -76,7 +76,7 @@ recent limit now note = (there, back)
     back : IsRecent limit now note → is_late limit now note ≡ false
     back r = ap (λ b. b || nat_le limit y) (lt-leb limit x r.at_a) ∙ lt-leb limit y r.at_b
 
-timely : (n : NetworkView) (now : Amount) (o : Option Note) → (late_note n now o ≡ None) ↔ (IfSome o (λ (note : Note). epoch_of n.openings note.pair ≡ note.epoch) × IfSome o (IsRecent n.limit now))
+pub timely : (n : NetworkView) (now : Amount) (o : Option Note) → (late_note n now o ≡ None) ↔ (IfSome o (λ (note : Note). epoch_of n.openings note.pair ≡ note.epoch) × IfSome o (IsRecent n.limit now))
 timely n now None = (λ e. (tt, tt), λ e. refl)
 timely n now (Some note) = (there (epoch_of n.openings note.pair == note.epoch) (is_late n.limit now note) refl refl, back)
   where

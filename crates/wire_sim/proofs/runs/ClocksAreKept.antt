@@ -1,5 +1,5 @@
 -- What a side's clock shows is the moment that its host keeps.
-use Rattle.std.proofs.Common.{◌≡◌, ◌⊎◌, inl, inr, ℕ, ◌≤◌, ◌<◌, nat_lt, if◌then◌else◌, List, length, refl, sym, ◌∙◌, ap, subst, arith}
+use Rattle.std.proofs.Common.{◌≡◌, inl, inr, ℕ, ◌≤◌, nat_lt, if◌then◌else◌, List, length, sym, ◌∙◌, ap, subst, arith}
 use Rattle.std.proofs.lemmas.Bool.Decides.{nat_tests}
 use Rattle.clock.specs.declared.moment.Moment.{Moment}
 use Rattle.sockets.specs.Causes as table
@@ -11,7 +11,6 @@ use Rattle.sockets.proofs.Steps.{later_kept}
 use Rattle.host.specs.Emission.{Emission, Replies, Sends, Asks, Nothing, after_emission, emission, goes_out_from, left_by}
 use Rattle.host.specs.HostView.{HostView}
 use Rattle.host.specs.Runs.{Event as HostEvent, Calls, Ticks, Delivers, Emits, Makes}
-use Rattle.host.specs.Sound.{IsSoundHost}
 use Rattle.host.specs.Ticks.{after_tick, lacks_hop}
 use Rattle.datagram_law.specs.Accepted.{Accepted}
 use Rattle.sides.specs.declared.side.Side.{Side}
@@ -19,7 +18,6 @@ use Rattle.sides.specs.declared.side.Side.TheVariants.{A, B}
 use Rattle.wire_sim.specs.declared.event.Answer.{Answer}
 use Rattle.wire_sim.specs.declared.event.Event.{Event}
 use Rattle.wire_sim.specs.declared.event.Event.TheVariants as event
-use Rattle.wire_sim.specs.declared.world.station.Station.{Station}
 use Rattle.wire_sim.specs.Exchanges.{EveryClockIsKept, EveryHostIsKept}
 use Rattle.wire_sim.specs.HostRuns.{IsKept}
 use Rattle.wire_sim.specs.Runs.{IsReached, begins, goes_on, IsStep}
