@@ -3,3 +3,4 @@ pub mod FramesInTurn
 pub mod ReadsInTurn
 pub mod FramesInTime
 pub mod RoundsAreExchanges
+pub mod ReadersRead

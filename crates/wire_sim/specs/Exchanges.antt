@@ -1,6 +1,9 @@
 -- The two hosts of a world as those of `round_law`, which names no world.
-use Rattle.std.specs.Prelude.{◌≡◌, ℕ, ◌<◌}
+use Rattle.std.specs.Prelude.{◌≡◌, ℕ, ◌<◌, false, length, Some, None}
+use Rattle.tcp_state.specs.View.{View, is_opening, is_closed}
 use Rattle.sockets.specs.declared.entry.SocketId.{SocketId}
+use Rattle.sockets.specs.declared.role.Role.TheVariants.{Connected}
+use Rattle.sockets.specs.SocketsView.{role_of}
 use Rattle.host.specs.Sound.{IsSoundHost}
 use Rattle.round_law.specs.Alone.{IsKept}
 use Rattle.round_law.specs.Exchange.{Hosts, IsExchange}
@@ -26,3 +29,8 @@ hosts_from side w = record { writer = host_of w.network side; reader = host_of w
 abbrev pub EveryRoundIsAnExchange : Type 0
 EveryRoundIsAnExchange = (limit : ℕ) (writer : Side) (reader_id : SocketId) (count : ℕ) (old new : WorldView) → 0 < limit → IsReached limit old → IsRound writer reader_id count old new
     → (answered : WorldView) × IsReached limit answered × IsExchange (hosts_from writer old) (hosts_from writer answered) × Reads (other_side writer) reader_id count answered new
+
+-- Where a socket has octets to be read, of a connection that is past its opening and not CLOSED, reads on it read some.
+abbrev pub EveryReaderReads : Type 0
+EveryReaderReads = (side : Side) (id : SocketId) (count : ℕ) (c : View) (old new : WorldView) → role_of (table_of old.network side) id ≡ Some (Connected c None) → is_opening c.state ≡ false → is_closed c.state ≡ false
+    → 0 < length c.receiving.readable → Reads side id count old new → 0 < count

@@ -6,7 +6,7 @@ ghost use Rattle.wire_sim.specs.HostRuns.{EveryHostRuns, EveryTableIsKept, Every
 ghost use Rattle.wire_sim.specs.Holding.{EveryOpeningIsBegun, EveryHoldingIsNoted};
 ghost use Rattle.wire_sim.specs.Notes.{EveryNoteIsTraced, EveryDelayIsTraced};
 ghost use Rattle.wire_sim.specs.Rounds.{EveryRoundIsARun};
-ghost use Rattle.wire_sim.specs.Exchanges.{EveryClockIsKept, EveryHostIsKept, EveryRoundIsAnExchange};
+ghost use Rattle.wire_sim.specs.Exchanges.{EveryClockIsKept, EveryHostIsKept, EveryRoundIsAnExchange, EveryReaderReads};
 ghost use Rattle.wire_sim.specs.RoomyRuns.{EveryRoomyRunIsARun, EveryStepLeavesRoom, EveryRunLeavesRoom, EveryBareRunHasRoom};
 ghost use Rattle.wire_sim.specs.Datagrams.{EveryRunKeepsDatagrams, EveryDatagramIsTraced};
 ghost use Rattle.wire_sim.specs.Neighbours.{EveryNeighbourIsTheOtherHost, EveryKnownHopIsTheOtherHost, EveryOpenConnectionLeadsToTheOther};
@@ -43,6 +43,11 @@ pub fn every_round_is_a_run()
 /// open a pair a second time: in a round nothing is written, and no epoch rises.
 pub fn every_round_is_an_exchange()
     ensures { EveryRoundIsAnExchange }
+{}
+
+/// Where a reader's socket has octets to be read, of a connection that is past its opening and not CLOSED, the reads of a round read some (RFC 9293 section 3.10.3).
+pub fn every_reader_reads()
+    ensures { EveryReaderReads }
 {}
 
 /// Each host of a world is one that a list of its own events leads to, from a new one of its MAC, its address and its routes: calls that are not refused, ticks, deliveries
