@@ -53,10 +53,15 @@ due-can v due k may = record {
   len = omega (arith, text_fits v due may, most_offset (head_of v due));
 }
 
+-- a header with SYN, with the window scale option or without
+syn-fits : (scales : Bool) → 4 * (if scales then 7 else 6) + 0 ≤ 1480
+syn-fits true = omega arith
+syn-fits false = omega arith
+
 -- a segment with its header has 1,480 octets at most
 pub due-fits : (c : View) (due : Due) → MayGoOut c due → 4 * sent_offset (head_of c due) + length (octets_of c due) ≤ 1480
 due-fits c Rst may = omega arith
-due-fits c Syn may = omega arith
+due-fits c Syn may = syn-fits c.scales
 due-fits c (Text stretch) may = omega (arith, text_fits c (Text stretch) may)
 due-fits c Probe may = omega (arith, text_fits c Probe may)
 due-fits c Ack may = omega arith

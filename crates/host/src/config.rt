@@ -1,6 +1,6 @@
 //! How a host is set up.
 
-ghost use Rattle.std.specs.Prelude.{◌≡◌, ◌↔◌, true, IfOk, IfErr, IsOk, length};
+ghost use Rattle.std.specs.Prelude.{◌≡◌, ◌↔◌, true, false, IfOk, IfErr, IsOk, length};
 ghost use Rattle.host.specs.ConfigView.{IsOfOne};
 
 use ether::{Mac, is_whole_mac};
@@ -9,12 +9,13 @@ use routes::Routes;
 use sockets::Refusal;
 use std::marker::Model;
 
-/// How a host is set up: its MAC, its address and its routes.
+/// How a host is set up: its MAC, its address and its routes, and whether it uses the window scale option.
 #[derive(Drop)]
 pub struct Config {
     mac: Mac,
     addr: Addr,
     routes: Routes,
+    scales: bool,
 }
 
 impl Model for Config {
@@ -23,7 +24,7 @@ impl Model for Config {
 
     ghost Value = { ConfigView };
 
-    ghost view = { λ c. record { mac = c.mac; addr = c.addr; routes = c.routes } };
+    ghost view = { λ c. record { mac = c.mac; addr = c.addr; routes = c.routes; scales = c.scales } };
 
     ghost invariant = { λ c. IsUnicast c.addr × IsOfOne c.mac };
 }
@@ -36,14 +37,27 @@ impl Config {
     /// section 3.2.1.3), or the MAC is that of a group, with the low bit of its first octet set.
     pub fn new(mac: Mac, addr: Addr, routes: Routes) -> Result<Config, Refusal>
         ensures valid { IsOk result ↔ (IsUnicast addr × IsOfOne mac) }
-        ensures value { IfOk result (λ config. config ≡ record { mac = mac; addr = addr; routes = routes }) }
+        ensures value { IfOk result (λ config. config ≡ record { mac = mac; addr = addr; routes = routes; scales = false }) }
         ensures refusal { IfErr result (λ refusal. refusal ≡ Refusal.EINVAL) }
     {
         if addr.is_unicast() && is_of_one(mac) {
-            Ok(Config { mac, addr, routes })
+            Ok(Config {
+                mac,
+                addr,
+                routes,
+                scales: false,
+            })
         } else {
             Err(Refusal::EINVAL)
         }
+    }
+
+    /// The same set-up of a host that uses the window scale option (RFC 7323 section 2), so that a connection with a peer that uses it holds
+    /// 1,048,576 octets each way, or doesn't. One that `new` makes doesn't.
+    pub fn with_scale(self, scales: bool) -> Config
+        ensures { result ≡ record self { scales = scales } }
+    {
+        Config { scales, ..self }
     }
 
     /// The MAC of the host's interface.
@@ -68,11 +82,11 @@ impl Config {
     }
 
     /// Its parts.
-    pub(crate) fn into_parts(self) -> (Mac, Addr, Routes)
-        ensures parts { (result.0 ≡ self.mac) × (result.1 ≡ self.addr) × (result.2 ≡ self.routes) }
+    pub(crate) fn into_parts(self) -> (Mac, Addr, Routes, bool)
+        ensures parts { (result.0 ≡ self.mac) × (result.1 ≡ self.addr) × (result.2 ≡ self.routes) × (result.3 ≡ self.scales) }
         ensures single { IsUnicast self.addr }
     {
-        (self.mac, self.addr, self.routes)
+        (self.mac, self.addr, self.routes, self.scales)
     }
 }
 

@@ -56,10 +56,10 @@ impl Host {
         ensures refusal { IfErr result (λ refusal. refusal ≡ Refusal.ENOMEM) }
     {
         config.sound();
-        let (mac, addr, routes) = config.into_parts();
+        let (mac, addr, routes, scales) = config.into_parts();
         let interface = Interface::new(alloc, mac, addr, routes).map_err(|_| Refusal::ENOMEM)?;
         let pool = Pool::new(alloc).map_err(|_| Refusal::ENOMEM)?;
-        let sockets = Sockets::new(alloc, addr);
+        let sockets = Sockets::new(alloc, addr, scales);
         let layers = Layers {
             interface,
             sockets,

@@ -1,5 +1,5 @@
 -- How a host is set up by what is passed.
-use Rattle.std.specs.Prelude.{◌≡◌, ◌⊎◌, ℕ, ℤ, pos, List, map, Option, Some, None}
+use Rattle.std.specs.Prelude.{false, ◌≡◌, ◌⊎◌, ℕ, ℤ, pos, List, map, Option, Some, None}
 use Rattle.ether.specs.declared.mac.Mac.{Mac}
 use Rattle.ipv4.specs.declared.addr.Addr.{Addr}
 use Rattle.ipv4.specs.Addresses.{IsUnicast}
@@ -26,7 +26,7 @@ IsTold given table = map said table ≡ map said_by given
 
 -- a host with this set-up, on which nothing happened
 abbrev pub IsNew : Mac → ℕ → List HostRoute → HostView → Type 0
-IsNew mac addr given h = (table : List Route) × IsTold given table × (h ≡ new_host (record { mac = mac; addr = addr_of addr; routes = table }))
+IsNew mac addr given h = (table : List Route) × IsTold given table × (h ≡ new_host (record { mac = mac; addr = addr_of addr; routes = table; scales = false }))
 
 -- routes that make a table: each prefix is one, no two routes have one prefix, and there are 32 at most
 abbrev pub IsValidTable : List HostRoute → Type 0

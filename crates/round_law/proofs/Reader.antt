@@ -96,7 +96,7 @@ one_at_most false = omega arith
 -- what is outstanding is of a buffer, with a FIN
 few_out : (w : View) → IsSound w → outstanding w.sending ≤ 1048577
 few_out w sound =
-    omega (arith, sound.flight, one_at_most (takes_flag_number w.state), sound.held, at_most (is_opening w.state || is_write_finished w.state) w.sending.size, sound.send_size)
+    omega (arith, sound.flight, one_at_most (takes_flag_number w.state), sound.held, at_most (is_opening w.state || is_write_finished w.state) w.sending.size, sound.terms.send_size)
 
 module _ (w e : View) (s : Segment) (now : Moment) (meet : Meet w e) (sound_far : IsSound w) (sound : IsSound e) (called : e.released ≡ false) (state : Receives e.state) (oldest : BringsOldest w s) (no_fin : s.flags.fin ≡ false)
     (edge : e.receiving.edge < 2 ^ 32) (room : MSS ≤ receive_window e.receiving) (lives : is_closed (after_event e (Event.Hears s now)).state ≡ false) where
@@ -113,7 +113,7 @@ module _ (w e : View) (s : Segment) (now : Moment) (meet : Meet w e) (sound_far 
   short = omega (arith, oldest.size, sound_far.segment)
 
   small_window : receive_window e.receiving ≤ 1048576
-  small_window = omega (arith, sound.window, sound.places, sound.capacity)
+  small_window = omega (arith, sound.window, sound.terms.places, sound.terms.capacity)
 
   stands : StandsAt at e s
   stands = record {

@@ -10,7 +10,6 @@ use Rattle.ipv4.specs.Addresses.{endpoint_cmp, pair_of, same_addr, same_end}
 use Rattle.tcp_segment.specs.declared.head.Head.{Head}
 use Rattle.tcp_segment.specs.Segment.{Segment}
 use Rattle.clock.specs.declared.moment.Moment.{Moment}
-use Rattle.tcp_halves.specs.declared.buffers.TheConstants.{CAPACITY}
 use Rattle.tcp_state.specs.View.{View, is_closed}
 use Rattle.tcp_state.specs.Arrival.{opened_passively}
 use Rattle.sockets.specs.declared.entry.SocketId.{SocketId}
@@ -19,7 +18,7 @@ use Rattle.sockets.specs.declared.role.Role.{Role}
 use Rattle.sockets.specs.declared.role.Role.TheVariants.{Connected}
 use Rattle.sockets.specs.Entries.{is_between, is_of_pair, is_live_between, joins, new_waiting}
 use Rattle.sockets.specs.SocketsView.{SocketsView, holder_id, later_moment}
-use Rattle.sockets.specs.Arrival.{Opens, local_end, peer_end, arrival_with_reply, after_opening, arrival}
+use Rattle.sockets.specs.Arrival.{room_for, Opens, local_end, peer_end, arrival_with_reply, after_opening, arrival}
 use Rattle.sockets.specs.Order.{LiesAt, IsOrdered}
 use Rattle.sockets.proofs.Arrivals.{by_arrival}
 use Rattle.sockets.proofs.Ends.{same_addr-same, same_addr-true, same_end-same}
@@ -98,7 +97,7 @@ pub opening_holds : (h : SocketsView) (now : Moment) (isn : ℕ) (source : Addr)
     → holder_id next (pair_of (local_end h s) (peer_end source s)) ≡ Some (record { 0 = h.last_id + 1 })
 opening_holds h now isn source s next ordered apart opened =
     let o = opening_of h now isn source s next opened in
-    let c : View = opened_passively CAPACITY (local_end h s) (peer_end source s) isn s (later_moment h now) in
+    let c : View = opened_passively (room_for h s) (local_end h s) (peer_end source s) isn s (later_moment h now) in
     let x : Entry = new_waiting (record { 0 = h.last_id + 1 }) o.listener.id c in
     let pair : Pair = pair_of (local_end h s) (peer_end source s) in
     let free : find (is_of_pair pair) h.entries ≡ None = unheld (local_end h s) (peer_end source s) h.entries (apart_too source h.addr apart) ordered.own o.none in

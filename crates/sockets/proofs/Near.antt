@@ -149,8 +149,8 @@ each_near h e last sound up near = record { kept = moment_up_to h e last near.ke
     by_step w (followed f) = all_left (IsStepOf h e) (λ (x : Entry). IsSoundRole x.role) (λ (x : Entry). IsNearIn last x.role) (step_near h e last near.kept up) h.entries w.entries f.entries sound.entries near.each
     by_step _ (joined {x = x} j) = all_joined (λ (y : Entry). IsNearIn last y.role) h.entries x near.each (joining_near h e last near.kept up x j)
 
-pub fresh_near : (addr : Addr) (last : Moment) → AreNear last (new_sockets addr)
-fresh_near addr last = record { kept = omega arith; each = tt }
+pub fresh_near : (addr : Addr) (scales : Bool) (last : Moment) → AreNear last (new_sockets addr scales)
+fresh_near addr scales last = record { kept = omega arith; each = tt }
 
 pub led_near : (h : SocketsView) (events : List Event) (last : Moment) → AreSound h events → AllByRecursion (IsUpTo last) events → AreNear last h → AreNear last (after_events h events)
 led_near h [] last sound up near = near

@@ -331,8 +331,8 @@ joined-holds h w holds j = record {
 -- Every table.
 
 -- it holds of a new table ..
-pub fresh-holds : (addr : Addr) → Holds (new_sockets addr)
-fresh-holds addr = record { ids = omega arith; plain = tt; few = omega arith; unborn = λ id above. refl; backlogs = tt; each = λ id. refl }
+pub fresh-holds : (addr : Addr) (scales : Bool) → Holds (new_sockets addr scales)
+fresh-holds addr scales = record { ids = omega arith; plain = tt; few = omega arith; unborn = λ id above. refl; backlogs = tt; each = λ id. refl }
 
 -- an event is a step of the table or two, in which those that stay wait nowhere else, or an entry joins
 pub by-steps : (P : SocketsView → Type 0) → ((h w : SocketsView) → Holds h → w.last_id ≡ h.last_id → Follows IsCarried IsNothing h.entries w.entries → P h → P w) → ((h w : SocketsView) → IsJoined h w → P h → P w)
@@ -360,7 +360,7 @@ all-hold h [] allowed holds = holds
 all-hold h (e ∷ rest) allowed holds = all-hold (after_event h e) rest allowed.1 (event-holds h e allowed.0 holds)
 
 pub reached-holds : (h : SocketsView) → IsReached h → Holds h
-reached-holds h r = subst Holds r.is (all-hold (new_sockets r.addr) r.events r.allowed (fresh-holds r.addr))
+reached-holds h r = subst Holds r.is (all-hold (new_sockets r.addr r.scales) r.events r.allowed (fresh-holds r.addr r.scales))
 
 -- What becomes of those offered.
 

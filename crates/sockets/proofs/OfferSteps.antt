@@ -8,7 +8,6 @@ use Rattle.udp.specs.Datagram.{UserDatagram}
 use Rattle.tcp_segment.specs.declared.head.Head.{Head}
 use Rattle.tcp_segment.specs.Segment.{Segment}
 use Rattle.clock.specs.declared.moment.Moment.{Moment}
-use Rattle.tcp_halves.specs.declared.buffers.TheConstants.{CAPACITY}
 use Rattle.tcp_state.specs.View.{View}
 use Rattle.tcp_state.specs.Calls as connection
 use Rattle.tcp_state.specs.Arrival.{opened_passively}
@@ -27,7 +26,7 @@ use Rattle.sockets.specs.Emission.{after_segment_sent}
 use Rattle.sockets.specs.Unreachable.{after_unreachable}
 use Rattle.sockets.specs.Calls.{is_table_full, port_bound, after_bind, next_offered, is_next_at, after_accept, port_connected, after_connect, after_socket_closed, after_close}
 use Rattle.sockets.specs.Datagrams.{end_sent_from, after_sendto, reception, after_reception}
-use Rattle.sockets.specs.Arrival.{local_end, peer_end, has_no_room, arrival_with_reply, offered_with, arrival, after_opening}
+use Rattle.sockets.specs.Arrival.{room_for, local_end, peer_end, has_no_room, arrival_with_reply, offered_with, arrival, after_opening}
 use Rattle.sockets.specs.Lists.{change_first, remove_first}
 use Rattle.sockets.specs.Causes.{Event, Makes, MakesDatagrams, Binds, Listens, Accepts, Connects, Sends, Receives, Shuts, Closes, Ticks, Hears, Emits, GivesUp, Unreachable, SendsTo, ReceivesFrom, HearsDatagram, Follows, after_arrival, after_event}
 use Rattle.sockets.specs.Order.{IsAllowed}
@@ -277,7 +276,7 @@ opening-outcome : (h : SocketsView) (now : Moment) (isn : ℕ) (listener : Entry
 opening-outcome h now isn listener source s found place =
     let parts = or_parts _ _ place in
     Joined (record {
-      new = new_waiting (record { 0 = h.last_id + 1 }) listener.id (opened_passively CAPACITY (local_end h s) (peer_end source s) isn s now);
+      new = new_waiting (record { 0 = h.last_id + 1 }) listener.id (opened_passively (room_for h s) (local_end h s) (peer_end source s) isn s now);
       id = refl;
       last = refl;
       entries = refl;

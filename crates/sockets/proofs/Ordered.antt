@@ -8,7 +8,6 @@ use Rattle.ipv4.specs.declared.addr.Addr.{Addr}
 use Rattle.ipv4.specs.declared.addr.Endpoint.{Endpoint}
 use Rattle.udp_socket.specs.SocketView.{SocketView as Queues, with_sent}
 use Rattle.tcp_segment.specs.Segment.{Segment}
-use Rattle.tcp_halves.specs.declared.buffers.TheConstants.{CAPACITY}
 use Rattle.tcp_state.specs.Arrival.{opened_passively}
 use Rattle.tcp_state.proofs.Causes.{not_true}
 use Rattle.sockets.specs.declared.refusal.Refusal.{Refusal}
@@ -22,7 +21,7 @@ use Rattle.sockets.specs.Entries.{is_socket, is_between, sends, has_port, uses_p
 use Rattle.sockets.specs.SocketsView.{SocketsView, new_sockets, later_moment, role_of}
 use Rattle.sockets.specs.Calls.{reach_refusal, port_for, last_port_after, is_pair_held, bound_of, port_at, port_bound, last_port_bound, bind_refusal, after_bind, port_connected, connect_refusal, after_connect}
 use Rattle.sockets.specs.Datagrams.{sending_end, end_sent_from, after_sendto}
-use Rattle.sockets.specs.Arrival.{local_end, peer_end, after_opening}
+use Rattle.sockets.specs.Arrival.{room_for, local_end, peer_end, after_opening}
 use Rattle.sockets.specs.Lists.{change_first}
 use Rattle.sockets.specs.Ports.{IsDynamic, first_port, is_free_port, is_unused_port, is_free_datagram_port}
 use Rattle.sockets.specs.Causes.{Event, Binds, Connects, SendsTo, after_event}
@@ -38,8 +37,8 @@ use Rattle.sockets.proofs.Steps.{IsStepOf, stays, moves, ends, binds, listens, o
 use Rattle.sockets.proofs.KeptEnds.{keeps-nothing, keeps-event}
 use Rattle.sockets.proofs.Ordering.{IsBound, Keeps, keeps_role, keeps_connection, keeps_queues, nowhere, no_port, ordered_by, ordered_still, count_changed, count_joined, count_unfound, count_none}
 
-pub fresh_ordered : (addr : Addr) → IsOrdered (new_sockets addr)
-fresh_ordered addr = record { ids = omega arith; ends = λ local peer. omega arith; ports = λ port. omega arith; datagram_ports = λ port. omega arith; own = tt; last_port = record { from_first = omega arith; to_last = omega arith } }
+pub fresh_ordered : (addr : Addr) (scales : Bool) → IsOrdered (new_sockets addr scales)
+fresh_ordered addr scales = record { ids = omega arith; ends = λ local peer. omega arith; ports = λ port. omega arith; datagram_ports = λ port. omega arith; own = tt; last_port = record { from_first = omega arith; to_last = omega arith } }
 
 -- What an event makes of an entry that takes no end and no port.
 
@@ -206,7 +205,7 @@ connect_ordered h isn id peer routed allowed o =
 
 opening_ordered : (h : SocketsView) (now : Moment) (isn : ℕ) (listener : Entry) (source : Addr) (s : Segment) → find (is_between (local_end h s) (peer_end source s)) h.entries ≡ None → same_addr source h.addr ≡ false → IsOrdered h → IsOrdered (after_opening h now isn listener source s)
 opening_ordered h now isn listener source s none apart o =
-    joined_ordered h (new_waiting (record { 0 = h.last_id + 1 }) listener.id (opened_passively CAPACITY (local_end h s) (peer_end source s) isn s now)) refl free (λ port. refl) (λ port. refl) (refl, apart) o
+    joined_ordered h (new_waiting (record { 0 = h.last_id + 1 }) listener.id (opened_passively (room_for h s) (local_end h s) (peer_end source s) isn s now)) refl free (λ port. refl) (λ port. refl) (refl, apart) o
   where
     free : (l p : Endpoint) → (same_end (local_end h s) l && same_end (peer_end source s) p) ≡ true → count_by (is_between l p) h.entries ≡ 0
     free l p is =

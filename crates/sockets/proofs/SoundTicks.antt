@@ -49,15 +49,7 @@ ended_sound v error sound = record {
   error = no (is_some error);
   reset = grind (arith, common_steps, sound.reset);
   release = no v.released;
-  send_size = sound.send_size;
-  receive_least = sound.receive_least;
-  receive_size = sound.receive_size;
-  places = sound.places;
-  capacity = sound.capacity;
-  unit_some = sound.unit_some;
-  unit_few = sound.unit_few;
-  peer_unit_some = sound.peer_unit_some;
-  peer_unit_few = sound.peer_unit_few;
+  terms = sound.terms;
 }
   where
     no : (b : Bool) → (b && false) ≡ false
@@ -181,15 +173,7 @@ acted_sound v w sound kept f =
       error = sound.error;
       reset = sound.reset;
       release = sound.release;
-      send_size = sound.send_size;
-      receive_least = sound.receive_least;
-      receive_size = sound.receive_size;
-      places = sound.places;
-      capacity = sound.capacity;
-      unit_some = sound.unit_some;
-      unit_few = sound.unit_few;
-      peer_unit_some = sound.peer_unit_some;
-      peer_unit_few = sound.peer_unit_few;
+      terms = sound.terms;
     })
 
 -- Every tick.

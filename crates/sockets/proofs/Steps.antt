@@ -12,7 +12,6 @@ use Rattle.tcp_halves.specs.declared.buffers.Buffers.{Buffers}
 use Rattle.tcp_segment.specs.declared.head.Head.{Head}
 use Rattle.tcp_segment.specs.Segment.{Segment}
 use Rattle.clock.specs.declared.moment.Moment.{Moment}
-use Rattle.tcp_halves.specs.declared.buffers.TheConstants.{CAPACITY}
 use Rattle.tcp_state.specs.declared.connection.Fate.{Fate}
 use Rattle.tcp_state.specs.declared.connection.Fate.TheVariants.{Stays, Removed}
 use Rattle.tcp_state.specs.View.{View, is_opening, opened_actively}
@@ -37,7 +36,7 @@ use Rattle.sockets.specs.Emission.{after_segment_sent}
 use Rattle.sockets.specs.Unreachable.{after_unreachable}
 use Rattle.sockets.specs.Calls.{port_bound, after_bind, is_next_at, port_connected, after_connect, after_socket_closed, after_close}
 use Rattle.sockets.specs.Datagrams.{end_sent_from, after_sendto, reception, after_reception}
-use Rattle.sockets.specs.Arrival.{local_end, peer_end, arrival_with_reply}
+use Rattle.sockets.specs.Arrival.{room_for, local_end, peer_end, arrival_with_reply}
 use Rattle.sockets.specs.Causes.{Event, Makes, MakesDatagrams, Binds, Listens, Accepts, Connects, Sends, Receives, Shuts, Closes, Ticks, Hears, Emits, GivesUp, Unreachable, SendsTo, ReceivesFrom, HearsDatagram, after_arrival, after_event, IsAdded, Follows}
 use Rattle.sockets.specs.Timing.{IsUpTo}
 use Rattle.sockets.specs.Traffic.{datagrams_taken}
@@ -97,11 +96,12 @@ pub data IsJoining (h : SocketsView) : Event → Entry → Type 0 where
   made : (buffers : Buffers) → IsJoining h (Makes buffers) (new_socket (record { 0 = h.last_id + 1 }) buffers)
   made_datagrams : IsJoining h MakesDatagrams (new_datagram_socket (record { 0 = h.last_id + 1 }))
   called : (now : Moment) (isn : ℕ) (source : Addr) (s : Segment) (listener : Entry) → IsCalled h source s listener
-      → IsJoining h (Hears now isn source s) (new_waiting (record { 0 = h.last_id + 1 }) listener.id (opened_passively CAPACITY (local_end h s) (peer_end source s) isn s (later_moment h now)))
+      → IsJoining h (Hears now isn source s) (new_waiting (record { 0 = h.last_id + 1 }) listener.id (opened_passively (room_for h s) (local_end h s) (peer_end source s) isn s (later_moment h now)))
 
 -- the table where an event adds nothing
 pub record IsFollowed (h : SocketsView) (e : Event) (w : SocketsView) : Type 0 where
   pub addr : w.addr ≡ h.addr
+  pub scales : w.scales ≡ h.scales
   pub last_id : w.last_id ≡ h.last_id
   pub kept : h.kept.0 ≤ w.kept.0
   pub up_to : (last : Moment) → h.kept.0 ≤ last.0 → IsUpTo last e → w.kept.0 ≤ last.0
@@ -168,7 +168,7 @@ module _ (h : SocketsView) (e : Event) where
 
   -- nothing changes but entries and those offered
   plain : (entries : List Entry) (offered : List SocketId) → IsAdded h e [] → Follows (IsStepOf h e) IsNothing h.entries entries → IsStepped h e (record h { entries = entries; offered = offered })
-  plain entries offered added f = followed (record { addr = refl; last_id = refl; kept = omega arith; up_to = λ last before up. before; last_port = λ free. refl; identification = λ none. refl; added = added; entries = f })
+  plain entries offered added f = followed (record { addr = refl; scales = refl; last_id = refl; kept = omega arith; up_to = λ last before up. before; last_port = λ free. refl; identification = λ none. refl; added = added; entries = f })
 
   -- nothing happens
   unchanged : IsAdded h e [] → IsStepped h e h
@@ -178,7 +178,7 @@ module _ (h : SocketsView) (e : Event) where
   ported : takes_end e ≡ true → (last_port identification : ℕ) (entries : List Entry) → (datagrams_taken h e ≡ 0 → identification ≡ h.identification) → IsAdded h e [] → Follows (IsStepOf h e) IsNothing h.entries entries
       → IsStepped h e (record h { last_port = last_port; identification = identification; entries = entries })
   ported takes last_port identification entries drawn added f =
-      followed (record { addr = refl; last_id = refl; kept = omega arith; up_to = λ last before up. before; last_port = λ free. let bad : true ≡ false = sym takes ∙ free in cc; identification = drawn; added = added; entries = f })
+      followed (record { addr = refl; scales = refl; last_id = refl; kept = omega arith; up_to = λ last before up. before; last_port = λ free. let bad : true ≡ false = sym takes ∙ free in cc; identification = drawn; added = added; entries = f })
 
   -- the first that passes changes
   changes : (test : Entry → Bool) (change : Role → Role) → ((x : Entry) → test x ≡ true → IsStepOf h e x (Some (with_role change x))) → Follows (IsStepOf h e) IsNothing h.entries (change_first test (with_role change) h.entries)
@@ -330,6 +330,7 @@ tick_stepped h now =
     let later : Moment = later_moment h now in
     followed (record {
       addr = refl;
+      scales = refl;
       last_id = refl;
       kept = (later_kept h now).0;
       up_to = λ last before up. later_up_to h now last before up;

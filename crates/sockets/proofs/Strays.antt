@@ -7,11 +7,10 @@ use Rattle.ipv4.specs.declared.addr.Addr.{Addr}
 use Rattle.clock.specs.declared.moment.Moment.{Moment}
 use Rattle.tcp_segment.specs.declared.head.Head.{Head}
 use Rattle.tcp_segment.specs.Segment.{Segment, span_of}
-use Rattle.tcp_halves.specs.declared.buffers.TheConstants.{CAPACITY}
 use Rattle.tcp_state.specs.Arrival.{opened_passively}
 use Rattle.tcp_state.specs.declared.connection.Fate.TheVariants.{Rejected}
 use Rattle.sockets.specs.declared.entry.Entry.{Entry}
-use Rattle.sockets.specs.Arrival.{Becomes, Opens, NoRoom, Answers, local_end, peer_end, is_opening, has_no_room, after_opening, arrival}
+use Rattle.sockets.specs.Arrival.{room_for, Becomes, Opens, NoRoom, Answers, local_end, peer_end, is_opening, has_no_room, after_opening, arrival}
 use Rattle.sockets.specs.Causes.{IsOpenedBy}
 use Rattle.sockets.specs.Entries.{is_between, is_listening_at, is_waiting_at, backlog_of, fate_of, new_waiting}
 use Rattle.sockets.specs.Replies.{reset_at_ack, reset_past}
@@ -81,7 +80,7 @@ module _ (h : SocketsView) (now : Moment) (isn : ℕ) (source : Addr) (s : Segme
   syn_opens listener none found rst ack syn fewer few young =
       let room : has_no_room h listener ≡ false = place (backlog_of listener.role) (count_by (is_waiting_at listener.id) h.entries) (length h.entries) (h.last_id + 1) fewer few young in
       let opened = opens_so rst ack syn in
-      let waiting : Entry = new_waiting (record { 0 = h.last_id + 1 }) listener.id (opened_passively CAPACITY (local_end h s) (peer_end source s) isn s (later_moment h now)) in (
+      let waiting : Entry = new_waiting (record { 0 = h.last_id + 1 }) listener.id (opened_passively (room_for h s) (local_end h s) (peer_end source s) isn s (later_moment h now)) in (
         after_opening h (later_moment h now) isn listener source s,
         rw (none, found, opened, room) refl,
         (

@@ -1,13 +1,13 @@
 -- What a segment that arrives from an address makes of the table, and what answers it (RFC 9293 section 3.10.7).
-use Rattle.std.specs.Prelude.{◌≡◌, ◌⊎◌, ℕ, ◌+◌, Bool, ◌==◌, ◌&&◌, ◌||◌, not, nat_le, if◌then◌else◌, List, [], ◌∷◌, ◌++◌, length, count_by, Option, Some, None, find}
+use Rattle.std.specs.Prelude.{◌≡◌, ◌⊎◌, ℕ, ◌+◌, Bool, ◌==◌, ◌&&◌, ◌||◌, not, nat_le, if◌then◌else◌, List, [], ◌∷◌, ◌++◌, length, count_by, Option, Some, None, is_some, find}
 use Rattle.ipv4.specs.declared.addr.Addr.{Addr}
 use Rattle.ipv4.specs.declared.addr.Endpoint.{Endpoint}
 use Rattle.ipv4.specs.declared.addr.Pair.{Pair}
 use Rattle.ipv4.specs.Addresses.{pair_of}
 use Rattle.tcp_segment.specs.declared.flags.Flags.{Flags}
 use Rattle.tcp_segment.specs.declared.head.Head.{Head}
-use Rattle.tcp_segment.specs.Segment.{Segment}
-use Rattle.tcp_halves.specs.declared.buffers.TheConstants.{CAPACITY}
+use Rattle.tcp_segment.specs.Segment.{Segment, scale_option_of}
+use Rattle.tcp_halves.specs.Halves.{Room}
 use Rattle.tcp_state.specs.declared.connection.Fate.{Fate}
 use Rattle.tcp_state.specs.declared.connection.Fate.TheVariants.{Rejected}
 use Rattle.clock.specs.declared.moment.Moment.{Moment}
@@ -18,7 +18,7 @@ use Rattle.sockets.specs.declared.entry.Entry.{Entry}
 use Rattle.sockets.specs.declared.taken.Taken.{Taken}
 use Rattle.sockets.specs.declared.taken.Taken.TheVariants as taken
 use Rattle.sockets.specs.Entries.{is_between, is_listening_at, is_waiting_at, backlog_of, role_after_segment, fate_of, is_offered_by, new_waiting, entries_after_step}
-use Rattle.sockets.specs.SocketsView.{SocketsView, later_moment}
+use Rattle.sockets.specs.SocketsView.{SocketsView, later_moment, room_of}
 use Rattle.sockets.specs.Replies.{reset_at_ack, answer_to, answer_at_listener}
 use Rattle.sockets.specs.Calls.{is_table_full}
 
@@ -37,11 +37,15 @@ is_opening flags = flags.syn && not flags.rst && not flags.ack
 abbrev pub has_no_room : SocketsView → Entry → Bool
 has_no_room h listener = nat_le (backlog_of listener.role) (count_by (is_waiting_at listener.id) h.entries) || is_table_full h
 
+-- the buffers of a connection that a SYN opens are made for what it allows
+abbrev pub room_for : SocketsView → Segment → Room
+room_for h s = room_of (h.scales && is_some (scale_option_of s))
+
 -- a connection in SYN-RECEIVED, opened at a moment, at the end of the table, which waits at the listener
 abbrev pub after_opening : SocketsView → Moment → ℕ → Entry → Addr → Segment → SocketsView
 after_opening h now isn listener source s = record h {
   last_id = h.last_id + 1;
-  entries = h.entries ++ new_waiting (record { 0 = h.last_id + 1 }) listener.id (opened_passively CAPACITY (local_end h s) (peer_end source s) isn s now) ∷ [];
+  entries = h.entries ++ new_waiting (record { 0 = h.last_id + 1 }) listener.id (opened_passively (room_for h s) (local_end h s) (peer_end source s) isn s now) ∷ [];
 }
 
 -- What a segment leads to: the table becomes this, or it does where memory is there, or there is no place, or the segment is to be answered

@@ -8,7 +8,6 @@ use Rattle.ipv4.specs.declared.addr.Endpoint.{Endpoint}
 use Rattle.ipv4.specs.declared.addr.Pair.{Pair}
 use Rattle.ipv4.specs.Addresses.{pair_of, same_addr, is_unicast}
 use Rattle.tcp_halves.specs.declared.buffers.Buffers.{Buffers}
-use Rattle.tcp_halves.specs.declared.buffers.TheConstants.{CAPACITY}
 use Rattle.tcp_state.specs.declared.state.State.{State}
 use Rattle.tcp_state.specs.declared.calls.Received.{Received}
 use Rattle.tcp_state.specs.declared.calls.Refusal as connection_refusal
@@ -28,7 +27,7 @@ use Rattle.sockets.specs.declared.refusal.Refusal.{Refusal}
 use Rattle.sockets.specs.declared.refusal.Refusal.TheVariants.{EBADF, EINVAL, EADDRINUSE, EADDRNOTAVAIL, EISCONN, ENOTCONN, EALREADY, EAGAIN, ENETUNREACH, EOPNOTSUPP, ECONNREFUSED, ECONNRESET, ETIMEDOUT, EPIPE, EDESTADDRREQ}
 use Rattle.sockets.specs.Ports.{first_port, is_free_port, is_unused_port, is_free_datagram_port}
 use Rattle.sockets.specs.Entries.{is_socket, is_between, is_waiting_as, is_waiting_id, peer_of, shown_state, new_socket, new_datagram_socket, role_after_bind, role_after_listen, role_after_connect, role_after_accept, role_after_send, role_after_recv, role_after_shutdown, role_after_close, close_fate_of, role_after_listener_close, listener_close_fate_of, entries_after_step, entries_after_steps, with_role}
-use Rattle.sockets.specs.SocketsView.{SocketsView, role_of, with_socket}
+use Rattle.sockets.specs.SocketsView.{SocketsView, role_of, with_socket, room_of}
 use Rattle.sockets.specs.Lists.{change_first, remove_first}
 
 -- what `of` says of a socket's role, and `none` where there is no such socket
@@ -71,14 +70,14 @@ after_datagram_socket h = record h {
   entries = h.entries ++ new_datagram_socket (record { 0 = h.last_id + 1 }) ∷ [];
 }
 
--- an entry with a new socket of this kind; the buffers of one of TCP hold as much as a window in 16 bits tells
-abbrev pub IsNewSocket : Kind → SocketId → Entry → Type 0
-IsNewSocket Tcp id e = e ≡ new_socket id CAPACITY
-IsNewSocket Udp id e = e ≡ new_datagram_socket id
+-- an entry with a new socket of this kind; the buffers of one of TCP are those of a table that scales windows or doesn't
+abbrev pub IsNewSocket : Bool → Kind → SocketId → Entry → Type 0
+IsNewSocket scales Tcp id e = e ≡ new_socket id (room_of scales)
+IsNewSocket scales Udp id e = e ≡ new_datagram_socket id
 
 -- the table after a socket of this kind was made
 abbrev pub IsMade : Kind → SocketsView → SocketsView → Type 0
-IsMade Tcp old new = new ≡ after_socket old CAPACITY
+IsMade Tcp old new = new ≡ after_socket old (room_of old.scales)
 IsMade Udp old new = new ≡ after_datagram_socket old
 
 -- the port asked for where it is free, and in place of port 0 the first dynamic one that is, behind the last one given

@@ -20,9 +20,10 @@ AreAllowed h (e ∷ rest) = IsAllowed h e × AreAllowed (after_event h e) rest
 -- a table that events lead to from a new one, each of them allowed
 pub record IsReached (h : SocketsView) : Type 0 where
   pub addr : Addr
+  pub scales : Bool
   pub events : List Event
-  pub allowed : AreAllowed (new_sockets addr) events
-  pub is : after_events (new_sockets addr) events ≡ h
+  pub allowed : AreAllowed (new_sockets addr scales) events
+  pub is : after_events (new_sockets addr scales) events ≡ h
 
 -- A connection is ready that waits at a listener to be accepted and has passed SYN-RECEIVED, also one that was reset since. One that was aborted with
 -- its listener is left, and waits no longer.

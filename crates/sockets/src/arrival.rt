@@ -1,12 +1,13 @@
 //! What a segment that arrived makes of the table (RFC 9293 section 3.10.7).
 
-ghost use Rattle.std.specs.Prelude.{ℕ, ◌≡◌, ◌≤◌, ◌<◌, true, length, position, IfOk, MatchResult, Some};
-ghost use Rattle.tcp_halves.specs.declared.buffers.TheConstants.{CAPACITY};
+ghost use Rattle.std.specs.Prelude.{ℕ, ◌≡◌, ◌≤◌, ◌<◌, true, length, position, IfOk, MatchResult, Some, is_some, ◌&&◌};
+ghost use Rattle.tcp_segment.specs.Segment.{scale_option_of};
 ghost use Rattle.tcp_state.specs.Arrival.{opened_passively};
 ghost use Rattle.sockets.specs.Arrival.{is_opening, arrival_with_reply, Meets};
 ghost use Rattle.sockets.specs.Entries.{is_between, is_listening_at};
-ghost use Rattle.sockets.specs.SocketsView.{SocketsView};
+ghost use Rattle.sockets.specs.SocketsView.{SocketsView, room_of};
 
+use crate::calls::new_buffers;
 use crate::entry::{Entry, SocketId};
 use crate::sockets::Sockets;
 use crate::table::{self, ENTRIES};
@@ -16,11 +17,11 @@ use clock::Moment;
 use ipv4::{Addr, Endpoint, Pair};
 use std::alloc::AllocError;
 use tcp_segment::{Head, Seq, TcpView};
-use tcp_state::{Buffers, CAPACITY, Connection, Fate};
+use tcp_state::{Buffers, Connection, Fate};
 
 #[tactic(auto, using(crate::proofs::Firsts::firsts))]
 impl Sockets {
-    ghost use Rattle.sockets.specs.Arrival.{after_opening, local_end, peer_end, arrival, arrival_alone, Meets, pair_opened, pair_at_listener, has_no_room};
+    ghost use Rattle.sockets.specs.Arrival.{room_for, after_opening, local_end, peer_end, arrival, arrival_alone, Meets, pair_opened, pair_at_listener, has_no_room};
 
     /// Takes a segment that came from this address, at the later of `now` and the kept moment: it goes to the connection of its two ends,
     /// where there is one, else to the listener at its destination port. `isn` is used only where it opens a connection.
@@ -85,7 +86,7 @@ impl Sockets {
             return Taken::NoRoom;
         }
         let listener = listener.id;
-        let buffers = Buffers::new(self.alloc, CAPACITY);
+        let buffers = new_buffers(self.alloc, self.scales_with(syn));
         self.open_with(buffers, now, isn, listener, source, syn)
     }
 
@@ -102,7 +103,7 @@ impl Sockets {
     ) -> Taken
         requires place { length self.old.entries < ENTRIES }
         requires id { self.old.last_id < u64.MAX }
-        requires size { IfOk buffers (λ given. given ≡ CAPACITY) }
+        requires size { IfOk buffers (λ given. given ≡ room_for self.old syn.now) }
         ensures answer { MatchResult buffers (λ given. result ≡ Taken.Done) (λ refused. result ≡ Taken.NoRoom) }
         ensures table { MatchResult buffers (λ given. (entry : Entry) → entry.id ≡ listener → self.new ≡ after_opening self.old now isn.0 entry source syn.now) (λ refused. self.new ≡ self.old) }
     {
@@ -110,12 +111,20 @@ impl Sockets {
             return Taken::NoRoom;
         };
         let (local, peer) = self.ends(source, syn);
-        let connection = half_open(buffers, local, peer, isn, syn, now);
+        let scales = self.scales_with(syn);
+        let connection = half_open(buffers, scales, local, peer, isn, syn, now);
         self.last_id += 1;
         let id = SocketId(self.last_id);
         index::file(&mut self.ends, id, local, peer);
         self.entries.push(Entry::passive(id, listener, connection));
         Taken::Done
+    }
+
+    /// Whether a connection that `syn` opens scales windows: this table's do where the SYN has the option (RFC 7323 section 2.2).
+    fn scales_with(&self, syn: &TcpView<'_>) -> bool
+        ensures { result ≡ (self.now.scales && is_some (scale_option_of syn.now)) }
+    {
+        self.scales && syn.scale_option().is_some()
     }
 
     /// The pair that this segment from this address would open if memory were there (RFC 9293 section 3.10.7.2); None where it would open
@@ -180,17 +189,18 @@ fn answered(reply: Option<Head>) -> Taken
     }
 }
 
-/// A connection that `syn` opens in buffers of the size that every connection has.
+/// A connection that `syn` opens in buffers that were made for windows that are scaled, or not.
 fn half_open(
     buffers: Buffers,
+    scales: bool,
     local: Endpoint,
     peer: Endpoint,
     isn: Seq,
     syn: &TcpView<'_>,
     now: Moment,
 ) -> Connection
-    requires { buffers ≡ CAPACITY }
-    ensures { result ≡ opened_passively CAPACITY local peer isn.0 syn.now now }
+    requires { buffers ≡ room_of scales }
+    ensures { result ≡ opened_passively (room_of scales) local peer isn.0 syn.now now }
 {
     Connection::passive(buffers, local, peer, isn, syn, now)
 }

@@ -5,6 +5,7 @@ ghost use Rattle.tcp_halves.specs.declared.buffers.Buffers.{Buffers};
 ghost use Rattle.std.specs.Result.{result_err};
 ghost use Rattle.std.specs.Option.{ok_or};
 ghost use Rattle.sockets.specs.Calls.{open_answer, IsNewSocket};
+ghost use Rattle.sockets.specs.SocketsView.{room_of};
 
 use crate::entry::{Entry, Kind, SocketId};
 use crate::refusal::Refusal;
@@ -13,9 +14,9 @@ use crate::sockets::Sockets;
 use crate::state::SocketState;
 use crate::{index, ports, table};
 use ipv4::{Addr, Endpoint, Pair};
-use std::alloc::Global;
+use std::alloc::{AllocError, Global};
 use tcp_segment::Seq;
-use tcp_state::{Buffers, CAPACITY, Received, State};
+use tcp_state::{Buffers, CAPACITY, LARGEST_CAPACITY, Received, State};
 use udp_socket::UdpSocket;
 
 /// The address that stands for every address of ours.
@@ -45,7 +46,7 @@ impl Sockets {
         let Some(id) = self.last_id.checked_add(1) else {
             return Err(Refusal::EMFILE);
         };
-        let entry = new_socket(self.alloc, kind, SocketId(id))?;
+        let entry = new_socket(self.alloc, self.scales, kind, SocketId(id))?;
         self.last_id = id;
         self.entries.push(entry);
         Ok(SocketId(id))
@@ -372,12 +373,12 @@ fn may_open(role: &Role) -> Result<Option<Endpoint>, Refusal>
 }
 
 /// An entry with a new socket of this kind. ENOMEM.
-fn new_socket(alloc: Global, kind: Kind, id: SocketId) -> Result<Entry, Refusal>
-    ensures ok { IfOk result (λ entry. IsNewSocket kind id entry) }
+fn new_socket(alloc: Global, scales: bool, kind: Kind, id: SocketId) -> Result<Entry, Refusal>
+    ensures ok { IfOk result (λ entry. IsNewSocket scales kind id entry) }
     ensures err { IfErr result (λ e. e ≡ Refusal.ENOMEM) }
 {
     match kind {
-        Kind::Tcp => match Buffers::new(alloc, CAPACITY) {
+        Kind::Tcp => match new_buffers(alloc, scales) {
             Ok(buffers) => Ok(Entry::socket(id, buffers)),
             Err(_) => Err(Refusal::ENOMEM),
         },
@@ -386,4 +387,12 @@ fn new_socket(alloc: Global, kind: Kind, id: SocketId) -> Result<Entry, Refusal>
             Err(_) => Err(Refusal::ENOMEM),
         },
     }
+}
+
+/// The buffers of a connection whose windows may be scaled, or not.
+pub(crate) fn new_buffers(alloc: Global, scales: bool) -> Result<Buffers, AllocError>
+    ensures { IfOk result (λ buffers. buffers ≡ room_of scales) }
+{
+    let capacity = if scales { LARGEST_CAPACITY } else { CAPACITY };
+    Buffers::new(alloc, capacity, scales)
 }

@@ -17,6 +17,7 @@ use std::marker::Model;
 pub struct Sockets {
     pub(crate) alloc: Global,
     pub(crate) addr: Addr,
+    pub(crate) scales: bool,
     pub(crate) kept: Moment,
     pub(crate) last_port: u16,
     pub(crate) last_id: u64,
@@ -34,6 +35,7 @@ impl Model for Sockets {
 
     ghost view = { λ h. record {
       addr = h.addr;
+      scales = h.scales;
       kept = h.kept;
       last_port = h.last_port;
       last_id = h.last_id;
@@ -57,13 +59,14 @@ impl Sockets {
     ghost use Rattle.sockets.specs.Pairs.{socket_pair};
     ghost use Rattle.sockets.specs.Sound.{IsSoundTable};
 
-    /// A table with no sockets, whose kept moment is 0. It takes no memory.
-    pub fn new(alloc: Global, addr: Addr) -> Sockets
-        ensures { result ≡ new_sockets addr }
+    /// A table with no sockets, whose kept moment is 0, and whose connections scale windows where their peers do, or never (RFC 7323 section 2). It takes no memory.
+    pub fn new(alloc: Global, addr: Addr, scales: bool) -> Sockets
+        ensures { result ≡ new_sockets addr scales }
     {
         Sockets {
             alloc,
             addr,
+            scales,
             kept: Moment(0),
             last_port: ports::LAST,
             last_id: 0,

@@ -10,8 +10,8 @@ use Rattle.stream_law.proofs.PairingEmission.{moves-emits}
 use Rattle.stream_law.proofs.PairingArrival.{moves-hears}
 
 moves : (limit : ℕ) (p q : Pairing) → Move limit p q → Shown most_held limit p → Shown most_held limit q
-moves limit _ _ (connects p capacity local peer isn now none fits) h = moves-connects most_held limit p capacity local peer isn now none fits h
-moves limit _ _ (accepts p capacity local peer isn e now none fits among timely syn) h = moves-accepts most_held limit p capacity local peer isn e now none fits among syn h
+moves limit _ _ (connects p room local peer isn now none fits) h = moves-connects most_held limit p room local peer isn now none fits h
+moves limit _ _ (accepts p room local peer isn e now none fits among timely syn) h = moves-accepts most_held limit p room local peer isn e now none fits among syn h
 moves limit _ _ (takes p v octets now is sound untold opened unclosed) h = moves-takes most_held limit p v octets now (omega arith) is sound untold opened unclosed h
 moves limit _ _ (closes p v now is sound opened) h = moves-closes most_held limit p v now is sound opened h
 moves limit _ _ (ends p v len is kept told) h = moves-ends most_held limit p v len is kept told h

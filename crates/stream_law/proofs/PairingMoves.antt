@@ -10,7 +10,7 @@ use Rattle.tcp_state.specs.declared.calls.Received.TheVariants.{Octets, EndOfStr
 use Rattle.tcp_state.specs.declared.state.State.{State}
 use Rattle.tcp_state.specs.declared.state.State.TheVariants.{Closed, Listen, SynSent, SynReceived, Established, FinWait1, FinWait2, CloseWait, Closing, LastAck, TimeWait}
 use Rattle.tcp_state.specs.View.{View, IsSound, is_opening, is_syn_sent, is_closed, is_listening, is_write_closed, is_read_closed, is_write_finished, opened_actively}
-use Rattle.tcp_halves.specs.Halves.{Receiving as ReceivingHalf}
+use Rattle.tcp_halves.specs.Halves.{Receiving as ReceivingHalf, Room}
 use Rattle.tcp_halves.specs.Stream.{after_read}
 use Rattle.tcp_state.specs.Calls.{send_count, unless_pending, after_send, recv_count, recv_answer, after_recv, beyond_shutdown, after_shutdown}
 use Rattle.tcp_state.specs.Arrival.{opened_passively}
@@ -26,11 +26,11 @@ use Rattle.stream_law.proofs.PairingInvariant.{Connected, Shown, other_stays, co
 use Rattle.stream_law.proofs.PairingEndings.{rests-fits, resting, ending}
 
 -- a caller opens
-pub moves-connects : (cap limit : ℕ) (p : Pairing) (capacity : ℕ) (local peer : Endpoint) (isn : ℕ) (now : Moment) → p.own.connection ≡ Absent → isn < 2 ^ 32 → Shown cap limit p
-    → Shown cap limit (with_connection p (opened_actively capacity local peer isn now))
-moves-connects cap limit p capacity local peer isn now none fits h =
+pub moves-connects : (cap limit : ℕ) (p : Pairing) (room : Room) (local peer : Endpoint) (isn : ℕ) (now : Moment) → p.own.connection ≡ Absent → isn < 2 ^ 32 → Shown cap limit p
+    → Shown cap limit (with_connection p (opened_actively room local peer isn now))
+moves-connects cap limit p room local peer isn now none fits h =
     let k = unconnected p.own.connection h.into h.from none h.own.connection in
-    let v = opened_actively capacity local peer isn now in
+    let v = opened_actively room local peer isn now in
     let into' : Channel = record h.into { sending = Open (sender_of v) } in
     record {
       into = into';
@@ -56,14 +56,14 @@ moves-connects cap limit p capacity local peer isn now none fits h =
     }
 
 -- a SYN opens
-pub moves-accepts : (cap limit : ℕ) (p : Pairing) (capacity : ℕ) (local peer : Endpoint) (isn : ℕ) (e : Emission) (now : Moment) → p.own.connection ≡ Absent → isn < 2 ^ 32 → IsAmong e p.received → e.segment.flags.syn ≡ true
-    → Shown cap limit p → Shown cap limit (with_connection p (opened_passively capacity local peer isn e.segment now))
-moves-accepts cap limit p capacity local peer isn e now none fits among syn h =
+pub moves-accepts : (cap limit : ℕ) (p : Pairing) (room : Room) (local peer : Endpoint) (isn : ℕ) (e : Emission) (now : Moment) → p.own.connection ≡ Absent → isn < 2 ^ 32 → IsAmong e p.received → e.segment.flags.syn ≡ true
+    → Shown cap limit p → Shown cap limit (with_connection p (opened_passively room local peer isn e.segment now))
+moves-accepts cap limit p room local peer isn e now none fits among syn h =
     let k = unconnected p.own.connection h.into h.from none h.own.connection in
-    let v = opened_passively capacity local peer isn e.segment now in
+    let v = opened_passively room local peer isn e.segment now in
     let into' : Channel = record h.into { sending = Open (sender_of v) } in
     let from' : Channel = record h.from { receiving = Synchronised (record { rnext = (e.segment.number + 1) % 2 ^ 32; kept = nothing_kept }) } in
-    let opened : from'.receiving ≡ receiving_of v = ap (λ (kept : ℕ → Option ℕ). Synchronised (record { rnext = (e.segment.number + 1) % 2 ^ 32; kept = kept })) (sym (keeps_nothing capacity)) in
+    let opened : from'.receiving ≡ receiving_of v = ap (λ (kept : ℕ → Option ℕ). Synchronised (record { rnext = (e.segment.number + 1) % 2 ^ 32; kept = kept })) (sym (keeps_nothing room.capacity)) in
     record {
       into = into';
       from = from';

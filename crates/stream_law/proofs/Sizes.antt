@@ -18,7 +18,7 @@ held-nothing false n size e few = cc
 
 -- what is held to be sent
 pub held-fits : (v : View) → IsSound v → length v.sending.held ≤ most_held
-held-fits v sound = held-few (is_opening v.state || is_write_finished v.state) (length v.sending.held) v.sending.size sound.send_size sound.held
+held-fits v sound = held-few (is_opening v.state || is_write_finished v.state) (length v.sending.held) v.sending.size sound.terms.send_size sound.held
 
 -- nothing while the connection opens
 pub opening-holds-nothing : (v : View) → IsSound v → is_opening v.state ≡ true → length v.sending.held ≤ 0
@@ -36,7 +36,7 @@ finished-holds-nothing v sound finished =
 
 -- with what one send may add to it
 pub room-fits : (v : View) → IsSound v → length v.sending.held + send_room v.sending ≤ most_held
-room-fits v sound = omega (arith, held-fits v sound, sound.send_size)
+room-fits v sound = omega (arith, held-fits v sound, sound.terms.send_size)
 
 pub count-fits : (v : View) (octets : List ℕ) → IsSound v → send_count v octets ≤ most_held
 count-fits v octets sound = omega (arith, room-fits v sound)
@@ -45,10 +45,10 @@ count-fits v octets sound = omega (arith, room-fits v sound)
 pub window-fits : (v : View) → IsSound v → receive_window v.receiving ≤ most_held
 window-fits v sound =
     let window : length v.receiving.readable + receive_window v.receiving ≤ v.receiving.size = sound.window in
-    omega (arith, window, sound.places, sound.capacity)
+    omega (arith, window, sound.terms.places, sound.terms.capacity)
 
 pub window-has-places : (v : View) → IsSound v → receive_window v.receiving ≤ length v.receiving.kept
 window-has-places v sound =
     let window : length v.receiving.readable + receive_window v.receiving ≤ v.receiving.size = sound.window in
     let places : length v.receiving.readable + length v.receiving.kept ≡ v.receiving.capacity = sound.buffer.places in
-    omega (arith, window, sound.places, places)
+    omega (arith, window, sound.terms.places, places)

@@ -1,5 +1,6 @@
 -- One pair of endpoints: what stands at each end, what the two callers did, and every segment without RST that ever went out between them.
 -- The network loses, repeats and reorders: any of them may arrive never, once or often, in any order, and a reset at any moment.
+use Rattle.tcp_halves.specs.Halves.{Room}
 use Rattle.std.specs.Prelude.{◌≡◌, ℕ, ◌+◌, ◌<◌, ◌≤◌, ◌^◌, Bool, true, false, List, [], ◌∷◌, ◌++◌, length, take, is_some, Ok}
 use Rattle.tcp_state.specs.declared.calls.Received.TheVariants.{EndOfStream}
 use Rattle.ipv4.specs.declared.addr.Endpoint.{Endpoint}
@@ -72,11 +73,11 @@ remains Rejected v = Present v
 
 -- what may happen at one end
 pub data Move (limit : ℕ) : Pairing → Pairing → Type 0 where
-  -- its caller opens a connection, with any initial number and in buffers of any size
-  connects : (p : Pairing) (capacity : ℕ) (local peer : Endpoint) (isn : ℕ) (now : Moment) → p.own.connection ≡ Absent → isn < 2 ^ 32 → Move limit p (with_connection p (opened_actively capacity local peer isn now))
+  -- its caller opens a connection, with any initial number and in buffers that were made for anything
+  connects : (p : Pairing) (room : Room) (local peer : Endpoint) (isn : ℕ) (now : Moment) → p.own.connection ≡ Absent → isn < 2 ^ 32 → Move limit p (with_connection p (opened_actively room local peer isn now))
   -- a SYN of the other end opens one
-  accepts : (p : Pairing) (capacity : ℕ) (local peer : Endpoint) (isn : ℕ) (e : Emission) (now : Moment) → p.own.connection ≡ Absent → isn < 2 ^ 32 → IsAmong e p.received → IsTimely limit p e → e.segment.flags.syn ≡ true
-      → Move limit p (with_connection p (opened_passively capacity local peer isn e.segment now))
+  accepts : (p : Pairing) (room : Room) (local peer : Endpoint) (isn : ℕ) (e : Emission) (now : Moment) → p.own.connection ≡ Absent → isn < 2 ^ 32 → IsAmong e p.received → IsTimely limit p e → e.segment.flags.syn ≡ true
+      → Move limit p (with_connection p (opened_passively room local peer isn e.segment now))
   -- its caller gives octets
   takes : (p : Pairing) (v : View) (octets : List ℕ) (now : Moment) → p.own.connection ≡ Present v → IsSound v → is_some v.pending_error ≡ false → is_opening v.state ≡ false → is_write_closed v.state ≡ false
       → Move limit p (record p { own = record p.own { connection = Present (after_send v octets now); written = p.own.written ++ take (send_count v octets) octets } })

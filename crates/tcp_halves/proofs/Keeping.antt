@@ -13,7 +13,7 @@ use Rattle.tcp_halves.specs.Numbers.{is_before}
 use Rattle.tcp_segment.specs.declared.TheConstants.{MSS}
 use Rattle.tcp_halves.specs.declared.buffers.TheConstants.{CAPACITY, LARGEST_CAPACITY}
 use Rattle.tcp_halves.specs.Halves.{Receiving}
-use Rattle.tcp_halves.specs.Stream.{size_of, receiving_nothing, buffer_of, ReceivingFits, KeptInWindow, receive_window, after_syn, distance_of, octets_within, octets_gained, after_octets, after_end, after_read}
+use Rattle.tcp_halves.specs.Stream.{size_in, own_unit, receiving_nothing, receiving_settled, buffer_of, ReceivingFits, KeptInWindow, receive_window, after_syn, distance_of, octets_within, octets_gained, after_octets, after_end, after_read}
 use Rattle.tcp_halves.specs.Windows.{receive_room, has_grown, whole_units, after_advertisement, syn_window, after_syn_advertisement}
 use Rattle.tcp_halves.proofs.Choices.{either}
 
@@ -219,8 +219,37 @@ none_within r number octets is none = by (octets_within r number octets) none
     by [] e = grown_by_none r (distance_of r number) is.small is.buffer
     by (x ∷ within) e = absurd (omega (arith, e))
 
-pub nothing_keeps : (capacity : ℕ) → capacity ≤ LARGEST_CAPACITY → IsKeeping (receiving_nothing capacity)
-nothing_keeps capacity most = record { small = omega arith; sized = omega arith; most = most; some = omega arith; few = omega arith; told = omega arith; fits = omega arith; buffer = receives_nothing capacity; kept = none_below capacity 0 }
+-- sizes and units are such as windows can be told in
+pub sizes_meet : (scales : Bool) (capacity : ℕ) → capacity ≤ LARGEST_CAPACITY
+    → (size_in scales capacity ≤ capacity) × (0 < own_unit scales) × (own_unit scales ≤ MSS) × (size_in scales capacity ≤ CAPACITY * own_unit scales)
+sizes_meet true capacity most = (omega arith, omega arith, omega arith, omega (arith, most))
+sizes_meet false capacity most = (omega arith, omega arith, omega arith, omega arith)
+
+pub nothing_keeps : (capacity : ℕ) (scales : Bool) → capacity ≤ LARGEST_CAPACITY → IsKeeping (receiving_nothing (record { capacity = capacity; scales = scales }))
+nothing_keeps capacity scales most = let meet = sizes_meet scales capacity most in record {
+  small = omega arith;
+  sized = meet.0;
+  most = most;
+  some = meet.1;
+  few = meet.2;
+  told = meet.3;
+  fits = omega arith;
+  buffer = receives_nothing capacity;
+  kept = none_below capacity 0;
+}
+
+pub settled_keeps : (r : Receiving) (scales : Bool) → IsKeeping r → r.readable ≡ [] → receive_window r ≡ 0 → IsKeeping (receiving_settled r scales)
+settled_keeps r scales is empty shut = let meet = sizes_meet scales r.size (omega (arith, is.sized, is.most)) in record {
+  small = is.small;
+  sized = omega (arith, meet.0, is.sized);
+  most = is.most;
+  some = meet.1;
+  few = meet.2;
+  told = meet.3;
+  fits = let none = ap (λ (l : List ℕ). length l) empty in omega (arith, none, shut);
+  buffer = is.buffer;
+  kept = is.kept;
+}
 
 -- where no window is advertised, nothing is kept
 pub syn_keeps : (r : Receiving) (number advertised : ℕ) → IsKeeping r → receive_window r ≡ 0 → length r.readable + advertised ≤ r.size → IsKeeping (after_syn r number advertised)
@@ -329,8 +358,9 @@ taken_count r number octets b distance count within is same at cut counted =
     omega (arith, e, few)
 
 -- a new buffer is that of nothing received
-pub new_is : (b : ReceiveView) (size : ℕ) → b ≡ nothing_received b.capacity → size ≡ size_of b.capacity
-    → receiving_nothing b.capacity ≡ record { readable = b.readable; kept = b.kept; rnext = 0; edge = 0; size = size; capacity = b.capacity; unit = 1 }
-new_is b size is sized =
-    ap (λ (n : ℕ). record { readable = []; kept = replicate b.capacity None; rnext = 0; edge = 0; size = n; capacity = b.capacity; unit = 1 }) (sym sized)
-    ∙ ap (λ (x : ReceiveView). record { readable = x.readable; kept = x.kept; rnext = 0; edge = 0; size = size; capacity = b.capacity; unit = 1 }) (sym is)
+pub new_is : (b : ReceiveView) (scales : Bool) (size unit : ℕ) → b ≡ nothing_received b.capacity → size ≡ size_in scales b.capacity → unit ≡ own_unit scales
+    → receiving_nothing (record { capacity = b.capacity; scales = scales }) ≡ record { readable = b.readable; kept = b.kept; rnext = 0; edge = 0; size = size; capacity = b.capacity; unit = unit }
+new_is b scales size unit is sized counted =
+    ap (λ (n : ℕ). record { readable = []; kept = replicate b.capacity None; rnext = 0; edge = 0; size = n; capacity = b.capacity; unit = own_unit scales }) (sym sized)
+    ∙ (ap (λ (n : ℕ). record { readable = []; kept = replicate b.capacity None; rnext = 0; edge = 0; size = size; capacity = b.capacity; unit = n }) (sym counted)
+    ∙ ap (λ (x : ReceiveView). record { readable = x.readable; kept = x.kept; rnext = 0; edge = 0; size = size; capacity = b.capacity; unit = unit }) (sym is))

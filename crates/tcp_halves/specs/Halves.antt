@@ -1,5 +1,10 @@
 -- The two halves of a connection (RFC 9293 section 3.3.1).
-use Rattle.std.specs.Prelude.{ℕ, List, Option}
+use Rattle.std.specs.Prelude.{ℕ, Bool, List, Option}
+
+-- what the buffers of a connection are made for: how many octets each has room for, and whether its host scales windows (RFC 7323 section 2)
+pub record Room : Type 0 where
+  pub capacity : ℕ
+  pub scales : Bool
 
 -- the sending half: the octets taken from the caller and not acknowledged, SND.UNA, SND.NXT (the number after the
 -- highest sent), SND.WND, the largest window that the peer ever advertised, SND.WL1, SND.WL2, the size of the segments that the peer takes, how many octets are

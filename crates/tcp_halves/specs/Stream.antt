@@ -2,19 +2,38 @@
 -- much the peer takes, or of what goes out first; later rules for those leave this page as it is.
 use Rattle.std.specs.Prelude.{◌≡◌, ℕ, zero, suc, ◌+◌, ◌-◌, ◌%◌, ◌^◌, ◌<◌, ◌≤◌, ◌==◌, ◌&&◌, ◌||◌, nat_lt, nat_le, Bool, if◌then◌else◌, List, [], ◌++◌, length, take, drop, replicate, min, None, Some, slice_index_or}
 use Rattle.stream_buf.specs.Receiving.{ReceiveView, joined, after_insert, forgotten}
-use Rattle.tcp_segment.specs.declared.TheConstants.{DEFAULT_MSS}
+use Rattle.tcp_segment.specs.declared.TheConstants.{DEFAULT_MSS, SHIFT}
 use Rattle.tcp_segment.specs.Wire.{past}
 use Rattle.tcp_halves.specs.Numbers.{is_before, later_number}
 use Rattle.tcp_halves.specs.declared.buffers.TheConstants.{CAPACITY}
-use Rattle.tcp_halves.specs.Halves.{Sending, Receiving}
+use Rattle.tcp_halves.specs.Halves.{Room, Sending, Receiving}
 
--- How many octets of a buffer count: a window is told in 16 bits, so no more than that many of it.
-abbrev pub size_of : ℕ → ℕ
-size_of capacity = min capacity CAPACITY
+-- How many octets of a buffer count: all where windows are scaled, and else no more than 16 bits can tell of.
+abbrev pub size_in : Bool → ℕ → ℕ
+size_in scales capacity = if scales then capacity else min capacity CAPACITY
+
+-- how many octets a unit has of the windows that this stack tells ..
+abbrev pub own_unit : Bool → ℕ
+own_unit scales = if scales then 2 ^ SHIFT else 1
+
+-- .. and of those of a peer, by the shift that it tells (RFC 7323 section 2.3)
+abbrev pub peer_unit : Bool → ℕ → ℕ
+peer_unit scales shift = if scales then 2 ^ shift else 1
+
+abbrev pub size_of : Room → ℕ
+size_of room = size_in room.scales room.capacity
 
 -- nothing has come, and no window is advertised; so many places are made
-abbrev pub receiving_nothing : ℕ → Receiving
-receiving_nothing capacity = record { readable = []; kept = replicate capacity None; rnext = 0; edge = 0; size = size_of capacity; capacity = capacity; unit = 1 }
+abbrev pub receiving_nothing : Room → Receiving
+receiving_nothing room = record {
+  readable = [];
+  kept = replicate room.capacity None;
+  rnext = 0;
+  edge = 0;
+  size = size_of room;
+  capacity = room.capacity;
+  unit = own_unit room.scales;
+}
 
 -- the buffer of the receiving half
 abbrev pub buffer_of : Receiving → ReceiveView
@@ -43,6 +62,13 @@ is_new_ack s ack = nat_lt 0 (past ack s.una) && nat_le (past ack s.una) (outstan
 -- nothing sent yet, the SYN will have the number isn, and so many octets are held at most
 abbrev pub sending_from : ℕ → ℕ → Sending
 sending_from size isn = record { held = []; una = isn; nxt = isn; window = 0; max_window = 0; wl1 = isn; wl2 = isn; smss = DEFAULT_MSS; size = size; unit = 1 }
+
+-- The peer's SYN settles whether windows are scaled, and with that how many octets each half holds and the units of the windows.
+abbrev pub sending_settled : Sending → Bool → ℕ → Sending
+sending_settled s scales shift = record s { size = size_in scales s.size; unit = peer_unit scales shift }
+
+abbrev pub receiving_settled : Receiving → Bool → Receiving
+receiving_settled r scales = record r { size = size_in scales r.size; unit = own_unit scales }
 
 -- our SYN is acknowledged, the one number that is outstanding
 abbrev pub after_syn_acknowledged : Sending → Sending

@@ -4,14 +4,15 @@ ghost use Rattle.std.specs.Prelude.{◌≡◌, ◌≤◌, IfOk};
 ghost use Rattle.stream_buf.specs.Receiving.{IsReceiving};
 ghost use Rattle.tcp_segment.specs.declared.TheConstants.{MSS};
 ghost use Rattle.tcp_halves.specs.declared.buffers.TheConstants.{LARGEST_CAPACITY};
-ghost use Rattle.tcp_halves.specs.Stream.{size_of, sending_from, receiving_nothing, buffer_of, ReceivingFits, KeptInWindow};
+ghost use Rattle.tcp_halves.specs.Halves.{Room};
+ghost use Rattle.tcp_halves.specs.Stream.{size_in, own_unit, size_of, sending_from, receiving_nothing, buffer_of, ReceivingFits, KeptInWindow};
 
 use crate::receiver::Receiver;
 use crate::sender::Sender;
 use std::alloc::{AllocError, Global};
 use std::marker::Model;
 use stream_buf::{RecvBuf, SendBuf};
-use tcp_segment::Seq;
+use tcp_segment::{SHIFT, Seq};
 
 /// The octets of each of a connection's two buffers, where a window is told as it is: in 16 bits (RFC 9293 section 3.1).
 pub const CAPACITY: usize = 65_535;
@@ -21,25 +22,28 @@ pub const LARGEST_CAPACITY: usize = 1_048_576;
 
 /// The empty buffers of one connection, made before it opens, so that an open one takes no memory.
 ///
-/// A clause sees them as the number of octets that each of the two has room for.
+/// A clause sees them as what they are made for.
 #[derive(Drop)]
 pub struct Buffers {
     /// That of the sending half.
     send: SendBuf,
     /// That of the receiving half.
     receive: RecvBuf,
+    /// Whether the connection's host scales windows (RFC 7323 section 2).
+    scales: bool,
 }
 
 impl Model for Buffers {
-    ghost use Rattle.std.specs.Prelude.{◌≡◌, ◌≤◌, ℕ};
+    ghost use Rattle.std.specs.Prelude.{◌≡◌, ◌≤◌};
     ghost use Rattle.stream_buf.specs.Sending.{nothing_held};
     ghost use Rattle.stream_buf.specs.Receiving.{nothing_received};
     ghost use Rattle.tcp_segment.specs.declared.TheConstants.{MSS};
     ghost use Rattle.tcp_halves.specs.declared.buffers.TheConstants.{LARGEST_CAPACITY};
+    ghost use Rattle.tcp_halves.specs.Halves.{Room};
 
-    ghost Value = { ℕ };
+    ghost Value = { Room };
 
-    ghost view = { λ b. b.receive.capacity };
+    ghost view = { λ b. record { capacity = b.receive.capacity; scales = b.scales } };
 
     ghost invariant = { λ b. (b.send ≡ nothing_held b.receive.capacity) × (b.receive ≡ nothing_received b.receive.capacity) × (MSS ≤ b.receive.capacity) × (b.receive.capacity ≤ LARGEST_CAPACITY) };
 }
@@ -47,28 +51,65 @@ impl Model for Buffers {
 impl Buffers {
     /// Two empty buffers of so many octets each, those of a segment at least: a smaller window would never be told (RFC 9293 section
     /// 3.8.6.2.2). Fails only where memory is refused.
-    pub fn new(alloc: Global, capacity: usize) -> Result<Buffers, AllocError>
+    pub fn new(alloc: Global, capacity: usize, scales: bool) -> Result<Buffers, AllocError>
         requires least { MSS ≤ capacity }
         requires most { capacity ≤ LARGEST_CAPACITY }
-        ensures { IfOk result (λ buffers. buffers ≡ capacity) }
+        ensures { IfOk result (λ buffers. buffers ≡ record { capacity = capacity; scales = scales }) }
     {
         let send = SendBuf::with_capacity(alloc, capacity)?;
         let receive = RecvBuf::with_capacity(alloc, capacity)?;
-        Ok(Buffers { send, receive })
+        Ok(Buffers {
+            send,
+            receive,
+            scales,
+        })
     }
 
     /// The halves of a connection that opens: nothing is sent, its SYN will have the number `isn`, nothing has come, and no window is
     /// advertised. Each holds as many octets as its buffer, but no more than a window can be told of.
     pub fn into_halves(self, isn: Seq) -> (Sender, Receiver)
-        ensures least { MSS ≤ self }
-        ensures most { self ≤ LARGEST_CAPACITY }
+        ensures least { MSS ≤ self.capacity }
+        ensures most { self.capacity ≤ LARGEST_CAPACITY }
         ensures sender { result.0 ≡ sending_from (size_of self) isn.0 }
         ensures receiver { result.1 ≡ receiving_nothing self }
         ensures fits { ReceivingFits result.1 }
         ensures buffer { IsReceiving (buffer_of result.1) }
         ensures kept { KeptInWindow result.1 }
     {
-        let Buffers { send, receive } = self;
-        (Sender::new(send, isn), Receiver::new(receive))
+        let Buffers {
+            send,
+            receive,
+            scales,
+        } = self;
+        (
+            Sender::new(send, isn, scales),
+            Receiver::new(receive, scales),
+        )
     }
+
+    /// Whether the connection's host scales windows.
+    pub fn scales(&self) -> bool
+        ensures { result ≡ self.now.scales }
+    {
+        self.scales
+    }
+}
+
+/// How many octets of a buffer count: all where windows are scaled, and else no more than 16 bits can tell of.
+pub(crate) fn size_in(scales: bool, capacity: usize) -> usize
+    ensures value { result ≡ size_in scales capacity }
+    ensures bound { result ≤ capacity }
+{
+    if scales {
+        capacity
+    } else {
+        capacity.min(CAPACITY)
+    }
+}
+
+/// How many octets a unit has of the windows that this stack tells.
+pub(crate) fn own_unit(scales: bool) -> u32
+    ensures { result ≡ own_unit scales }
+{
+    if scales { 1 << SHIFT } else { 1 }
 }

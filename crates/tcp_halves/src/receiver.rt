@@ -3,12 +3,12 @@
 ghost use Rattle.std.specs.Prelude.{◌≡◌, ◌+◌, ◌%◌, ◌^◌, ◌≤◌, ◌<◌, ◌++◌, ◌==◌, ◌*◌, length, take, drop, min};
 ghost use Rattle.stream_buf.specs.Receiving.{nothing_received, ranges, IsReceiving};
 ghost use Rattle.tcp_halves.specs.Halves.{Receiving};
-ghost use Rattle.tcp_halves.specs.Stream.{receive_window, is_in_window, is_acceptable, receiving_nothing, buffer_of, after_syn, distance_of, octets_within, after_octets, after_read, stands_next, after_end, ReceivingFits, KeptInWindow};
+ghost use Rattle.tcp_halves.specs.Stream.{receive_window, is_in_window, is_acceptable, receiving_nothing, receiving_settled, buffer_of, after_syn, distance_of, octets_within, after_octets, after_read, stands_next, after_end, ReceivingFits, KeptInWindow};
 ghost use Rattle.tcp_segment.specs.Wire.{past};
 ghost use Rattle.tcp_halves.specs.declared.buffers.TheConstants.{CAPACITY, LARGEST_CAPACITY};
 ghost use Rattle.tcp_halves.specs.Windows.{receive_room, has_grown, whole_units, after_advertisement, window_field, syn_window, after_syn_advertisement};
 
-use crate::buffers::CAPACITY;
+use crate::buffers::{CAPACITY, own_unit, size_in};
 use std::marker::Model;
 use stream_buf::RecvBuf;
 use tcp_segment::{MSS, Seq};
@@ -46,21 +46,21 @@ impl Model for Receiver {
 
 impl Receiver {
     /// Nothing has come, and no window is advertised.
-    pub(crate) fn new(buffer: RecvBuf) -> Receiver
+    pub(crate) fn new(buffer: RecvBuf, scales: bool) -> Receiver
         requires empty { buffer ≡ nothing_received buffer.capacity }
         requires most { buffer.capacity ≤ LARGEST_CAPACITY }
-        ensures value { result ≡ receiving_nothing buffer.capacity }
+        ensures value { result ≡ receiving_nothing (record { capacity = buffer.capacity; scales = scales }) }
         ensures fits { ReceivingFits result }
         ensures buffer { IsReceiving (buffer_of result) }
         ensures kept { KeptInWindow result }
     {
-        let size = buffer.capacity().min(CAPACITY) as u32;
+        let size = size_in(scales, buffer.capacity()) as u32;
         Receiver {
             buffer,
             rnext: Seq(0),
             edge: Seq(0),
             size,
-            unit: 1,
+            unit: own_unit(scales),
         }
     }
 
@@ -167,6 +167,17 @@ impl Receiver {
         ensures { result ≡ receive_window self.now }
     {
         self.edge.past(self.rnext)
+    }
+
+    /// The peer's SYN settles whether windows are scaled. Nothing can be read yet, and no window is advertised.
+    pub fn settle(&mut self, scales: bool)
+        requires empty { length self.old.readable ≡ 0 }
+        requires first { receive_window self.old ≡ 0 }
+        ensures after { self.new ≡ receiving_settled self.old scales }
+        ensures told { min self.old.size CAPACITY ≤ self.new.size }
+    {
+        self.size = size_in(scales, self.size as usize) as u32;
+        self.unit = own_unit(scales);
     }
 
     /// The peer's SYN has this number. `advertised` is the window that it knows; none was advertised before.

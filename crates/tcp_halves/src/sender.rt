@@ -1,15 +1,16 @@
 //! The sending half: what the caller gave and the peer has not acknowledged (RFC 9293 section 3.3.1).
 
-ghost use Rattle.std.specs.Prelude.{◌≡◌, ◌+◌, ◌≤◌, ◌==◌, ◌++◌, [], length, take, drop, max};
+ghost use Rattle.std.specs.Prelude.{◌≡◌, ◌+◌, ◌≤◌, ◌<◌, ◌^◌, ◌==◌, ◌++◌, [], length, take, drop, max};
 ghost use Rattle.inet_sum.specs.Sum.{sum_of};
 ghost use Rattle.stream_buf.specs.Sending.{nothing_held};
+ghost use Rattle.tcp_segment.specs.declared.TheConstants.{MAX_SHIFT};
 ghost use Rattle.tcp_segment.specs.Wire.{past};
 ghost use Rattle.tcp_halves.specs.declared.buffers.TheConstants.{LARGEST_CAPACITY};
 ghost use Rattle.tcp_halves.specs.Halves.{Sending};
-ghost use Rattle.tcp_halves.specs.Stream.{size_of, send_room, outstanding, is_new_ack, sending_from, after_syn_acknowledged, after_acknowledged, after_sent};
+ghost use Rattle.tcp_halves.specs.Stream.{size_in, peer_unit, send_room, outstanding, is_new_ack, sending_from, sending_settled, after_syn_acknowledged, after_acknowledged, after_sent};
 ghost use Rattle.tcp_halves.specs.Windows.{window_in, hears_next, after_syn_heard, after_window_update, open_window, unsent, usable, sendable, next_count, is_worth_sending, waits_for_more};
 
-use crate::buffers::CAPACITY;
+use crate::buffers::size_in;
 use std::marker::Model;
 use stream_buf::SendBuf;
 use tcp_segment::{DEFAULT_MSS, Seq};
@@ -54,11 +55,12 @@ impl Model for Sender {
 
 impl Sender {
     /// Nothing is sent, and the SYN will have the number `isn`.
-    pub(crate) fn new(buffer: SendBuf, isn: Seq) -> Sender
+    pub(crate) fn new(buffer: SendBuf, isn: Seq, scales: bool) -> Sender
         requires empty { buffer ≡ nothing_held buffer.capacity }
-        ensures { result ≡ sending_from (size_of buffer.capacity) isn.0 }
+        requires most { buffer.capacity ≤ LARGEST_CAPACITY }
+        ensures { result ≡ sending_from (size_in scales buffer.capacity) isn.0 }
     {
-        let size = buffer.capacity().min(CAPACITY);
+        let size = size_in(scales, buffer.capacity());
         Sender {
             buffer,
             una: isn,
@@ -132,6 +134,16 @@ impl Sender {
         ensures { self.new ≡ record self.old { held = self.old.held ++ octets.now } }
     {
         self.buffer.write(octets);
+    }
+
+    /// The peer's SYN settles whether windows are scaled, and by which shift its own are. Nothing is held yet.
+    pub fn settle(&mut self, scales: bool, shift: u8)
+        requires empty { length self.old.held ≡ 0 }
+        requires shift { shift ≤ MAX_SHIFT }
+        ensures { self.new ≡ sending_settled self.old scales shift }
+    {
+        self.size = size_in(scales, self.size);
+        self.unit = peer_unit(scales, shift);
     }
 
     /// Takes what the peer's SYN says of it: its window and the segments that it takes.
@@ -295,4 +307,14 @@ impl Sender {
             self.nxt = end;
         }
     }
+}
+
+/// How many octets a unit has of the windows of a peer that tells this shift.
+fn peer_unit(scales: bool, shift: u8) -> u32
+    requires { shift ≤ MAX_SHIFT }
+    ensures value { result ≡ peer_unit scales shift }
+    ensures some { 0 < result }
+    ensures bound { result ≤ 2 ^ MAX_SHIFT }
+{
+    if scales { 1 << shift } else { 1 }
 }

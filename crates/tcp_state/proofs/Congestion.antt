@@ -16,7 +16,7 @@ use Rattle.tcp_state.specs.declared.emission.Due.{Due}
 use Rattle.tcp_state.specs.declared.emission.Due.TheVariants.{Rst, Syn, Text, Probe, Ack}
 use Rattle.tcp_state.specs.declared.state.State.{State}
 use Rattle.tcp_state.specs.declared.state.State.TheVariants.{SynSent, SynReceived, Established, FinWait1, FinWait2, CloseWait}
-use Rattle.tcp_halves.specs.Halves.{Sending}
+use Rattle.tcp_halves.specs.Halves.{Room, Sending}
 use Rattle.tcp_halves.specs.Stream.{outstanding, is_new_ack}
 use Rattle.tcp_halves.specs.Windows.{updates_window}
 use Rattle.tcp_state.specs.View.{View, IsSound, is_opening, is_syn_sent, is_syn_received, is_closed, is_write_closed, is_at_end, after_stop, after_reset, opened_actively}
@@ -320,11 +320,11 @@ stays_kept v e = (moves v e).keeps
 first_size : IsSize 536
 first_size = record { least = omega arith; most = omega arith }
 
-pub opened_kept : (capacity : ℕ) (local peer : Endpoint) (isn : ℕ) (now : Moment) → KeepsCongestion (opened_actively capacity local peer isn now)
-opened_kept capacity local peer isn now = record { sound = first_sound 536 false first_size; segment = λ begun. cc }
+pub opened_kept : (room : Room) (local peer : Endpoint) (isn : ℕ) (now : Moment) → KeepsCongestion (opened_actively room local peer isn now)
+opened_kept room local peer isn now = record { sound = first_sound 536 false first_size; segment = λ begun. cc }
 
-pub accepted_kept : (capacity : ℕ) (local peer : Endpoint) (isn : ℕ) (syn : Segment) (now : Moment) → KeepsCongestion (opened_passively capacity local peer isn syn now)
-accepted_kept capacity local peer isn syn now = record { sound = first_sound 536 false first_size; segment = λ begun. cc }
+pub accepted_kept : (room : Room) (local peer : Endpoint) (isn : ℕ) (syn : Segment) (now : Moment) → KeepsCongestion (opened_passively room local peer isn syn now)
+accepted_kept room local peer isn syn now = record { sound = first_sound 536 false first_size; segment = λ begun. cc }
 
 pub one_segment : (v : View) → KeepsCongestion v → is_idle v.state ≡ false → v.sending.smss ≤ v.congestion.cwnd
 one_segment v keeps begun = subst (λ n. n ≤ v.congestion.cwnd) (keeps.segment begun) (holds_segment v.congestion keeps.sound)

@@ -69,7 +69,6 @@ pub mod TooLate
 pub mod EndInOrder
 pub mod Shut
 pub mod MovedOctets
-pub mod SameSizes
 pub mod Spoken
 pub mod ToldRoom
 pub mod OwedAlone
@@ -78,3 +77,5 @@ pub mod Ordinary
 pub mod Minute
 pub mod TakenOrAnswered
 pub mod Resting
+pub mod Scales
+pub mod FirstSyns

@@ -48,7 +48,7 @@ few_held v sound = most (is_opening v.state || is_write_finished v.state) (lengt
   where
     most : (b : Bool) (held : ℕ) → held ≤ (if b then 0 else v.sending.size) → held ≤ 1048576
     most true held e = omega (arith, e)
-    most false held e = omega (arith, e, sound.send_size)
+    most false held e = omega (arith, e, sound.terms.send_size)
 
 pub few_outstanding : (v : View) → IsSound v → outstanding v.sending ≤ 1048577
 few_outstanding v sound = most (takes_flag_number v.state) (length v.sending.held) (outstanding v.sending) (few_held v sound) sound.flight
@@ -151,7 +151,7 @@ heard : (v w : View) → IsSound v → GoesOn v.sending.una w.sending.una → w.
 heard v w sound una nxt a = record {
   una = una;
   nxt = stays_at v.sending.nxt w.sending.nxt nxt;
-  rnext = λ past_opening. goes v.receiving.rnext w.receiving.rnext a.by (omega (arith, a.within, sound.window, sound.places, sound.capacity)) a.rnext;
+  rnext = λ past_opening. goes v.receiving.rnext w.receiving.rnext a.by (omega (arith, a.within, sound.window, sound.terms.places, sound.terms.capacity)) a.rnext;
   edge = λ past_opening. stays_at v.receiving.edge w.receiving.edge a.edge;
 }
 

@@ -34,7 +34,7 @@ told_after : (v w : View) (peer : Sending) → IsSound v → peer.unit ≡ v.rec
 told_after v w peer sound same is =
     let r = after_advertisement v.receiving in
     let unit = unit_kept v.receiving in
-    subst (λ t. IsTold peer (after_advertisement t) (window_field r)) (sym is) (told_by peer r (subst (λ n. 0 < n) (sym unit) sound.unit_some) (same ∙ sym unit))
+    subst (λ t. IsTold peer (after_advertisement t) (window_field r)) (sym is) (told_by peer r (subst (λ n. 0 < n) (sym unit) sound.terms.unit_some) (same ∙ sym unit))
 
 pub units_told : (v : View) (due : Due) (now : Moment) (peer : Sending) → IsSound v → (let f = flags_of v due in f.ack) ≡ true → (let f = flags_of v due in f.syn) ≡ false → peer.unit ≡ v.receiving.unit
     → (window_in peer (window_of v due) ≤ receive_window (after_emitted v due now).receiving) × (receive_window (after_emitted v due now).receiving < window_in peer (window_of v due) + peer.unit)

@@ -1,38 +1,70 @@
--- A segment's most octets are what the SYN of the peer says, and what goes out keeps to them.
-use Rattle.std.proofs.Common.{◌≡◌, ℕ, ◌≤◌, ◌==◌, ◌&&◌, ◌⊎◌, not, min, max, if◌then◌else◌, Bool, true, false, length, drop, Option, Some, None, unwrap_or, inl, inr, arith, refl, ◌∙◌, ap, ap₂, subst}
+-- What the peer's SYN settles: the most octets of a segment, and whether windows are scaled, with the sizes of the halves and the units of the windows; and what goes out keeps to those octets.
+use Rattle.std.proofs.Common.{◌≡◌, ℕ, ◌≤◌, ◌==◌, ◌||◌, ◌&&◌, ◌⊎◌, not, min, max, if◌then◌else◌, Bool, true, false, length, drop, Some, None, unwrap_or, inl, inr, arith, refl, sym, ◌∙◌, ap, ap₂, subst}
 use Rattle.std.proofs.lemmas.List.{length-take}
 use Rattle.tcp_segment.specs.Options.{last_mss}
-use Rattle.tcp_segment.specs.Segment.{Segment, smss_of}
+use Rattle.tcp_segment.specs.Segment.{Segment, smss_of, shift_of}
 use Rattle.clock.specs.declared.moment.Moment.{Moment}
 use Rattle.tcp_state.specs.declared.emission.Due.{Due}
 use Rattle.tcp_state.specs.declared.emission.Due.TheVariants.{Rst, Syn, Text, Probe, Ack}
 use Rattle.tcp_state.specs.declared.emission.Stretch.{Stretch}
 use Rattle.tcp_state.specs.declared.state.State.{State}
 use Rattle.tcp_state.specs.declared.state.State.TheVariants.{Closed, SynSent, SynReceived, Established}
-use Rattle.tcp_halves.specs.Stream.{is_new_ack}
+use Rattle.tcp_halves.specs.Stream.{peer_unit, is_new_ack}
 use Rattle.tcp_halves.specs.Windows.{updates_window}
-use Rattle.tcp_halves.specs.Halves.{Sending}
+use Rattle.tcp_halves.specs.Halves.{Sending, Receiving}
 use Rattle.tcp_halves.proofs.Choices.{either, by, clash, and_left}
-use Rattle.tcp_state.specs.View.{View, IsSound, is_closed, is_syn_sent, is_syn_received, after_reset}
-use Rattle.tcp_state.specs.Arrival.{owing_ack, reset_error, is_acceptable_to, after_rst_in_syn_sent, after_rst, is_right_syn_ack, is_simultaneous_syn, after_simultaneous_syn, after_syn_ack, after_ack, after_window, after_text, after_fin, after_acceptable_segment, after_segment, is_lost, after_lost, after_heard}
-use Rattle.tcp_state.specs.Due.{first_due, octets_of, octets_of_stretch, probe_stretch, again, new_octets, fin_alone, after_syn_ack_paid, after_syn_out}
-use Rattle.tcp_state.specs.Edges.{Event, Hears, after_first, after_event}
+use Rattle.tcp_state.specs.View.{View, IsSound, is_closed, is_syn_sent, after_reset}
+use Rattle.tcp_state.specs.Timing.{clocked, after_timers}
+use Rattle.tcp_state.specs.Arrival.{owing_ack, scales_with, after_first_syn, is_receiving, reset_error, is_acceptable_to, after_rst_in_syn_sent, after_rst, is_right_syn_ack, is_simultaneous_syn, after_simultaneous_syn, after_syn_ack, after_ack, after_window, after_text, after_fin, after_acceptable_segment, after_segment, is_lost, after_lost, after_heard}
+use Rattle.tcp_state.specs.Due.{first_due, octets_of, octets_of_stretch, probe_stretch, again, new_octets, fin_alone}
+use Rattle.tcp_state.specs.Edges.{Event, Hears, Emits, after_event}
 use Rattle.tcp_state.specs.Counted.{BringsSyn}
-use Rattle.tcp_state.proofs.Clocked.{timers_keep}
-use Rattle.tcp_state.proofs.Segments.{opened_by_syn_ack, by_ack, by_segment, by_clock, reading_sends}
+use Rattle.tcp_state.specs.Opening.{TakesSyn}
+use Rattle.tcp_state.proofs.Clocked.{timers_keep, emission_keeps}
+use Rattle.tcp_state.proofs.Segments.{opened_by_syn_ack, by_ack, by_fin, by_segment, by_clock}
+use Rattle.tcp_state.proofs.StillStreams.{emissions_leave}
 use Rattle.tcp_state.proofs.Events.{by_event}
-use Rattle.tcp_state.proofs.Emissions.{by_due, syn_sends, stretch_sends, probe_sends}
+use Rattle.tcp_state.proofs.Emissions.{by_due}
 
--- A segment: the size stays, and in SYN-SENT the state too where it doesn't end the connection; or it is a SYN, and has the size.
+-- what the peer's SYN settles: the most octets of a segment, whether windows are scaled, how many octets each half holds, and the units of the windows; and beside it how many places were made
+record Terms : Type 0 where
+  smss : ℕ
+  scales : Bool
+  sending_size : ℕ
+  receiving_size : ℕ
+  peer_unit : ℕ
+  own_unit : ℕ
+  places : ℕ
+
+abbrev terms_of : View → Terms
+terms_of v = record {
+  smss = v.sending.smss;
+  scales = v.scales;
+  sending_size = v.sending.size;
+  receiving_size = v.receiving.size;
+  peer_unit = v.sending.unit;
+  own_unit = v.receiving.unit;
+  places = v.receiving.capacity;
+}
+
+abbrev terms_by : View → Segment → Terms
+terms_by v s = terms_of (after_first_syn v s 0)
+
+-- A segment: the terms stay, and in SYN-SENT the state too where it doesn't end the connection; or it is a SYN, and settles them.
+
+abbrev Same : View → View → Type 0
+Same v w = terms_of w ≡ terms_of v
 
 abbrev Stays : View → View → Type 0
-Stays v w = (w.sending.smss ≡ v.sending.smss) × (v.state ≡ SynSent → (w.state ≡ SynSent) ⊎ (w.state ≡ Closed))
+Stays v w = Same v w × (v.state ≡ SynSent → (w.state ≡ SynSent) ⊎ (w.state ≡ Closed))
 
-abbrev Takes : View → Segment → View → Type 0
-Takes v s w = BringsSyn v s × (w.sending.smss ≡ smss_of s)
+-- it is the peer's SYN, and left SYN-SENT
+record Settles (v : View) (s : Segment) (w : View) : Type 0 where
+  terms : terms_of w ≡ terms_by v s
+  left : is_syn_sent w.state ≡ false
 
-abbrev Sized : View → Segment → View → Type 0
-Sized v s w = Stays v w ⊎ Takes v s w
+abbrev Settled : View → Segment → View → Type 0
+Settled v s w = Stays v w ⊎ (BringsSyn v s × Settles v s w)
 
 is_sent : (t : State) → is_syn_sent t ≡ true → t ≡ SynSent
 is_sent SynSent e = refl
@@ -42,72 +74,77 @@ as_it_was : (v : View) → Stays v v
 as_it_was v = (refl, λ waits. inl waits)
 
 -- past SYN-SENT the state doesn't matter
-past : (v w : View) → is_syn_sent v.state ≡ false → w.sending.smss ≡ v.sending.smss → Stays v w
+past : (v w : View) → is_syn_sent v.state ≡ false → Same v w → Stays v w
 past v w past_opening same = (same, λ waits. clash (is_syn_sent v.state) (ap is_syn_sent waits) past_opening)
 
-window_sized : (w : View) (s : Segment) → (after_window w s).sending.smss ≡ w.sending.smss
-window_sized w s =
-    let x = w.sending in
-    either Sending (λ t. t.smss ≡ x.smss) (updates_window x s.number s.acknowledgement) _ x (λ updates. refl) (λ stays. refl)
+acked : (v : View) (ack : ℕ) → Same v (after_ack v ack)
+acked v ack = by_ack (Same v) v ack (record { old = refl; beyond = refl; opens = λ received new. refl; octets = λ new. refl; fin = λ new fin. refl })
 
-ack_sized : (v : View) (ack : ℕ) → (after_ack v ack).sending.smss ≡ v.sending.smss
-ack_sized v ack = by_ack (λ w. w.sending.smss ≡ v.sending.smss) v ack (record { old = refl; beyond = refl; opens = λ received new. refl; octets = λ new. refl; fin = λ new fin. refl })
+windowed : (v : View) (s : Segment) → Same v (after_window (after_ack v s.acknowledgement) s)
+windowed v s =
+    let w = after_ack v s.acknowledgement in
+    either Sending (λ t. Same v (record w { sending = t })) (updates_window w.sending s.number s.acknowledgement) _ w.sending (λ updates. acked v s.acknowledgement) (λ stays. acked v s.acknowledgement)
 
--- what is read moves no size
-read_sized : (v : View) (s : Segment) → (after_fin (after_text (after_window (after_ack v s.acknowledgement) s) s) s).sending.smss ≡ v.sending.smss
-read_sized v s = ap (λ (x : Sending). x.smss) (reading_sends v s) ∙ (window_sized (after_ack v s.acknowledgement) s ∙ ack_sized v s.acknowledgement)
+texted : (v : View) (s : Segment) → Same v (after_text (after_window (after_ack v s.acknowledgement) s) s)
+texted v s =
+    let w = after_window (after_ack v s.acknowledgement) s in
+    either View (Same v) ((length s.octets == 0) || not (is_receiving w.state)) w _ (λ none. windowed v s) (λ some. windowed v s)
 
-past_sized : (v : View) (s : Segment) → is_syn_sent v.state ≡ false → (after_segment v s).sending.smss ≡ v.sending.smss
-past_sized v s past_opening = by_segment (λ w. w.sending.smss ≡ v.sending.smss) v s (record {
+-- what is read moves none
+read_settled : (v : View) (s : Segment) → Same v (after_fin (after_text (after_window (after_ack v s.acknowledgement) s) s) s)
+read_settled v s =
+    let text = after_text (after_window (after_ack v s.acknowledgement) s) s in
+    by_fin (Same v) text s (λ counts. texted v s) (texted v s) (texted v s)
+
+past_settled : (v : View) (s : Segment) → is_syn_sent v.state ≡ false → Same v (after_segment v s)
+past_settled v s past_opening = by_segment (Same v) v s (record {
   dropped = refl;
   drawn = refl;
   reset = λ acts. refl;
   crossed = λ waits. clash (is_syn_sent v.state) waits past_opening;
   opened = λ waits right. clash (is_syn_sent v.state) waits past_opening;
-  acknowledged = λ taken. ack_sized v s.acknowledgement;
-  read = λ on. read_sized v s;
+  acknowledged = λ taken. acked v s.acknowledgement;
+  read = λ on. read_settled v s;
 })
 
 -- a reset in SYN-SENT
-rst_sized : (v : View) (s : Segment) → Stays v (after_rst_in_syn_sent v s)
-rst_sized v s =
+rst_settled : (v : View) (s : Segment) → Stays v (after_rst_in_syn_sent v s)
+rst_settled v s =
     either View (Stays v) (s.flags.ack && is_new_ack v.sending s.acknowledgement) (after_reset v (reset_error v.state)) v (λ acts. (refl, λ waits. inr refl)) (λ other. as_it_was v)
 
-syn_sized : (v : View) (s : Segment) → is_syn_sent v.state ≡ true → s.flags.rst ≡ false → Sized v s (if is_simultaneous_syn v s then after_simultaneous_syn v s else after_syn_ack v s)
-syn_sized v s waits no_rst =
+syn_settled : (v : View) (s : Segment) → is_syn_sent v.state ≡ true → s.flags.rst ≡ false → Settled v s (if is_simultaneous_syn v s then after_simultaneous_syn v s else after_syn_ack v s)
+syn_settled v s waits no_rst =
     let syn : s.flags.syn ≡ true → BringsSyn v s = λ set. record { waits = is_sent v.state waits; no_rst = no_rst; syn = set } in
-    either View (Sized v s) (is_simultaneous_syn v s) (after_simultaneous_syn v s) (after_syn_ack v s)
-    (λ crosses. inr (syn (and_left s.flags.syn (not s.flags.ack) crosses), refl))
-    (λ answers. either View (Sized v s) (is_right_syn_ack v s) (opened_by_syn_ack v s) v
-    (λ right. inr (syn (and_left s.flags.syn s.flags.ack (and_left (s.flags.syn && s.flags.ack) (is_new_ack v.sending s.acknowledgement) right)), refl))
+    either View (Settled v s) (is_simultaneous_syn v s) (after_simultaneous_syn v s) (after_syn_ack v s)
+    (λ crosses. inr (syn (and_left s.flags.syn (not s.flags.ack) crosses), record { terms = refl; left = refl }))
+    (λ answers. either View (Settled v s) (is_right_syn_ack v s) (opened_by_syn_ack v s) v
+    (λ right. inr (syn (and_left s.flags.syn s.flags.ack (and_left (s.flags.syn && s.flags.ack) (is_new_ack v.sending s.acknowledgement) right)), record { terms = refl; left = refl }))
     (λ wrong. inl (as_it_was v)))
 
-segment_sized : (v : View) (s : Segment) → Sized v s (after_segment v s)
-segment_sized v s =
-    by (Sized v s (after_segment v s)) (is_syn_sent v.state)
-    (λ waits. either View (Sized v s) (is_closed v.state) v _ (λ closed. inl (as_it_was v))
-    (λ lives. either View (Sized v s) s.flags.rst (if is_syn_sent v.state then after_rst_in_syn_sent v s else after_rst v s) _
-    (λ rst. either View (Sized v s) (is_syn_sent v.state) (after_rst_in_syn_sent v s) (after_rst v s) (λ sent. inl (rst_sized v s)) (λ not_sent. clash (is_syn_sent v.state) waits not_sent))
-    (λ no_rst. either View (Sized v s) (is_syn_sent v.state) (if is_simultaneous_syn v s then after_simultaneous_syn v s else after_syn_ack v s) (if is_acceptable_to v s then after_acceptable_segment v s else owing_ack v)
-    (λ sent. syn_sized v s waits no_rst) (λ not_sent. clash (is_syn_sent v.state) waits not_sent))))
-    (λ past_opening. inl (past v (after_segment v s) past_opening (past_sized v s past_opening)))
+segment_settled : (v : View) (s : Segment) → Settled v s (after_segment v s)
+segment_settled v s =
+    by (Settled v s (after_segment v s)) (is_syn_sent v.state)
+    (λ waits. either View (Settled v s) (is_closed v.state) v _ (λ closed. inl (as_it_was v))
+    (λ lives. either View (Settled v s) s.flags.rst (if is_syn_sent v.state then after_rst_in_syn_sent v s else after_rst v s) _
+    (λ rst. either View (Settled v s) (is_syn_sent v.state) (after_rst_in_syn_sent v s) (after_rst v s) (λ sent. inl (rst_settled v s)) (λ not_sent. clash (is_syn_sent v.state) waits not_sent))
+    (λ no_rst. either View (Settled v s) (is_syn_sent v.state) (if is_simultaneous_syn v s then after_simultaneous_syn v s else after_syn_ack v s) (if is_acceptable_to v s then after_acceptable_segment v s else owing_ack v)
+    (λ sent. syn_settled v s waits no_rst) (λ not_sent. clash (is_syn_sent v.state) waits not_sent))))
+    (λ past_opening. inl (past v (after_segment v s) past_opening (past_settled v s past_opening)))
 
-heard_sized : (v : View) (s : Segment) → Sized v s (after_heard v s)
-heard_sized v s =
-    either View (Sized v s) (is_lost v s) (after_lost v s) (after_segment v s)
-    (λ lost. inl (window_sized (after_ack v s.acknowledgement) s ∙ ack_sized v s.acknowledgement, λ waits. inr refl)) (λ kept. segment_sized v s)
+heard_settled : (v : View) (s : Segment) → Settled v s (after_heard v s)
+heard_settled v s =
+    either View (Settled v s) (is_lost v s) (after_lost v s) (after_segment v s) (λ lost. inl (windowed v s, λ waits. inr refl)) (λ kept. segment_settled v s)
 
-timed_sized : (v : View) (s : Segment) (now : Moment) → Sized v s (after_event v (Hears s now))
-timed_sized v s now = by_clock (Sized v s) v s now (inl (as_it_was v)) (λ lives. heard_sized v s)
+timed_settled : (v : View) (s : Segment) (now : Moment) → Settled v s (after_event v (Hears s now))
+timed_settled v s now = by_clock (Settled v s) v s now (inl (as_it_was v)) (λ lives. elim (heard_settled v s) [ inl stays ↦ inl stays | inr takes ↦ inr (takes.0, record { terms = takes.1.terms; left = takes.1.left }) ])
 
--- in SYN-SENT the SYN that opens tells it
-pub size_of_syn : (v : View) (s : Segment) (now : Moment) → v.state ≡ SynSent → ((after_event v (Hears s now)).state ≡ SynReceived) ⊎ ((after_event v (Hears s now)).state ≡ Established)
-    → (after_event v (Hears s now)).sending.smss ≡ smss_of s
-size_of_syn v s now waits opens =
+-- in SYN-SENT the SYN that opens settles them
+syn_settles : (v : View) (s : Segment) (now : Moment) → v.state ≡ SynSent → TakesSyn v s now → terms_of (after_event v (Hears s now)) ≡ terms_by v s
+syn_settles v s now waits opens =
     let w = after_event v (Hears s now) in
-    elim (timed_sized v s now) [
+    elim (timed_settled v s now) [
       | inl stays ↦ no_other w.state opens (stays.1 waits)
-      | inr takes ↦ takes.1
+      | inr takes ↦ takes.1.terms
     ]
   where
     no_other : {C : Type 0} → (t : State) → (t ≡ SynReceived) ⊎ (t ≡ Established) → (t ≡ SynSent) ⊎ (t ≡ Closed) → C
@@ -115,27 +152,41 @@ size_of_syn v s now waits opens =
     no_other Established opens other = elim other [ inl e ↦ cc | inr e ↦ cc ]
     no_other _ opens other = elim opens [ inl e ↦ cc | inr e ↦ cc ]
 
+pub size_of_syn : (v : View) (s : Segment) (now : Moment) → v.state ≡ SynSent → TakesSyn v s now → (after_event v (Hears s now)).sending.smss ≡ smss_of s
+size_of_syn v s now waits opens = ap (λ (t : Terms). t.smss) (syn_settles v s now waits opens)
+
+pub scale_of_syn : (v : View) (s : Segment) (now : Moment) → v.state ≡ SynSent → TakesSyn v s now → (after_event v (Hears s now)).scales ≡ scales_with v s
+scale_of_syn v s now waits opens = ap (λ (t : Terms). t.scales) (syn_settles v s now waits opens)
+
+pub unit_of_syn : (v : View) (s : Segment) (now : Moment) → v.state ≡ SynSent → TakesSyn v s now
+    → (after_event v (Hears s now)).sending.unit ≡ peer_unit (after_event v (Hears s now)).scales (shift_of s)
+unit_of_syn v s now waits opens = let e = syn_settles v s now waits opens in
+    ap (λ (t : Terms). t.peer_unit) e ∙ ap (λ (t : Terms). peer_unit t.scales (shift_of s)) (sym e)
+
 -- Every event.
 
-emitted_sized : (v : View) (o : Option Due) (now : Moment) → (after_first v o now).sending.smss ≡ v.sending.smss
-emitted_sized v None now = refl
-emitted_sized v (Some Rst) now = refl
-emitted_sized v (Some Syn) now =
-    let sent = after_syn_out v now in
-    let same : sent.sending.smss ≡ v.sending.smss = ap (λ (x : Sending). x.smss) (syn_sends v now) in
-    either View (λ w. w.sending.smss ≡ v.sending.smss) (is_syn_received v.state) (after_syn_ack_paid sent) sent (λ received. same) (λ first. same)
-emitted_sized v (Some (Text stretch)) now = ap (λ (x : Sending). x.smss) (stretch_sends v stretch now)
-emitted_sized v (Some Probe) now = ap (λ (x : Sending). x.smss) (probe_sends v)
-emitted_sized v (Some Ack) now = refl
+emitted_settled : (v : View) (now : Moment) → Same v (after_event v (Emits now))
+emitted_settled v now =
+    let w = after_event v (Emits now) in
+    let k = emissions_leave v now in
+    ap (λ (t : Sending). record { smss = t.smss; scales = w.scales; sending_size = t.size; receiving_size = w.receiving.size; peer_unit = t.unit; own_unit = w.receiving.unit; places = w.receiving.capacity }) k.0
+    ∙ (ap (λ (r : Receiving). record { smss = v.sending.smss; scales = w.scales; sending_size = v.sending.size; receiving_size = r.size; peer_unit = v.sending.unit; own_unit = r.unit; places = r.capacity }) k.1
+    ∙ ap (λ (x : View). record (terms_of v) { scales = x.scales }) (emission_keeps v (first_due v) now))
 
-pub others_leave_size : (v : View) (e : Event) → ((after_event v e).sending.smss ≡ v.sending.smss) ⊎ ((s : Segment) × (now : Moment) × (e ≡ Hears s now) × BringsSyn v s × ((after_event v e).sending.smss ≡ smss_of s))
-others_leave_size v e = by_event (λ e w. (w.sending.smss ≡ v.sending.smss) ⊎ ((s : Segment) × (now : Moment) × (e ≡ Hears s now) × BringsSyn v s × (w.sending.smss ≡ smss_of s))) v (record {
+ticked_settled : (v : View) (now : Moment) → Same v (clocked false (after_timers v now) now)
+ticked_settled v now = ap terms_of (timers_keep v now)
+
+abbrev SettledBy : View → Event → View → Type 0
+SettledBy v e w = Same v w ⊎ ((s : Segment) × (now : Moment) × (e ≡ Hears s now) × BringsSyn v s × Settles v s w)
+
+settled_by : (v : View) (e : Event) → SettledBy v e (after_event v e)
+settled_by v e = by_event (SettledBy v) v (record {
   same = λ e. inl refl;
-  heard = λ s now lives. elim (heard_sized v s) [ inl stays ↦ inl stays.0 | inr takes ↦ inr (s, now, refl, takes.0, takes.1) ];
+  heard = λ s now lives. elim (heard_settled v s) [ inl stays ↦ inl stays.0 | inr takes ↦ inr (s, now, refl, takes.0, record { terms = takes.1.terms; left = takes.1.left }) ];
   over = λ now ends. inl refl;
   given_up = λ now going expired. inl refl;
-  acts = λ now. inl (ap (λ (w : View). w.sending.smss) (timers_keep v now));
-  emits = λ now. inl (emitted_sized v (first_due v) now);
+  acts = λ now. inl (ticked_settled v now);
+  emits = λ now. inl (emitted_settled v now);
   sends = λ octets taken now opened. inl refl;
   reads = λ len. inl refl;
   shuts = λ now. inl refl;
@@ -144,6 +195,34 @@ others_leave_size v e = by_event (λ e w. (w.sending.smss ≡ v.sending.smss) �
   refused = λ number hit. inl refl;
   hopless = λ now over. inl refl;
 }) e
+
+pub others_leave_size : (v : View) (e : Event) → ((after_event v e).sending.smss ≡ v.sending.smss) ⊎ ((s : Segment) × (now : Moment) × (e ≡ Hears s now) × BringsSyn v s × ((after_event v e).sending.smss ≡ smss_of s))
+others_leave_size v e = elim (settled_by v e) [
+  | inl same ↦ inl (ap (λ (t : Terms). t.smss) same)
+  | inr by_syn ↦ inr (by_syn.0, by_syn.1, by_syn.2, by_syn.3, ap (λ (t : Terms). t.smss) by_syn.4.terms)
+]
+
+-- past SYN-SENT, and where it stays there, all stays
+stay : (v : View) (e : Event) → (is_syn_sent v.state ≡ false) ⊎ (is_syn_sent (after_event v e).state ≡ true) → Same v (after_event v e)
+stay v e either_way = elim (settled_by v e) [
+  | inl same ↦ same
+  | inr by_syn ↦ elim either_way [
+    | inl past_opening ↦ clash (is_syn_sent v.state) (ap is_syn_sent by_syn.3.waits) past_opening
+    | inr waits ↦ clash (is_syn_sent (after_event v e).state) waits by_syn.4.left
+  ]
+]
+
+pub scale_stays : (v : View) (e : Event) → (is_syn_sent v.state ≡ false) ⊎ (is_syn_sent (after_event v e).state ≡ true) → (after_event v e).scales ≡ v.scales
+scale_stays v e either_way = ap (λ (t : Terms). t.scales) (stay v e either_way)
+
+pub sizes_stay : (v : View) (e : Event) → is_syn_sent v.state ≡ false → ((after_event v e).sending.size ≡ v.sending.size) × ((after_event v e).receiving.size ≡ v.receiving.size)
+sizes_stay v e past_opening = let same = stay v e (inl past_opening) in (ap (λ (t : Terms). t.sending_size) same, ap (λ (t : Terms). t.receiving_size) same)
+
+pub units_stay : (v : View) (e : Event) → is_syn_sent v.state ≡ false → ((after_event v e).sending.unit ≡ v.sending.unit) × ((after_event v e).receiving.unit ≡ v.receiving.unit)
+units_stay v e past_opening = let same = stay v e (inl past_opening) in (ap (λ (t : Terms). t.peer_unit) same, ap (λ (t : Terms). t.own_unit) same)
+
+pub places_stay : (v : View) (e : Event) → (after_event v e).receiving.capacity ≡ v.receiving.capacity
+places_stay v e = elim (settled_by v e) [ inl same ↦ ap (λ (t : Terms). t.places) same | inr by_syn ↦ ap (λ (t : Terms). t.places) by_syn.4.terms ]
 
 -- What goes out keeps to it.
 

@@ -162,7 +162,7 @@ ends_within false offset count held opening awaits few ends = omega (arith, few)
 
 end_small : (v : View) (stretch : Stretch) → IsSound v → IsHeld v stretch → end_of stretch < 2 ^ 32
 end_small v stretch sound h =
-    let held = held_few (is_opening v.state) (is_write_finished v.state) (length v.sending.held) v.sending.size sound.send_size sound.held in
+    let held = held_few (is_opening v.state) (is_write_finished v.state) (length v.sending.held) v.sending.size sound.terms.send_size sound.held in
     let one : one_if stretch.fin ≤ 1 = one_at_most stretch.fin in
     let within = h.held in omega (arith, held, one, within)
 

@@ -156,7 +156,7 @@ so_syn v now sound opening =
       syn_window = λ syn acks. syn_told v sent (after_emitted v Syn now).receiving.edge same (ap (λ b. let w = if b then after_syn_ack_paid sent else sent in w.receiving.edge) acks);
       unacknowledging = λ none. ap (λ b. if b then r.rnext else 0) none;
       first = λ syn none. let shut = shut_at_first v.receiving.size v.state (receive_window r) (length r.readable) (sent_alone v.state opening none) sound.untold sound.readable in
-          first_told r sound.rnext shut.0 shut.1 sound.receive_least;
+          first_told r sound.rnext shut.0 shut.1 sound.terms.receive_least;
       syn = λ syn. (refl, refl, refl);
       plain = λ none. cc;
       rst = λ rst. cc;

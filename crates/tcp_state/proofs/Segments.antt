@@ -1,15 +1,16 @@
 -- What a segment makes of a connection, case by case.
 use Rattle.std.proofs.Common.{◌≡◌, ℕ, ◌==◌, ◌||◌, ◌&&◌, not, Bool, true, false, if◌then◌else◌, length, refl, ◌∙◌, ap}
-use Rattle.tcp_segment.specs.Segment.{Segment, smss_of}
+use Rattle.tcp_segment.specs.Segment.{Segment}
 use Rattle.clock.specs.declared.moment.Moment.{Moment}
+use Rattle.tcp_state.specs.declared.connection.Fate.TheVariants.{Stays, Removed, Rejected}
 use Rattle.tcp_state.specs.declared.state.State.{State}
 use Rattle.tcp_state.specs.declared.state.State.TheVariants.{SynSent, Established}
 use Rattle.tcp_halves.specs.Numbers.{is_before}
-use Rattle.tcp_halves.specs.Stream.{is_new_ack, is_in_window, after_syn, after_end, after_syn_acknowledged}
-use Rattle.tcp_halves.specs.Windows.{after_syn_heard, syn_window}
+use Rattle.tcp_halves.specs.Stream.{is_new_ack, is_in_window, after_end, after_syn_acknowledged}
+use Rattle.tcp_halves.specs.Windows.{syn_window}
 use Rattle.tcp_state.specs.Resend.{unmarked}
 use Rattle.tcp_state.specs.View.{View, is_syn_sent, is_syn_received, is_closed, after_reset}
-use Rattle.tcp_state.specs.Arrival.{owing_ack, reset_error, after_rst_in_syn_sent, after_rst, is_right_syn_ack, after_syn_ack, is_simultaneous_syn, after_simultaneous_syn, is_acceptable_to, ends_by_syn, is_acting_reset, ends_by_reset, after_establishment, is_of_fin, fin_acknowledged, after_new_ack, after_ack, is_read_on, is_receiving, after_window, after_text, after_fin, after_acknowledging_segment, after_acceptable_segment, after_segment, is_read, is_lost, after_lost, after_heard, acknowledges_unsent, is_rejected, before, timed_by, after_segment_at}
+use Rattle.tcp_state.specs.Arrival.{owing_ack, reset_error, after_rst_in_syn_sent, after_rst, is_right_syn_ack, after_first_syn, after_syn_ack, is_simultaneous_syn, after_simultaneous_syn, is_acceptable_to, ends_by_syn, is_acting_reset, ends_by_reset, after_establishment, is_of_fin, fin_acknowledged, after_new_ack, after_ack, is_read_on, is_receiving, after_window, after_text, after_fin, after_acknowledging_segment, after_acceptable_segment, after_segment, is_read, is_lost, after_lost, after_heard, acknowledges_unsent, is_rejected, before, timed_by, after_segment_at}
 use Rattle.tcp_state.specs.Arrival.{beyond_end, counts_fin}
 use Rattle.tcp_state.specs.Edges.{is_reset_by}
 use Rattle.tcp_halves.proofs.Choices.{either, and_left, and_right, and_false, both, neither, not_true, then_chosen, else_chosen}
@@ -22,10 +23,9 @@ by_fin P w s counted drawn none =
 
 -- the SYN-ACK that ends an opening
 abbrev pub opened_by_syn_ack : View → Segment → View
-opened_by_syn_ack v s = record v {
+opened_by_syn_ack v s = let heard = after_first_syn v s (syn_window v.receiving) in record heard {
   state = Established;
-  sending = after_syn_acknowledged (after_syn_heard v.sending s.number s.window (smss_of s));
-  receiving = after_syn v.receiving s.number (syn_window v.receiving);
+  sending = after_syn_acknowledged heard.sending;
   owes_ack = true;
   resend = unmarked v.resend;
 }
@@ -152,18 +152,44 @@ read_tells v s e =
       on = and_right (is_taken v s) (is_read_on v s.acknowledgement) e;
     }
 
-pub reads : (v : View) (s : Segment) → is_closed v.state ≡ false → is_syn_sent v.state ≡ false → IsRead v s → after_segment v s ≡ after_reading v s
-reads v s lives past_opening read =
+-- what an acceptable segment without RST and SYN makes of it past SYN-SENT
+accepts : (v : View) (s : Segment) → is_closed v.state ≡ false → s.flags.rst ≡ false → is_syn_sent v.state ≡ false → is_acceptable_to v s ≡ true → s.flags.syn ≡ false
+    → after_segment v s ≡ (if s.flags.ack then after_acknowledging_segment v s else v)
+accepts v s lives no_rst past_opening accepted no_syn =
     ap (λ b. if b then v else if s.flags.rst then (if is_syn_sent v.state then after_rst_in_syn_sent v s else after_rst v s) else rest) lives
-    ∙ ap (λ b. if b then (if is_syn_sent v.state then after_rst_in_syn_sent v s else after_rst v s) else rest) read.no_rst
+    ∙ ap (λ b. if b then (if is_syn_sent v.state then after_rst_in_syn_sent v s else after_rst v s) else rest) no_rst
     ∙ ap (λ b. if b then (if is_simultaneous_syn v s then after_simultaneous_syn v s else after_syn_ack v s) else if is_acceptable_to v s then after_acceptable_segment v s else owing_ack v) past_opening
-    ∙ ap (λ b. if b then after_acceptable_segment v s else owing_ack v) read.accepted
-    ∙ ap (λ b. if b then (if ends_by_syn v s then v else owing_ack v) else if s.flags.ack then after_acknowledging_segment v s else v) read.no_syn
-    ∙ ap (λ b. if b then after_acknowledging_segment v s else v) read.ack
-    ∙ ap (λ b. if b then after_reading v s else after_ack v s.acknowledgement) read.on
+    ∙ ap (λ b. if b then after_acceptable_segment v s else owing_ack v) accepted
+    ∙ ap (λ b. if b then (if ends_by_syn v s then v else owing_ack v) else if s.flags.ack then after_acknowledging_segment v s else v) no_syn
   where
     rest : View
     rest = if is_syn_sent v.state then (if is_simultaneous_syn v s then after_simultaneous_syn v s else after_syn_ack v s) else if is_acceptable_to v s then after_acceptable_segment v s else owing_ack v
+
+pub acknowledging : (v : View) (s : Segment) → is_closed v.state ≡ false → s.flags.rst ≡ false → is_syn_sent v.state ≡ false → is_acceptable_to v s ≡ true → s.flags.syn ≡ false → s.flags.ack ≡ true
+    → after_segment v s ≡ after_acknowledging_segment v s
+acknowledging v s lives no_rst past_opening accepted no_syn ack = accepts v s lives no_rst past_opening accepted no_syn ∙ ap (λ b. if b then after_acknowledging_segment v s else v) ack
+
+pub unacknowledging : (v : View) (s : Segment) → is_closed v.state ≡ false → s.flags.rst ≡ false → is_syn_sent v.state ≡ false → is_acceptable_to v s ≡ true → s.flags.syn ≡ false → s.flags.ack ≡ false
+    → after_segment v s ≡ v
+unacknowledging v s lives no_rst past_opening accepted no_syn no_ack = accepts v s lives no_rst past_opening accepted no_syn ∙ ap (λ b. if b then after_acknowledging_segment v s else v) no_ack
+
+-- .. and of its place
+pub fate_of_acknowledging : (rst syn ack accepted waits received new passive resets : Bool) → rst ≡ false → syn ≡ false → ack ≡ true → accepted ≡ true → waits ≡ false
+    → (if received && not new then Rejected else Stays)
+    ≡ (if not rst && ack && not new && (waits || (received && accepted && not syn)) then Rejected else if not waits && (if rst then resets else accepted && syn && passive && received) then Removed else Stays)
+fate_of_acknowledging false false true true false true true passive resets r s k a w = refl
+fate_of_acknowledging false false true true false true false passive resets r s k a w = refl
+fate_of_acknowledging false false true true false false true passive resets r s k a w = refl
+fate_of_acknowledging false false true true false false false passive resets r s k a w = refl
+fate_of_acknowledging true syn ack accepted waits received new passive resets r s k a w = cc
+fate_of_acknowledging false true ack accepted waits received new passive resets r s k a w = cc
+fate_of_acknowledging false false false accepted waits received new passive resets r s k a w = cc
+fate_of_acknowledging false false true false waits received new passive resets r s k a w = cc
+fate_of_acknowledging false false true true true received new passive resets r s k a w = cc
+
+pub reads : (v : View) (s : Segment) → is_closed v.state ≡ false → is_syn_sent v.state ≡ false → IsRead v s → after_segment v s ≡ after_reading v s
+reads v s lives past_opening read =
+    acknowledging v s lives read.no_rst past_opening read.accepted read.no_syn read.ack ∙ ap (λ b. if b then after_reading v s else after_ack v s.acknowledgement) read.on
 
 -- past the opening nothing is rejected
 pub not_rejected : (v : View) (s : Segment) → is_syn_sent v.state ≡ false → is_syn_received v.state ≡ false → is_rejected v s ≡ false

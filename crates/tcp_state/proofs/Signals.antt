@@ -47,7 +47,7 @@ few_out false false false held out size small few most = omega (arith, small, fe
 
 small_flight : (v : View) → IsSound v → outstanding v.sending ≤ 1048577
 small_flight v sound =
-    few_out (is_opening v.state) (is_write_finished v.state) (takes_flag_number v.state) (length v.sending.held) (outstanding v.sending) v.sending.size sound.send_size sound.held sound.flight
+    few_out (is_opening v.state) (is_write_finished v.state) (takes_flag_number v.state) (length v.sending.held) (outstanding v.sending) v.sending.size sound.terms.send_size sound.held sound.flight
 
 no_octets : (l : List ℕ) → length l ≡ 0 → l ≡ []
 no_octets [] e = refl

@@ -16,7 +16,7 @@ use Rattle.tcp_state.specs.declared.emission.Due.{Due}
 use Rattle.tcp_state.specs.declared.emission.Due.TheVariants.{Syn, Text, Ack}
 use Rattle.tcp_state.specs.declared.state.State.TheVariants.{SynReceived, Established}
 use Rattle.tcp_halves.specs.Numbers.{is_before, later_number}
-use Rattle.tcp_halves.specs.Halves.{Receiving}
+use Rattle.tcp_halves.specs.Halves.{Room, Receiving}
 use Rattle.tcp_halves.specs.Stream.{outstanding, sending_from, receiving_nothing, receive_window, is_in_window, is_acceptable}
 use Rattle.tcp_halves.specs.Windows.{window_in, updates_window, is_worth_sending, has_grown, after_advertisement, window_field, after_syn_advertisement}
 use Rattle.tcp_state.specs.Resend.{Resend, first_resend, mark_past, resend_lost}
@@ -34,6 +34,10 @@ use Rattle.tcp_state.proofs.Unreachable.{and_no}
 
 -- What an end is, step by step.
 
+-- its buffers, where windows aren't scaled
+abbrev small : Room
+small = record { capacity = 65535; scales = false }
+
 -- its SYN went out at this moment: its round trip is measured, and its timer runs
 abbrev timed_from : ℕ → Moment → Resend
 timed_from isn first = record first_resend { timed = Some (record { end = record { 0 = wire isn 1 }; since = first }) }
@@ -42,14 +46,14 @@ abbrev runs_from : Moment → Timers
 runs_from first = record no_timers { retransmission = Some (after first 1000) }
 
 abbrev waiting : Endpoint → Endpoint → ℕ → Moment → View
-waiting here there isn first = record (opened_actively 65535 here there isn first) { sending = record (sending_from 65535 isn) { nxt = wire isn 1 }; resend = timed_from isn first; timers = runs_from first; unheard = None }
+waiting here there isn first = record (opened_actively small here there isn first) { sending = record (sending_from 65535 isn) { nxt = wire isn 1 }; resend = timed_from isn first; timers = runs_from first; unheard = None }
 
 -- it has both SYNs
 abbrev receives : ℕ → Receiving
-receives other = record { readable = []; kept = (receiving_nothing 65535).kept; rnext = wire other 1; edge = (wire other 1 + 65535) % 2 ^ 32; size = 65535; capacity = 65535; unit = 1 }
+receives other = record { readable = []; kept = (receiving_nothing small).kept; rnext = wire other 1; edge = (wire other 1 + 65535) % 2 ^ 32; size = 65535; capacity = 65535; unit = 1 }
 
 abbrev answering : Endpoint → Endpoint → ℕ → ℕ → Bool → Bool → Resend → Moment → View
-answering here there isn other owes spoke resend first = record (opened_actively 65535 here there isn first) {
+answering here there isn other owes spoke resend first = record (opened_actively small here there isn first) {
   state = SynReceived;
   sending = record (sending_from 65535 isn) { nxt = wire isn 1; window = 65535; max_window = 65535; wl1 = other; smss = 1460 };
   receiving = receives other;
@@ -70,7 +74,7 @@ again_sent here there isn other owes spoke first = answering here there isn othe
 
 -- it is open, and its congestion window begins
 abbrev opened : Endpoint → Endpoint → ℕ → ℕ → View
-opened here there isn other = record (opened_actively 65535 here there isn (record { 0 = 0 })) {
+opened here there isn other = record (opened_actively small here there isn (record { 0 = 0 })) {
   state = Established;
   sending = record { held = []; una = wire isn 1; nxt = wire isn 1; window = 65535; max_window = 65535; wl1 = wire other 1; wl2 = wire isn 1; smss = 1460; size = 65535; unit = 1 };
   receiving = receives other;
@@ -113,7 +117,7 @@ moves n fits = elim (eqb_tells n (wire n 1)) [ inl same ↦ let one = one_out n 
 
 -- The SYN.
 
-first_is_syn : (here there : Endpoint) (isn : ℕ) (at : Moment) → isn < 2 ^ 32 → first_due (opened_actively 65535 here there isn at) ≡ Some Syn
+first_is_syn : (here there : Endpoint) (isn : ℕ) (at : Moment) → isn < 2 ^ 32 → first_due (opened_actively small here there isn at) ≡ Some Syn
 first_is_syn here there isn at fits = ap (λ n. if (n == 0) || false then Some Syn else None) (none_out isn fits)
 
 sent_first : (isn : ℕ) → isn < 2 ^ 32 → later_number isn isn (wire isn 1) ≡ wire isn 1
@@ -132,16 +136,16 @@ running_if v was now first out = record v {
 abbrev out_again : View → Moment → ℕ → View
 out_again v now out = let sent = if nat_lt 0 out then after_resent v 1 else after_first_sent v 1 now in if nat_lt 0 out then after_syn_again sent else sent
 
-syn_goes : (here there : Endpoint) (isn : ℕ) (at now : Moment) → isn < 2 ^ 32 → after_event (opened_actively 65535 here there isn at) (Emits now) ≡ waiting here there isn now
+syn_goes : (here there : Endpoint) (isn : ℕ) (at now : Moment) → isn < 2 ^ 32 → after_event (opened_actively small here there isn at) (Emits now) ≡ waiting here there isn now
 syn_goes here there isn at now fits =
-    let v = opened_actively 65535 here there isn at in
+    let v = opened_actively small here there isn at in
     ap (λ d. after_first v d now) (first_is_syn here there isn at fits)
     ∙ (ap (λ n. clocked false (out_again v now n) now) (none_out isn fits)
     ∙ (ap (λ n. clocked false (record v { sending = record (sending_from 65535 isn) { nxt = n }; resend = record first_resend { timed = Some (record { end = record { 0 = n }; since = now }) } }) now) (sent_first isn fits)
     ∙ ap (running_if (waiting here there isn now) (Some at) now now) (one_out isn fits)))
 
 abbrev syn_of : Endpoint → Endpoint → ℕ → Segment
-syn_of here there isn = sent_segment (head_of (opened_actively 65535 here there isn (record { 0 = 0 })) Syn) []
+syn_of here there isn = sent_segment (head_of (opened_actively small here there isn (record { 0 = 0 })) Syn) []
 
 syn_comes : (here there : Endpoint) (isn other : ℕ) (first now : Moment) → isn < 2 ^ 32
     → after_event (waiting here there isn first) (Hears (syn_of there here other) now) ≡ again_due here there isn other first
@@ -289,10 +293,10 @@ segment_due : (v : View) (due : Due) → first_due v ≡ Some due → first_segm
 segment_due v due is = ap (λ o. option_map (λ d. sent_segment (head_of v d) (octets_of v d)) o) is
 
 syns_cross : (here there : Endpoint) (isn other : ℕ) (one two now : Moment) → isn < 2 ^ 32 → other < 2 ^ 32
-    → after_coming (after_event (opened_actively 65535 here there isn one) (Emits now)) (first_segment (opened_actively 65535 there here other two)) now ≡ again_due here there isn other now
+    → after_coming (after_event (opened_actively small here there isn one) (Emits now)) (first_segment (opened_actively small there here other two)) now ≡ again_due here there isn other now
 syns_cross here there isn other one two now fits other_fits =
-    crosses (opened_actively 65535 here there isn one) (opened_actively 65535 there here other two) (waiting here there isn now) (syn_of there here other) (again_due here there isn other now) now
-    (syn_goes here there isn one now fits) (segment_due (opened_actively 65535 there here other two) Syn (first_is_syn there here other two other_fits)) (syn_comes here there isn other now now fits)
+    crosses (opened_actively small here there isn one) (opened_actively small there here other two) (waiting here there isn now) (syn_of there here other) (again_due here there isn other now) now
+    (syn_goes here there isn one now fits) (segment_due (opened_actively small there here other two) Syn (first_is_syn there here other two other_fits)) (syn_comes here there isn other now now fits)
 
 syn_acks_cross : (here there : Endpoint) (isn other : ℕ) (first now : Moment) → isn < 2 ^ 32 → other < 2 ^ 32
     → after_coming (after_event (again_due here there isn other first) (Emits now)) (first_segment (again_due there here other isn first)) now ≡ again_sent here there isn other true false first
@@ -311,7 +315,7 @@ acks_cross here there isn other first now fits other_fits =
     (ack_goes here there isn other first now fits other_fits) (segment_due w Ack (first_is_ack there here other isn first other_fits)) (ack_comes here there isn other first now fits other_fits)
 
 abbrev both_open : Endpoint → Endpoint → ℕ → ℕ → Moment → Moment → Ends
-both_open here there isn other one two = record { one = opened_actively 65535 here there isn one; other = opened_actively 65535 there here other two }
+both_open here there isn other one two = record { one = opened_actively small here there isn one; other = opened_actively small there here other two }
 
 abbrev both_due : Endpoint → Endpoint → ℕ → ℕ → Moment → Ends
 both_due here there isn other first = record { one = again_due here there isn other first; other = again_due there here other isn first }
@@ -321,7 +325,7 @@ both_sent here there isn other first = record { one = again_sent here there isn 
 
 first_crossing : (here there : Endpoint) (isn other : ℕ) (one two now : Moment) → isn < 2 ^ 32 → other < 2 ^ 32 → crossed (both_open here there isn other one two) now ≡ both_due here there isn other now
 first_crossing here there isn other one two now fits other_fits =
-    ap (λ v. record { one = v; other = after_coming (after_event (opened_actively 65535 there here other two) (Emits now)) (first_segment (opened_actively 65535 here there isn one)) now }) (syns_cross here there isn other one two now fits other_fits)
+    ap (λ v. record { one = v; other = after_coming (after_event (opened_actively small there here other two) (Emits now)) (first_segment (opened_actively small here there isn one)) now }) (syns_cross here there isn other one two now fits other_fits)
     ∙ ap (λ w. record { one = again_due here there isn other now; other = w }) (syns_cross there here other isn two one now other_fits fits)
 
 second_crossing : (here there : Endpoint) (isn other : ℕ) (first now : Moment) → isn < 2 ^ 32 → other < 2 ^ 32 → crossed (both_due here there isn other first) now ≡ both_sent here there isn other first

@@ -8,7 +8,7 @@ use Rattle.tcp_segment.specs.Wire.{past}
 use Rattle.tcp_state.specs.declared.emission.Due.TheVariants.{Syn}
 use Rattle.tcp_state.specs.declared.state.State.{State}
 use Rattle.tcp_state.specs.declared.state.State.TheVariants.{SynSent, SynReceived}
-use Rattle.tcp_halves.specs.Halves.{Sending}
+use Rattle.tcp_halves.specs.Halves.{Room, Sending}
 use Rattle.tcp_halves.specs.Stream.{outstanding, is_new_ack}
 use Rattle.tcp_halves.specs.Windows.{updates_window}
 use Rattle.tcp_state.specs.View.{View, IsSound, is_syn_sent, is_syn_received, is_closed, is_write_closed}
@@ -29,9 +29,9 @@ use Rattle.tcp_state.proofs.Unreachable.{opening}
 none_out : (n : ℕ) → n < 2 ^ 32 → past n n ≡ 0
 none_out n fits = omega (arith, fits)
 
-pub listener_answers : (capacity : ℕ) (local peer : Endpoint) (isn : ℕ) (syn : Segment) (at : Moment) → isn < 2 ^ 32 → AnswersSyn isn syn.number (opened_passively capacity local peer isn syn at)
-listener_answers capacity local peer isn syn at fits =
-    let v = opened_passively capacity local peer isn syn at in
+pub listener_answers : (room : Room) (local peer : Endpoint) (isn : ℕ) (syn : Segment) (at : Moment) → isn < 2 ^ 32 → AnswersSyn isn syn.number (opened_passively room local peer isn syn at)
+listener_answers room local peer isn syn at fits =
+    let v = opened_passively room local peer isn syn at in
     let due : first_due v ≡ Some Syn = ap (λ n. if (n == 0) || false then Some Syn else None) (none_out isn fits) in
     record {
       state = refl;

@@ -15,7 +15,7 @@ use Rattle.tcp_state.specs.declared.emission.Due.TheVariants.{Rst}
 use Rattle.tcp_state.specs.declared.state.State.{State}
 use Rattle.tcp_state.specs.declared.state.State.TheVariants.{Closed, Established, CloseWait}
 use Rattle.tcp_state.specs.declared.timing.TheConstants.{DELAYED_ACK_WAIT, OVERRIDE_WAIT}
-use Rattle.tcp_halves.specs.Halves.{Sending}
+use Rattle.tcp_halves.specs.Halves.{Room, Sending}
 use Rattle.tcp_halves.specs.Stream.{outstanding}
 use Rattle.tcp_halves.specs.Windows.{sendable, is_worth_sending, updates_window}
 use Rattle.tcp_state.specs.View.{View, IsSound, is_opening, is_closed, is_fin_wait_2, awaits_fin_ack, is_write_closed, after_stop, opened_actively}
@@ -219,12 +219,12 @@ stays_timed v e sound keeps = by_event (λ e w. KeepsTime w) v (record {
 
 -- A connection that opens: nothing is outstanding, and its SYN is due.
 
-pub opened_timed : (capacity : ℕ) (local peer : Endpoint) (isn : ℕ) (now : Moment) → isn < 2 ^ 32 → KeepsTime (opened_actively capacity local peer isn now)
-opened_timed capacity local peer isn now small =
+pub opened_timed : (room : Room) (local peer : Endpoint) (isn : ℕ) (now : Moment) → isn < 2 ^ 32 → KeepsTime (opened_actively room local peer isn now)
+opened_timed room local peer isn now small =
     let none : past isn isn ≡ 0 = omega (arith, small) in
     record { retransmission = sym (ap (λ n. nat_lt 0 n && true) none); probe = refl; delayed_ack = refl; overriding = λ waits. cc; interval = λ none_runs. refl; owed = λ owes. cc; closed = λ closed. refl; unheard = sym (ap (λ n. (n == 0) && true) none) }
 
-pub accepted_timed : (capacity : ℕ) (local peer : Endpoint) (isn : ℕ) (syn : Segment) (now : Moment) → isn < 2 ^ 32 → KeepsTime (opened_passively capacity local peer isn syn now)
-accepted_timed capacity local peer isn syn now small =
+pub accepted_timed : (room : Room) (local peer : Endpoint) (isn : ℕ) (syn : Segment) (now : Moment) → isn < 2 ^ 32 → KeepsTime (opened_passively room local peer isn syn now)
+accepted_timed room local peer isn syn now small =
     let none : past isn isn ≡ 0 = omega (arith, small) in
     record { retransmission = sym (ap (λ n. nat_lt 0 n && true) none); probe = refl; delayed_ack = refl; overriding = λ waits. cc; interval = λ none_runs. refl; owed = λ owes. cc; closed = λ closed. refl; unheard = sym (ap (λ n. (n == 0) && true) none) }

@@ -59,7 +59,7 @@ grown_by_syn : (rnext edge told : ℕ) → rnext < 2 ^ 32 → edge < 2 ^ 32 → 
 grown_by_syn rnext edge told r e few much = omega (arith, r, e, few, much)
 
 few_left : (v : View) → IsSound v → receive_room v.receiving ≤ 1048576
-few_left v sound = omega (arith, sound.places, sound.capacity)
+few_left v sound = omega (arith, sound.terms.places, sound.terms.capacity)
 
 advertised : (v w : View) → IsSound v → v.receiving.edge < 2 ^ 32 → w.receiving ≡ after_advertisement v.receiving → Steps v w
 advertised v w sound small same =
@@ -69,9 +69,9 @@ advertised v w sound small same =
     either Receiving P (has_grown r) _ r
     (λ has is.
     let much = leb-true (past r.edge r.rnext + 1460) (receive_room r) has in
-    let filled = in_units r.unit (receive_room r) sound.unit_some in
+    let filled = in_units r.unit (receive_room r) sound.terms.unit_some in
     let edge : w.receiving.edge ≡ (r.rnext + told) % 2 ^ 32 = ap (λ (t : Receiving). t.edge) is in
-    let step = grown r.rnext r.edge told (receive_room r) r.unit sound.rnext small (few_left v sound) sound.unit_few filled.0 filled.1 much in
+    let step = grown r.rnext r.edge told (receive_room r) r.unit sound.rnext small (few_left v sound) sound.terms.unit_few filled.0 filled.1 much in
     inr (inl (subst (λ n. 1460 < past n r.edge + r.unit) (sym edge) step, edge)))
     (λ keeps is. inl (ap (λ (t : Receiving). t.edge) is)) same
 

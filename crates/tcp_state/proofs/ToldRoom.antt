@@ -1,10 +1,9 @@
 -- Why an open connection of which nothing is due has told its room.
-use Rattle.std.proofs.Common.{◌≡◌, ◌+◌, ◌*◌, ◌<◌, ◌≤◌, ◌||◌, ◌&&◌, not, false, true, [], length, Option, Some, None, inl, inr, arith, ap, ℕ}
+use Rattle.std.proofs.Common.{◌≡◌, ◌+◌, ◌*◌, ◌<◌, ◌≤◌, ◌||◌, ◌&&◌, not, false, true, [], length, None, inl, inr, arith, ap}
 use Rattle.std.proofs.lemmas.Bool.Decides.{leb_tells}
 use Rattle.tcp_segment.specs.declared.TheConstants.{MSS}
 use Rattle.tcp_halves.specs.Stream.{receive_window}
 use Rattle.tcp_halves.specs.Windows.{receive_room, has_grown}
-use Rattle.tcp_state.specs.declared.emission.Due.{Due}
 use Rattle.tcp_state.specs.View.{View, is_opening, is_closed}
 use Rattle.tcp_state.specs.Due.{is_ack_due, first_due}
 use Rattle.tcp_halves.proofs.Choices.{clash, both, or_right, neither, of_false}

@@ -1,19 +1,20 @@
 -- What an arriving segment makes of a connection, step by step (RFC 9293 section 3.10.7).
-use Rattle.std.specs.Prelude.{ℕ, ◌+◌, ◌-◌, ◌%◌, ◌^◌, ◌==◌, ◌&&◌, ◌||◌, not, nat_lt, min, Bool, true, false, if◌then◌else◌, length, Option, Some, None}
+use Rattle.std.specs.Prelude.{ℕ, ◌+◌, ◌-◌, ◌%◌, ◌^◌, ◌==◌, ◌&&◌, ◌||◌, not, nat_lt, min, Bool, true, false, if◌then◌else◌, length, Option, Some, None, is_some}
 use Rattle.tcp_state.specs.declared.calls.Refusal.{Refusal}
 use Rattle.tcp_state.specs.declared.calls.Refusal.TheVariants.{ECONNREFUSED, ECONNRESET}
 use Rattle.ipv4.specs.declared.addr.Endpoint.{Endpoint}
-use Rattle.tcp_segment.specs.Segment.{Segment, smss_of, span_of}
+use Rattle.tcp_segment.specs.Segment.{Segment, smss_of, scale_option_of, shift_of, span_of}
 use Rattle.tcp_halves.specs.Numbers.{is_before}
 use Rattle.tcp_state.specs.declared.connection.Fate.{Fate}
 use Rattle.tcp_state.specs.declared.connection.Fate.TheVariants.{Stays, Removed, Rejected}
 use Rattle.clock.specs.declared.moment.Moment.{Moment}
 use Rattle.tcp_state.specs.declared.state.State.{State}
 use Rattle.tcp_state.specs.declared.state.State.TheVariants.{SynSent, SynReceived, Established, FinWait1, FinWait2, CloseWait, Closing, LastAck, TimeWait, Closed}
-use Rattle.tcp_halves.specs.Stream.{size_of, outstanding, is_new_ack, sending_from, receiving_nothing, after_syn_acknowledged, after_acknowledged, is_in_window, is_acceptable, after_syn, after_octets, stands_next, after_end}
+use Rattle.tcp_halves.specs.Halves.{Room}
+use Rattle.tcp_halves.specs.Stream.{outstanding, is_new_ack, sending_settled, receiving_settled, after_syn_acknowledged, after_acknowledged, is_in_window, is_acceptable, after_syn, after_octets, stands_next, after_end}
 use Rattle.tcp_halves.specs.Windows.{window_in, after_syn_heard, after_window_update, syn_window}
-use Rattle.tcp_state.specs.View.{View, first_congestion, is_opening, is_syn_sent, is_syn_received, is_closed, is_fin_wait_2, is_time_wait, awaits_fin_ack, after_reset, is_over}
-use Rattle.tcp_state.specs.Resend.{Resend, first_resend, stopped, mark_past, mark_moved, unmarked, resend_acknowledged, resend_lost}
+use Rattle.tcp_state.specs.View.{View, opened_actively, is_opening, is_syn_sent, is_syn_received, is_closed, is_fin_wait_2, is_time_wait, awaits_fin_ack, after_reset, is_over}
+use Rattle.tcp_state.specs.Resend.{Resend, stopped, mark_past, mark_moved, unmarked, resend_acknowledged, resend_lost}
 use Rattle.congestion.specs.Window.{Window, third_is_next}
 use Rattle.congestion.specs.Events.Event.{NewAck, Duplicate}
 use Rattle.tcp_state.specs.Congestion.{Signal, after_signal}
@@ -28,27 +29,22 @@ use Rattle.tcp_state.specs.Calls.{aborted}
 abbrev pub owing_ack : View → View
 owing_ack v = record v { owes_ack = true }
 
--- a connection that a SYN opens at a listener at this moment (section 3.10.7.2), in buffers of so many octets each: no window is advertised yet
-abbrev pub opened_passively : ℕ → Endpoint → Endpoint → ℕ → Segment → Moment → View
-opened_passively capacity local peer isn syn now = record {
-  local = local;
-  peer = peer;
+-- Windows are scaled where both sides' SYNs have the option (RFC 7323 section 2.2): a peer's that ours doesn't offer is ignored.
+abbrev pub scales_with : View → Segment → Bool
+scales_with v s = v.scales && is_some (scale_option_of s)
+
+-- the peer's SYN is taken, while this window is advertised to it: it settles whether windows are scaled
+abbrev pub after_first_syn : View → Segment → ℕ → View
+after_first_syn v s advertised = let scales = scales_with v s in record v {
   state = SynReceived;
-  passive = true;
-  sending = after_syn_heard (sending_from (size_of capacity) isn) syn.number syn.window (smss_of syn);
-  receiving = after_syn (receiving_nothing capacity) syn.number 0;
-  owes_ack = false;
-  delays_ack = false;
-  spoke = false;
-  resend = first_resend;
-  timers = no_timers;
-  congestion = first_congestion;
-  pending_error = None;
-  released = false;
-  owes_reset = false;
-  since = record { 0 = 0 };
-  unheard = Some now;
+  scales = scales;
+  sending = after_syn_heard (sending_settled v.sending scales (shift_of s)) s.number s.window (smss_of s);
+  receiving = after_syn (receiving_settled v.receiving scales) s.number advertised;
 }
+
+-- a connection that a SYN opens at a listener at this moment (section 3.10.7.2), in buffers that were made for this: no window is advertised yet
+abbrev pub opened_passively : Room → Endpoint → Endpoint → ℕ → Segment → Moment → View
+opened_passively room local peer isn syn now = record (after_first_syn (opened_actively room local peer isn now) syn 0) { passive = true }
 
 -- Why a reset ends the connection, by the state that it ends: refused while it opens, reset while octets may still come or go; else both sides were closed
 abbrev pub reset_error : State → Option Refusal
@@ -71,13 +67,12 @@ is_right_syn_ack v s = s.flags.syn && s.flags.ack && is_new_ack v.sending s.ackn
 
 abbrev pub after_syn_ack : View → Segment → View
 after_syn_ack v s =
-    if is_right_syn_ack v s then record v {
+    if is_right_syn_ack v s then (let heard = after_first_syn v s (syn_window v.receiving) in record heard {
       state = Established;
-      sending = after_syn_acknowledged (after_syn_heard v.sending s.number s.window (smss_of s));
-      receiving = after_syn v.receiving s.number (syn_window v.receiving);
+      sending = after_syn_acknowledged heard.sending;
       owes_ack = true;
       resend = unmarked v.resend;
-    } else v
+    }) else v
 
 -- .. or one without ACK, of a peer that opens at the same time (section 3.5, figure 7): a SYN-ACK is due, with the number of our SYN. That had advertised its
 -- window, if it went out.
@@ -85,10 +80,7 @@ abbrev pub is_simultaneous_syn : View → Segment → Bool
 is_simultaneous_syn v s = s.flags.syn && not s.flags.ack
 
 abbrev pub after_simultaneous_syn : View → Segment → View
-after_simultaneous_syn v s = record v {
-  state = SynReceived;
-  sending = after_syn_heard v.sending s.number s.window (smss_of s);
-  receiving = after_syn v.receiving s.number (if outstanding v.sending == 0 then 0 else syn_window v.receiving);
+after_simultaneous_syn v s = record (after_first_syn v s (if outstanding v.sending == 0 then 0 else syn_window v.receiving)) {
   resend = record v.resend { mark = mark_past 0 (outstanding v.sending) };
 }
 

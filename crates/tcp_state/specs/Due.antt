@@ -76,7 +76,7 @@ window_of v Rst = 0
 window_of v Syn = min (receive_window (after_syn_advertisement v.receiving)) CAPACITY
 window_of v _ = window_field (after_advertisement v.receiving)
 
--- the header: the acknowledgement is RCV.NXT
+-- The header: the acknowledgement is RCV.NXT. Our SYN offers to scale windows where we would, and a SYN-ACK where the SYN did (RFC 7323 section 2.2).
 abbrev pub head_of : View → Due → Head
 head_of v due =
     let flags = flags_of v due in
@@ -87,7 +87,7 @@ head_of v due =
       acknowledgement = record { 0 = if flags.ack then v.receiving.rnext else 0 };
       flags = flags;
       window = window_of v due;
-      scales = false;
+      scales = v.scales;
     }
 
 -- how many octets the segment has

@@ -8,6 +8,7 @@ view_of c = record {
   peer = c.peer;
   state = c.state;
   passive = c.is_passive;
+  scales = c.scales;
   sending = c.sender;
   receiving = c.receiver;
   owes_ack = c.owes_ack;

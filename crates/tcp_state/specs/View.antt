@@ -14,9 +14,9 @@ use Rattle.congestion.specs.Window.{Window, initial_window}
 use Rattle.retransmit.specs.Deadlines.{no_timers}
 use Rattle.tcp_state.specs.Resend.{Resend, IsSoundResend, first_resend, stopped}
 use Rattle.std.specs.Option.{ForSome}
-use Rattle.tcp_halves.specs.Halves.{Sending, Receiving}
+use Rattle.tcp_halves.specs.Halves.{Room, Sending, Receiving}
 use Rattle.stream_buf.specs.Receiving.{IsReceiving}
-use Rattle.tcp_halves.specs.Stream.{size_of, outstanding, sending_from, receiving_nothing, receive_window, buffer_of, ReceivingFits, KeptInWindow}
+use Rattle.tcp_halves.specs.Stream.{size_in, own_unit, size_of, outstanding, sending_from, receiving_nothing, receive_window, buffer_of, ReceivingFits, KeptInWindow}
 
 pub record View : Type 0 where
   pub local : Endpoint
@@ -24,6 +24,8 @@ pub record View : Type 0 where
   pub state : State
   -- a listener opened it, and not its caller
   pub passive : Bool
+  -- windows are scaled (RFC 7323 section 2): in SYN-SENT our SYN offers that, and from the peer's SYN on both sides do it
+  pub scales : Bool
   pub sending : Sending
   pub receiving : Receiving
   -- an acknowledgement is owed
@@ -150,15 +152,16 @@ reset_since v = if v.owes_reset then Some v.since else None
 abbrev pub first_congestion : Window
 first_congestion = initial_window DEFAULT_MSS false
 
--- a connection that its caller opens at this moment (RFC 9293 section 3.10.1), in buffers of so many octets each
-abbrev pub opened_actively : ℕ → Endpoint → Endpoint → ℕ → Moment → View
-opened_actively capacity local peer isn now = record {
+-- a connection that its caller opens at this moment (RFC 9293 section 3.10.1), in buffers that were made for this
+abbrev pub opened_actively : Room → Endpoint → Endpoint → ℕ → Moment → View
+opened_actively room local peer isn now = record {
   local = local;
   peer = peer;
   state = SynSent;
   passive = false;
-  sending = sending_from (size_of capacity) isn;
-  receiving = receiving_nothing capacity;
+  scales = room.scales;
+  sending = sending_from (size_of room) isn;
+  receiving = receiving_nothing room;
   owes_ack = false;
   delays_ack = false;
   spoke = false;
@@ -180,12 +183,28 @@ takes_flag_number state = is_opening state || awaits_fin_ack state
 abbrev pub most_outstanding : View → ℕ
 most_outstanding v = length v.sending.held + (if takes_flag_number v.state then 1 else 0)
 
+-- How many octets the two halves hold at most, and the units of the windows, where windows are scaled or not (RFC 7323 sections 2.2 and 2.3). Both halves hold the same number: of the places that were made for
+-- what comes all where windows are scaled, else no more than 16 bits can tell of; room for a segment, so that a window is told, and no more than can be told in our units. A unit is an octet at least; one of ours is a segment at most, and one
+-- of the peer's as much as the option can say. Where windows aren't scaled, the peer's is an octet.
+pub record AreTerms (scales : Bool) (sent peer size made unit : ℕ) : Type 0 where
+  pub send_size : sent ≤ LARGEST_CAPACITY
+  pub receive_least : MSS ≤ size
+  pub receive_size : size ≤ CAPACITY * unit
+  pub places : size ≤ made
+  pub capacity : made ≤ LARGEST_CAPACITY
+  pub unit_some : 0 < unit
+  pub unit_few : unit ≤ MSS
+  pub peer_unit_some : 0 < peer
+  pub peer_unit_few : peer ≤ 2 ^ MAX_SHIFT
+  pub settled_size : size ≡ size_in scales made
+  pub same_size : sent ≡ size
+  pub settled_unit : unit ≡ own_unit scales
+  pub settled_peer_unit : scales ≡ false → peer ≡ 1
+
 -- What holds of every connection. While it opens, nothing is held or readable, and before the peer's SYN came no window is advertised; nothing is held once our FIN is acknowledged or all is closed. What is
 -- outstanding is of what is held, with the SYN or the FIN; the resend mark stands within it. A segment may
 -- have `LEAST_MSS` octets at least, so that what is held can always go out. An acknowledgement is owed once a SYN came, and none when all is closed.
--- An error is pending, and a reset owed, only where all is closed; what its caller closed is closed on our side. The receiving half is no larger than the places that were made for it, nor than a window can be
--- told in its units, and has room for a segment, so that its window is told. A unit of a window is an octet at least; one of the windows that are told is a segment at most, and one of the peer's as much as the window scale
--- option can say (RFC 7323 section 2.3).
+-- An error is pending, and a reset owed, only where all is closed; what its caller closed is closed on our side.
 pub record IsSound (v : View) : Type 0 where
   pub una : v.sending.una < 2 ^ 32
   pub nxt : v.sending.nxt < 2 ^ 32
@@ -206,12 +225,4 @@ pub record IsSound (v : View) : Type 0 where
   pub error : (is_some v.pending_error && not (is_closed v.state)) ≡ false
   pub reset : (v.owes_reset && not (is_closed v.state && v.released)) ≡ false
   pub release : (v.released && not (is_write_closed v.state)) ≡ false
-  pub send_size : v.sending.size ≤ LARGEST_CAPACITY
-  pub receive_least : MSS ≤ v.receiving.size
-  pub receive_size : v.receiving.size ≤ CAPACITY * v.receiving.unit
-  pub places : v.receiving.size ≤ v.receiving.capacity
-  pub capacity : v.receiving.capacity ≤ LARGEST_CAPACITY
-  pub unit_some : 0 < v.receiving.unit
-  pub unit_few : v.receiving.unit ≤ MSS
-  pub peer_unit_some : 0 < v.sending.unit
-  pub peer_unit_few : v.sending.unit ≤ 2 ^ MAX_SHIFT
+  pub terms : AreTerms v.scales v.sending.size v.sending.unit v.receiving.size v.receiving.capacity v.receiving.unit

@@ -1,13 +1,12 @@
 //! What an arriving segment does (RFC 9293 section 3.10.7).
 
-ghost use Rattle.std.specs.Prelude.{◌≡◌, ◌≤◌, ◌-◌, [], length, true, false, ◌&&◌, ◌||◌, not, if◌then◌else◌, IsTrue, ◌==◌};
+ghost use Rattle.std.specs.Prelude.{◌≡◌, ◌≤◌, ◌-◌, [], length, min, true, false, ◌&&◌, ◌||◌, not, if◌then◌else◌, IsTrue, ◌==◌};
 ghost use Rattle.tcp_state.specs.View.{is_opening, is_syn_sent, is_syn_received, is_closed, awaits_fin_ack, after_reset};
-ghost use Rattle.tcp_state.specs.Arrival.{after_segment, after_syn_ack, owing_ack, after_establishment, after_ack, is_read_on, after_window, after_text, after_acknowledging_segment, after_acceptable_segment, ends_by_syn, is_acceptable_to, fin_acknowledged, after_new_ack, after_fin, reset_error, after_rst_in_syn_sent, after_rst, is_acting_reset, ends_by_reset, is_right_syn_ack, is_simultaneous_syn, after_simultaneous_syn, fate, after_segment_at, after_heard, is_lost, is_read, brings_more, after_lost, repeats_fin, is_rejected, ends_opening, is_of_fin, may_delay, answers_probe, octets_outstanding, is_duplicate, before, is_moved, resend_heard, congestion_event_of, reveals_loss, congestion_after, timed_by, begins_wait};
+ghost use Rattle.tcp_state.specs.Arrival.{after_segment, scales_with, after_first_syn, after_syn_ack, owing_ack, after_establishment, after_ack, is_read_on, after_window, after_text, after_acknowledging_segment, after_acceptable_segment, ends_by_syn, is_acceptable_to, fin_acknowledged, after_new_ack, after_fin, reset_error, after_rst_in_syn_sent, after_rst, is_acting_reset, ends_by_reset, is_right_syn_ack, is_simultaneous_syn, after_simultaneous_syn, fate, after_segment_at, after_heard, is_lost, is_read, brings_more, after_lost, repeats_fin, is_rejected, ends_opening, is_of_fin, may_delay, answers_probe, octets_outstanding, is_duplicate, before, is_moved, resend_heard, congestion_event_of, reveals_loss, congestion_after, timed_by, begins_wait};
 ghost use Rattle.tcp_state.specs.declared.state.State.{State};
-ghost use Rattle.tcp_segment.specs.Segment.{smss_of};
 ghost use Rattle.tcp_segment.specs.Wire.{past};
-ghost use Rattle.tcp_halves.specs.Stream.{outstanding, is_new_ack, after_syn};
-ghost use Rattle.tcp_halves.specs.Windows.{after_syn_heard};
+ghost use Rattle.tcp_halves.specs.declared.buffers.TheConstants.{CAPACITY};
+ghost use Rattle.tcp_halves.specs.Stream.{outstanding, is_new_ack};
 ghost use Rattle.tcp_state.specs.Resend.{resend_lost};
 ghost use Rattle.congestion.specs.Window.{initial_window};
 ghost use Rattle.congestion.specs.Events.{after_event};
@@ -370,15 +369,26 @@ impl Connection {
         self.resend.mark_all(self.sender.outstanding());
     }
 
-    /// Takes what the peer's SYN says, which leads to SYN-RECEIVED. Our SYN advertised a window of so many octets to it.
+    /// Takes what the peer's SYN says, which leads to SYN-RECEIVED, and settles whether windows are scaled. Our SYN advertised a window of so many octets to it.
     pub(crate) fn take_syn(&mut self, syn: &TcpView<'_>, advertised: u32)
         requires waits { is_syn_sent self.old.state ≡ true }
-        requires size { advertised ≤ self.old.receiving.size }
-        ensures { self.new ≡ record self.old { state = State.SynReceived; sending = after_syn_heard self.old.sending syn.now.number syn.now.window (smss_of syn.now); receiving = after_syn self.old.receiving syn.now.number advertised } }
+        requires size { advertised ≤ min self.old.receiving.size CAPACITY }
+        ensures { self.new ≡ after_first_syn self.old syn.now advertised }
     {
+        let scales = self.scales_with(syn);
+        self.scales = scales;
+        self.sender.settle(scales, syn.shift());
+        self.receiver.settle(scales);
         self.sender.hear_syn(syn.number(), syn.window(), syn.smss());
         self.receiver.hear_syn(syn.number(), advertised);
         self.state = State::SynReceived;
+    }
+
+    /// Whether both sides' SYNs have the window scale option: a peer's that ours doesn't offer is ignored (RFC 7323 section 2.2).
+    fn scales_with(&self, syn: &TcpView<'_>) -> bool
+        ensures { result ≡ scales_with self.now syn.now }
+    {
+        self.scales && syn.scale_option().is_some()
     }
 
     /// The peer's SYN acknowledges ours.

@@ -39,6 +39,8 @@ pub struct Connection {
     pub(crate) state: State,
     /// Whether a listener opened it, and not its caller.
     pub(crate) is_passive: bool,
+    /// Whether windows are scaled (RFC 7323 section 2): in SYN-SENT the SYN offers that, and from the peer's SYN on both sides do it.
+    pub(crate) scales: bool,
     /// What the caller gave and the peer has not acknowledged, with the peer's window.
     pub(crate) sender: Sender,
     /// What came and the caller has not read, with our window.
@@ -90,12 +92,14 @@ impl Connection {
     ) -> Connection
         ensures { result ≡ opened_actively buffers local peer isn.0 now }
     {
+        let scales = buffers.scales();
         let (sender, receiver) = buffers.into_halves(isn);
         Connection {
             local,
             peer,
             state: State::SynSent,
             is_passive: false,
+            scales,
             sender,
             receiver,
             owes_ack: false,

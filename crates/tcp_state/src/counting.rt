@@ -10,6 +10,7 @@ ghost use Rattle.clock.specs.Moments.{after, has_come};
 ghost use Rattle.congestion.specs.Window.{initial_window, after_new_ack, after_duplicate, after_expiry};
 ghost use Rattle.retransmit.specs.Timeout.{estimate_after, after_sample};
 ghost use Rattle.tcp_halves.specs.Numbers.{is_before};
+ghost use Rattle.tcp_halves.specs.Halves.{Room};
 ghost use Rattle.tcp_halves.specs.Stream.{outstanding};
 ghost use Rattle.tcp_state.specs.declared.resend.Timed.{Timed};
 ghost use Rattle.tcp_state.specs.declared.connection.Fate.{Fate};
@@ -47,7 +48,7 @@ pub fn waits_are_counted_from_their_event()
 /// The most octets that a connection sends in one segment are those of the SYN by which its peer opened (RFC 9293 section 3.7.1, RFC 5681 section 2): what its MSS option says, at least 64 and at most 1,460,
 /// or 536 where it has none. So it is whether the SYN came to a listener, with the answer to our SYN, or across it; no other event moves the number, and what is due has no more octets.
 pub fn sizes_are_the_peers()
-    ensures listener { (capacity : ℕ) (local peer : Endpoint) (isn : ℕ) (syn : Segment) (now : Moment) → (opened_passively capacity local peer isn syn now).sending.smss ≡ smss_of syn }
+    ensures listener { (room : Room) (local peer : Endpoint) (isn : ℕ) (syn : Segment) (now : Moment) → (opened_passively room local peer isn syn now).sending.smss ≡ smss_of syn }
     ensures opens { (v : View) (s : Segment) (now : Moment) → v.state ≡ State.SynSent
         → ((after_event v (Event.Hears s now)).state ≡ State.SynReceived) ⊎ ((after_event v (Event.Hears s now)).state ≡ State.Established) → (after_event v (Event.Hears s now)).sending.smss ≡ smss_of s }
     ensures others { (v : View) (e : Event) → ((after_event v e).sending.smss ≡ v.sending.smss) ⊎ ((s : Segment) × (now : Moment) × (e ≡ Event.Hears s now) × BringsSyn v s × ((after_event v e).sending.smss ≡ smss_of s)) }
@@ -117,8 +118,8 @@ pub fn new_numbers_are_measured()
 /// A connection remembers that its SYN was lost, by which its congestion window begins with one segment (RFC 5681 section 3.1): from the going out of a SYN or SYN-ACK again after an expiry, and then for ever. One
 /// that goes out again in answer to the peer's was not lost, and nothing else counts so.
 pub fn lost_syns_are_remembered()
-    ensures opened { (capacity : ℕ) (local peer : Endpoint) (isn : ℕ) (now : Moment) → (opened_actively capacity local peer isn now).resend.syn_resent ≡ false }
-    ensures accepted { (capacity : ℕ) (local peer : Endpoint) (isn : ℕ) (syn : Segment) (now : Moment) → (opened_passively capacity local peer isn syn now).resend.syn_resent ≡ false }
+    ensures opened { (room : Room) (local peer : Endpoint) (isn : ℕ) (now : Moment) → (opened_actively room local peer isn now).resend.syn_resent ≡ false }
+    ensures accepted { (room : Room) (local peer : Endpoint) (isn : ℕ) (syn : Segment) (now : Moment) → (opened_passively room local peer isn syn now).resend.syn_resent ≡ false }
     ensures resent { (v : View) (now : Moment) → first_due v ≡ Some Due.Syn → 0 < outstanding v.sending → 0 < v.resend.expiries → (after_event v (Event.Emits now)).resend.syn_resent ≡ true }
     ensures stays { (v : View) (e : Event) → v.resend.syn_resent ≡ true → (after_event v e).resend.syn_resent ≡ true }
     ensures others { (v : View) (e : Event) → v.resend.syn_resent ≡ false → (after_event v e).resend.syn_resent ≡ true
@@ -130,8 +131,8 @@ pub fn lost_syns_are_remembered()
 pub fn first_segments_wait_from_their_event()
     ensures stands { (v : View) → IsSound v → KeepsTime v
         → (is_some v.unheard ≡ true) ↔ ((v.sending.nxt ≡ v.sending.una) × ((due : Due) × (first_due v ≡ Some due) × (0 < span_of (segment_of v due)))) }
-    ensures opened { (capacity : ℕ) (local peer : Endpoint) (isn : ℕ) (now : Moment) → (opened_actively capacity local peer isn now).unheard ≡ Some now }
-    ensures accepted { (capacity : ℕ) (local peer : Endpoint) (isn : ℕ) (syn : Segment) (now : Moment) → (opened_passively capacity local peer isn syn now).unheard ≡ Some now }
+    ensures opened { (room : Room) (local peer : Endpoint) (isn : ℕ) (now : Moment) → (opened_actively room local peer isn now).unheard ≡ Some now }
+    ensures accepted { (room : Room) (local peer : Endpoint) (isn : ℕ) (syn : Segment) (now : Moment) → (opened_passively room local peer isn syn now).unheard ≡ Some now }
     ensures begins { (v : View) (e : Event) (since : Moment) → v.unheard ≡ None → (after_event v e).unheard ≡ Some since → moment_of e ≡ Some since }
     ensures stays { (v : View) (e : Event) (since : Moment) → v.unheard ≡ Some since → ((after_event v e).unheard ≡ Some since) ⊎ ((after_event v e).unheard ≡ None) }
 {}

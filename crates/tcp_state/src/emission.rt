@@ -15,7 +15,7 @@ use clock::Moment;
 use retransmit::TimerKind;
 use tcp_segment::{Flags, Head, Seq};
 
-/// The octets that a segment has at most: a header of 20 octets and `tcp_segment::MSS` of text. A SYN's header has 24,
+/// The octets that a segment has at most: a header of 20 octets and `tcp_segment::MSS` of text. A SYN's header has 28,
 /// and no text stands behind it.
 pub const MOST_SEGMENT: usize = 1_480;
 
@@ -297,7 +297,7 @@ impl Connection {
             },
             flags,
             window: self.window(due),
-            scales: false,
+            scales: self.scales,
         }
     }
 

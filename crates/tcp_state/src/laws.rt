@@ -2,8 +2,8 @@
 
 ghost use Rattle.std.specs.Prelude.{◌≡◌, ℕ, ◌+◌, ◌-◌, ◌*◌, ◌%◌, ◌<◌, ◌≤◌, ◌==◌, ◌≢◌, nat_lt, min, ◌^◌, ◌⊎◌, ◌↔◌, ◌||◌, ◌&&◌, List, ◌++◌, slice_index_or, length, drop, true, false, if◌then◌else◌, Some, None, is_some, []};
 ghost use Rattle.ipv4.specs.declared.addr.Endpoint.{Endpoint};
-ghost use Rattle.tcp_segment.specs.Segment.{Segment, span_of};
-ghost use Rattle.tcp_segment.specs.declared.TheConstants.{DEFAULT_MSS, LEAST_MSS, MSS};
+ghost use Rattle.tcp_segment.specs.Segment.{Segment, scale_option_of, shift_of, span_of};
+ghost use Rattle.tcp_segment.specs.declared.TheConstants.{DEFAULT_MSS, LEAST_MSS, MSS, SHIFT};
 ghost use Rattle.tcp_halves.specs.declared.buffers.TheConstants.{CAPACITY, LARGEST_CAPACITY};
 ghost use Rattle.tcp_state.specs.declared.ending.TheConstants.{TIME_WAIT, FIN_WAIT_2};
 ghost use Rattle.tcp_state.specs.declared.hop.TheConstants.{HOP_PATIENCE};
@@ -17,10 +17,10 @@ ghost use Rattle.tcp_state.specs.declared.emission.Due.{Due};
 ghost use Rattle.tcp_state.specs.View.{View, IsSound, is_opening, is_closed, is_syn_sent, is_at_end, is_over, is_read_closed, reset_since, opened_actively};
 ghost use Rattle.tcp_segment.specs.Wire.{wire, past, IsBefore};
 ghost use Rattle.tcp_halves.specs.Numbers.{is_before};
-ghost use Rattle.tcp_halves.specs.Halves.{Sending, Receiving};
+ghost use Rattle.tcp_halves.specs.Halves.{Room, Sending, Receiving};
 ghost use Rattle.std.specs.Option.{option_or};
 ghost use Rattle.stream_buf.specs.Receiving.{ranges, IsReceiving};
-ghost use Rattle.tcp_halves.specs.Stream.{outstanding, receive_window, is_acceptable, buffer_of, octets_gained, after_octets};
+ghost use Rattle.tcp_halves.specs.Stream.{size_in, size_of, peer_unit, outstanding, receive_window, is_acceptable, buffer_of, octets_gained, after_octets};
 ghost use Rattle.tcp_halves.specs.Windows.{window_in, updates_window, receive_room, whole_units, syn_window};
 ghost use Rattle.tcp_state.specs.Positions.{ReceivesAt, IsNear, MeetsWindow, AreNear, brought, known_at, places_after, takes_octets, kept_with, AreFree, NeverBack, HasNumber, HasToSend, takes_numbers};
 ghost use Rattle.retransmit.specs.declared.timers.TimerKind.{TimerKind};
@@ -34,7 +34,8 @@ ghost use Rattle.tcp_state.specs.Arrival.{opened_passively, fate, is_acceptable_
 ghost use Rattle.tcp_state.specs.Due.{MayGoOut, first_due, number_of, end_of, flags_of, octets_of, window_of, sends_again, again, after_emitted};
 ghost use Rattle.tcp_state.specs.Unreachable.{IsRefused};
 ghost use Rattle.tcp_state.specs.Simultaneous.{crossed, AnswersSyn, HasOpened};
-ghost use Rattle.tcp_state.specs.Opening.{OpenedBy, Confirmed};
+ghost use Rattle.tcp_state.specs.Opening.{TellsShift, TakesSyn, OpenedBy, Confirmed};
+ghost use Rattle.tcp_state.specs.Said.{segment_of};
 ghost use Rattle.tcp_state.specs.Edges.{Event, after_event, fate_by, moment_of, state_after, IsEdge, ends_by, is_cause, may_raise, congestion_event_by};
 
 /// The constants have their values: TIME-WAIT lasts 2 MSL, twice the two minutes that a segment may live (RFC 9293 section 3.4.2), a peer's segments are taken to have room for 536 octets where its SYN doesn't say for
@@ -51,21 +52,41 @@ pub fn constants()
     ensures hop_patience { HOP_PATIENCE ≡ 483000 }
 {}
 
-/// Each half holds at most as many octets as its buffer when a connection opens, and no event changes that, nor how many places were made for what comes.
-pub fn sizes_stay()
-    ensures opened { (capacity : ℕ) (local peer : Endpoint) (isn : ℕ) (now : Moment) → capacity ≤ CAPACITY
-        → (let w = opened_actively capacity local peer isn now in (w.sending.size ≡ capacity) × (w.receiving.size ≡ capacity) × (w.receiving.capacity ≡ capacity)) }
-    ensures accepted { (capacity : ℕ) (local peer : Endpoint) (isn : ℕ) (syn : Segment) (now : Moment) → capacity ≤ CAPACITY
-        → (let w = opened_passively capacity local peer isn syn now in (w.sending.size ≡ capacity) × (w.receiving.size ≡ capacity) × (w.receiving.capacity ≡ capacity)) }
-    ensures stays { (v : View) (e : Event)
-        → ((after_event v e).sending.size ≡ v.sending.size) × ((after_event v e).receiving.size ≡ v.receiving.size) × ((after_event v e).receiving.capacity ≡ v.receiving.capacity) }
+/// Windows are scaled exactly where both sides' SYNs have the option (RFC 7323 section 2.2), whichever side opens: for a listener from the SYN on, for a caller from the SYN-ACK on, and where SYNs cross from the
+/// peer's SYN on, whether ours went out or not. No event changes it later. Our SYN has the option where its caller's host uses it, a SYN-ACK where windows are scaled, so that the SYN had it, and no other segment has any.
+pub fn windows_are_scaled_where_both_sides_say_so()
+    ensures offered { (room : Room) (local peer : Endpoint) (isn : ℕ) (now : Moment) → (opened_actively room local peer isn now).scales ≡ room.scales }
+    ensures accepted { (room : Room) (local peer : Endpoint) (isn : ℕ) (syn : Segment) (now : Moment)
+        → ((opened_passively room local peer isn syn now).scales ≡ true) ↔ ((room.scales ≡ true) × TellsShift syn) }
+    ensures answered { (v : View) (s : Segment) (now : Moment) → v.state ≡ State.SynSent → TakesSyn v s now
+        → ((after_event v (Event.Hears s now)).scales ≡ true) ↔ ((v.scales ≡ true) × TellsShift s) }
+    ensures stays { (v : View) (e : Event) → (is_syn_sent v.state ≡ false) ⊎ (is_syn_sent (after_event v e).state ≡ true) → (after_event v e).scales ≡ v.scales }
+    ensures told { (v : View) (due : Due) → scale_option_of (segment_of v due) ≡ (let f = flags_of v due in if f.syn && v.scales then Some SHIFT else None) }
+    ensures plain { (v : View) (due : Due) → (let f = flags_of v due in f.syn) ≡ false → (segment_of v due).options ≡ [] }
 {}
 
-/// A unit of the windows is an octet in each half when a connection opens, and no event changes that.
+/// Each half holds at most as many octets as its buffer where windows are scaled, and else no more than 65,535: so of buffers of a mebibyte it uses all then, and only then. No event changes that but the peer's SYN, which settles
+/// whether windows are scaled, and none changes how many places were made for what comes.
+pub fn sizes_stay()
+    ensures opened { (room : Room) (local peer : Endpoint) (isn : ℕ) (now : Moment)
+        → (let w = opened_actively room local peer isn now in (w.sending.size ≡ size_of room) × (w.receiving.size ≡ size_of room) × (w.receiving.capacity ≡ room.capacity)) }
+    ensures accepted { (room : Room) (local peer : Endpoint) (isn : ℕ) (syn : Segment) (now : Moment)
+        → (let w = opened_passively room local peer isn syn now in (w.sending.size ≡ size_in w.scales room.capacity) × (w.receiving.size ≡ size_in w.scales room.capacity) × (w.receiving.capacity ≡ room.capacity)) }
+    ensures settled { (v : View) → IsSound v → (v.sending.size ≡ size_in v.scales v.receiving.capacity) × (v.receiving.size ≡ size_in v.scales v.receiving.capacity) }
+    ensures largest { (v : View) → IsSound v → v.receiving.capacity ≡ LARGEST_CAPACITY → ((v.sending.size ≡ 1048576) ↔ (v.scales ≡ true)) × ((v.receiving.size ≡ 1048576) ↔ (v.scales ≡ true)) }
+    ensures stays { (v : View) (e : Event) → is_syn_sent v.state ≡ false → ((after_event v e).sending.size ≡ v.sending.size) × ((after_event v e).receiving.size ≡ v.receiving.size) }
+    ensures places { (v : View) (e : Event) → (after_event v e).receiving.capacity ≡ v.receiving.capacity }
+{}
+
+/// Where windows are scaled, a unit of ours has 32 octets, and one of the peer's as many as the shift in its SYN says; else a unit is an octet. No event changes that but the peer's SYN (RFC 7323 section 2.3).
 pub fn units_stay()
-    ensures opened { (capacity : ℕ) (local peer : Endpoint) (isn : ℕ) (now : Moment) → (let w = opened_actively capacity local peer isn now in (w.sending.unit ≡ 1) × (w.receiving.unit ≡ 1)) }
-    ensures accepted { (capacity : ℕ) (local peer : Endpoint) (isn : ℕ) (syn : Segment) (now : Moment) → (let w = opened_passively capacity local peer isn syn now in (w.sending.unit ≡ 1) × (w.receiving.unit ≡ 1)) }
-    ensures stays { (v : View) (e : Event) → ((after_event v e).sending.unit ≡ v.sending.unit) × ((after_event v e).receiving.unit ≡ v.receiving.unit) }
+    ensures own { (v : View) → IsSound v → v.receiving.unit ≡ (if v.scales then 32 else 1) }
+    ensures peer { (v : View) → IsSound v → v.scales ≡ false → v.sending.unit ≡ 1 }
+    ensures accepted { (room : Room) (local peer : Endpoint) (isn : ℕ) (syn : Segment) (now : Moment)
+        → (let w = opened_passively room local peer isn syn now in w.sending.unit ≡ peer_unit w.scales (shift_of syn)) }
+    ensures answered { (v : View) (s : Segment) (now : Moment) → v.state ≡ State.SynSent → TakesSyn v s now
+        → (let w = after_event v (Event.Hears s now) in w.sending.unit ≡ peer_unit w.scales (shift_of s)) }
+    ensures stays { (v : View) (e : Event) → is_syn_sent v.state ≡ false → ((after_event v e).sending.unit ≡ v.sending.unit) × ((after_event v e).receiving.unit ≡ v.receiving.unit) }
 {}
 
 /// One event joins only states that the table of edges joins, or leaves the state.
@@ -222,8 +243,8 @@ pub fn what_waits_goes_out()
 
 /// The timers run exactly where something waits for them: when a connection opens, and after each event (RFC 6298 section 5, RFC 9293 sections 3.8.1, 3.8.6.1 and 3.8.6.3).
 pub fn timers_run_as_they_should()
-    ensures opened { (capacity : ℕ) (local peer : Endpoint) (isn : ℕ) (now : Moment) → isn < 2 ^ 32 → KeepsTime (opened_actively capacity local peer isn now) }
-    ensures accepted { (capacity : ℕ) (local peer : Endpoint) (isn : ℕ) (syn : Segment) (now : Moment) → isn < 2 ^ 32 → KeepsTime (opened_passively capacity local peer isn syn now) }
+    ensures opened { (room : Room) (local peer : Endpoint) (isn : ℕ) (now : Moment) → isn < 2 ^ 32 → KeepsTime (opened_actively room local peer isn now) }
+    ensures accepted { (room : Room) (local peer : Endpoint) (isn : ℕ) (syn : Segment) (now : Moment) → isn < 2 ^ 32 → KeepsTime (opened_passively room local peer isn syn now) }
     ensures stays { (v : View) (e : Event) → IsSound v → KeepsTime v → KeepsTime (after_event v e) }
 {}
 
@@ -246,8 +267,8 @@ pub fn new_numbers_keep_the_window()
 /// The congestion window is one that events lead to, and counts in segments of the size that the peer takes: when a connection opens, and after each event. So it is never less than such a segment
 /// once it is open (RFC 5681 section 3.1).
 pub fn the_congestion_window_is_kept()
-    ensures opened { (capacity : ℕ) (local peer : Endpoint) (isn : ℕ) (now : Moment) → KeepsCongestion (opened_actively capacity local peer isn now) }
-    ensures accepted { (capacity : ℕ) (local peer : Endpoint) (isn : ℕ) (syn : Segment) (now : Moment) → KeepsCongestion (opened_passively capacity local peer isn syn now) }
+    ensures opened { (room : Room) (local peer : Endpoint) (isn : ℕ) (now : Moment) → KeepsCongestion (opened_actively room local peer isn now) }
+    ensures accepted { (room : Room) (local peer : Endpoint) (isn : ℕ) (syn : Segment) (now : Moment) → KeepsCongestion (opened_passively room local peer isn syn now) }
     ensures stays { (v : View) (e : Event) → IsSound v → KeepsCongestion v → KeepsCongestion (after_event v e) }
     ensures least { (v : View) → KeepsCongestion v → (is_opening v.state || is_closed v.state) ≡ false → v.sending.smss ≤ v.congestion.cwnd }
 {}
@@ -311,16 +332,16 @@ pub fn hard_errors_end_openings_alone()
 /// of its SYN; once the SYN-ACKs crossed, and then what is due for them, both are open, and each expects the number behind the other's SYN.
 pub fn simultaneous_openings_meet()
     ensures answers { (here there : Endpoint) (isn other : ℕ) (one two first : Moment) → isn < 2 ^ 32 → other < 2 ^ 32
-        → (let ends = crossed (record { one = opened_actively CAPACITY here there isn one; other = opened_actively CAPACITY there here other two }) first in AnswersSyn isn other ends.one × AnswersSyn other isn ends.other) }
+        → (let ends = crossed (record { one = opened_actively (record { capacity = CAPACITY; scales = false }) here there isn one; other = opened_actively (record { capacity = CAPACITY; scales = false }) there here other two }) first in AnswersSyn isn other ends.one × AnswersSyn other isn ends.other) }
     ensures opens { (here there : Endpoint) (isn other : ℕ) (one two first second third : Moment) → isn < 2 ^ 32 → other < 2 ^ 32
-        → (let ends = crossed (crossed (crossed (record { one = opened_actively CAPACITY here there isn one; other = opened_actively CAPACITY there here other two }) first) second) third in
+        → (let ends = crossed (crossed (crossed (record { one = opened_actively (record { capacity = CAPACITY; scales = false }) here there isn one; other = opened_actively (record { capacity = CAPACITY; scales = false }) there here other two }) first) second) third in
         HasOpened isn other ends.one × HasOpened other isn ends.other) }
 {}
 
 /// The three steps of an opening (RFC 9293 section 3.5, figure 6): what a SYN opens at a listener is to answer that by a SYN-ACK; a SYN-ACK that acknowledges our SYN opens the connection, and is to be
 /// acknowledged; and the acknowledgement of our SYN-ACK opens the listener's.
 pub fn openings_take_three_steps()
-    ensures answers { (capacity : ℕ) (local peer : Endpoint) (isn : ℕ) (syn : Segment) (now : Moment) → isn < 2 ^ 32 → AnswersSyn isn syn.number (opened_passively capacity local peer isn syn now) }
+    ensures answers { (room : Room) (local peer : Endpoint) (isn : ℕ) (syn : Segment) (now : Moment) → isn < 2 ^ 32 → AnswersSyn isn syn.number (opened_passively room local peer isn syn now) }
     ensures opens { (v : View) (s : Segment) (now : Moment) → IsSound v → v.state ≡ State.SynSent → v.sending.nxt ≢ v.sending.una → s.flags.rst ≡ false → s.flags.syn ≡ true → s.flags.ack ≡ true
         → s.acknowledgement ≡ v.sending.nxt → OpenedBy s v (after_segment_at v s now) }
     ensures confirms { (v : View) (s : Segment) (now : Moment) → IsSound v → v.state ≡ State.SynReceived → v.sending.nxt ≢ v.sending.una → s.flags.rst ≡ false → s.flags.syn ≡ false → s.flags.fin ≡ false → s.flags.ack ≡ true
@@ -408,7 +429,7 @@ pub fn told_windows_stay_open()
 /// goes out alone only where it is owed, or where the connection has spoken and its window has grown by 1,460 or more. No octets stay unacknowledged by that: past the opening, an acknowledgement that
 /// waits does so until the connection has spoken, or is CLOSED.
 pub fn no_window_is_told_before_speaking()
-    ensures silent { (size : ℕ) (local peer : Endpoint) (isn : ℕ) (syn : Segment) (now : Moment) → ((opened_actively size local peer isn now).spoke ≡ false) × ((opened_passively size local peer isn syn now).spoke ≡ false) }
+    ensures silent { (room : Room) (local peer : Endpoint) (isn : ℕ) (syn : Segment) (now : Moment) → ((opened_actively room local peer isn now).spoke ≡ false) × ((opened_passively room local peer isn syn now).spoke ≡ false) }
     ensures speaks { (v : View) (e : Event) → ((after_event v e).spoke ≡ true)
         ↔ ((v.spoke ≡ true) ⊎ ((now : Moment) × (due : Due) × (e ≡ Event.Emits now) × (first_due v ≡ Some due) × ((let f = flags_of v due in f.ack) ≡ true) × ((let f = flags_of v due in f.syn) ≡ false))) }
     ensures alone { (v : View) → first_due v ≡ Some Due.Ack → (v.owes_ack ≡ true) ⊎ ((v.spoke ≡ true) × (past v.receiving.edge v.receiving.rnext + MSS + length v.receiving.readable ≤ v.receiving.size)) }

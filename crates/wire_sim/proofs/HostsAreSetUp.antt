@@ -1,5 +1,5 @@
 -- The two hosts can be set up: 10.0.0.0/24 is a prefix.
-use Rattle.std.proofs.Common.{[], ◌∷◌, refl, rules, arith}
+use Rattle.std.proofs.Common.{false, [], ◌∷◌, refl, rules, arith}
 use Rattle.ipv4.specs.declared.addr.Addr.{Addr}
 use Rattle.ipv4.specs.Prefixes.{IsPrefix, number}
 use Rattle.ipv4.proofs.Prefixes.{unmasked}
@@ -20,8 +20,8 @@ link_route = record { prefix = record { addr = link_addr; length = 24; form = li
 
 -- how a side's host is set up
 pub set_up : Side → ConfigView
-set_up side = record { mac = mac_of side; addr = address_of side; routes = link_route ∷ [] }
+set_up side = record { mac = mac_of side; addr = address_of side; routes = link_route ∷ []; scales = false }
 
 pub is_set_up : (side : Side) → IsSetUp side (set_up side)
 unfolding set_up
-is_set_up side = record { mac = refl; addr = refl; route = link_route; link = record { first = refl; length = refl; hop = refl }; routes = refl }
+is_set_up side = record { mac = refl; addr = refl; route = link_route; link = record { first = refl; length = refl; hop = refl }; routes = refl; scales = refl }

@@ -7,7 +7,6 @@ use Rattle.ipv4.specs.declared.addr.Addr.{Addr}
 use Rattle.ipv4.specs.declared.addr.Endpoint.{Endpoint}
 use Rattle.clock.specs.declared.moment.Moment.{Moment}
 use Rattle.tcp_segment.specs.declared.seq.Seq.{Seq}
-use Rattle.tcp_halves.specs.declared.buffers.TheConstants.{CAPACITY}
 use Rattle.tcp_state.specs.declared.calls.Refusal.{Refusal as Error}
 use Rattle.tcp_state.specs.declared.calls.Received.{Received}
 use Rattle.tcp_state.specs.declared.calls.Received.TheVariants as received
@@ -29,7 +28,7 @@ use Rattle.sockets.specs.Calls.{unless_refused, bind_refusal, listen_refusal, ac
 use Rattle.sockets.specs.Causes as table
 use Rattle.sockets.specs.Datagrams.{sendto_answer, recvfrom_answer}
 use Rattle.sockets.specs.Order.{IsAllowed}
-use Rattle.sockets.specs.SocketsView.{SocketsView}
+use Rattle.sockets.specs.SocketsView.{SocketsView, room_of}
 use Rattle.sockets.specs.Timing as timing
 use Rattle.sockets.specs.Timing.{AreNear, IsNearIn}
 use Rattle.sockets.proofs.Followed.{some_same}
@@ -64,6 +63,7 @@ use Rattle.wire_sim.specs.Runs.{IsReached, begins, goes_on, IsStep, IsNumberedCa
 use Rattle.wire_sim.specs.Steps.{Answers, MeetsSocket, recv_len, MeetsReceived, MeetsReceivedFrom, MeetsCall, HostMeetsCall, with_host, station_after_tick, MeetsFrame, DeliversFrame, EmitsFrame, MeetsEmission, Steps}
 use Rattle.wire_sim.specs.WorldView.{NetworkView, WorldView, station_of, host_of, table_of, clock_of}
 use Rattle.wire_sim.proofs.fairness.NotesAreTraced.{frames-step, got-still, got-last}
+use Rattle.host.proofs.Tables.{run-scale}
 use Rattle.wire_sim.proofs.passage.HostsStay.{run-stays}
 use Rattle.wire_sim.proofs.openings.HoldingsAreNoted.{other-stays, side_of}
 use Rattle.wire_sim.proofs.runs.ClocksGoOn.{clock-goes-on, tick-told}
@@ -90,7 +90,7 @@ unrefused None is = refl
 unrefused (Some refusal) is = cc
 
 made : (i : InterfaceView) (kind : Kind) (h : SocketsView) (answer : Answer) (new : SocketsView) → MeetsSocket kind h answer new → IsCalled i h new
-made i Tcp h (reply.Socket id) new meets = inr (table.Makes CAPACITY, meets.0, tt, λ latest. tt, meets.2, tt)
+made i Tcp h (reply.Socket id) new meets = inr (table.Makes (room_of h.scales), meets.0, tt, λ latest. tt, meets.2, tt)
 made i Udp h (reply.Socket id) new meets = inr (table.MakesDatagrams, meets.0, tt, λ latest. tt, meets.2, tt)
 made i kind h (reply.Refused EMFILE) new meets = inl meets.1
 made i kind h (reply.Refused ENOMEM) new meets = inl meets.1
@@ -240,13 +240,14 @@ delivered-now w v happens answer step side octets b = record {
 }
 
 -- a host keeps its set-up
-set-up : (c : ConfigView) (events : List HostEvent) (h : HostView) → Runs c events h → c ≡ record { mac = h.interface.mac; addr = h.interface.addr; routes = h.interface.routes }
+set-up : (c : ConfigView) (events : List HostEvent) (h : HostView) → Runs c events h → c ≡ record { mac = h.interface.mac; addr = h.interface.addr; routes = h.interface.routes; scales = h.sockets.scales }
 set-up c events h runs =
     let s = run-stays c events h runs in
-    let with_mac : Mac → ConfigView = λ m. record { mac = m; addr = c.addr; routes = c.routes } in
-    let with_addr : Addr → ConfigView = λ a. record { mac = h.interface.mac; addr = a; routes = c.routes } in
-    let with_routes : List Route → ConfigView = λ rs. record { mac = h.interface.mac; addr = h.interface.addr; routes = rs } in
-    ap with_mac (sym s.mac) ∙ (ap with_addr (sym s.addr) ∙ ap with_routes (sym s.routes))
+    let with_mac : Mac → ConfigView = λ m. record { mac = m; addr = c.addr; routes = c.routes; scales = c.scales } in
+    let with_addr : Addr → ConfigView = λ a. record { mac = h.interface.mac; addr = a; routes = c.routes; scales = c.scales } in
+    let with_routes : List Route → ConfigView = λ rs. record { mac = h.interface.mac; addr = h.interface.addr; routes = rs; scales = c.scales } in
+    let with_scale : Bool → ConfigView = λ b. record { mac = h.interface.mac; addr = h.interface.addr; routes = h.interface.routes; scales = b } in
+    ap with_mac (sym s.mac) ∙ (ap with_addr (sym s.addr) ∙ (ap with_routes (sym s.routes) ∙ ap with_scale (sym (run-scale c events h runs))))
 
 -- a host that goes on
 run-on : (w v : WorldView) (happens : Event) (answer : Answer) → IsStep happens answer w v → (side : Side) → IsSoundHost (host_of w.network side) → IsMoved w.network (clock_of v.network side) side happens (host_of w.network side) (host_of v.network side) → HasRun w side → HasRun v side
@@ -302,8 +303,8 @@ nearer before after h on_clock near = record { kept = omega (arith, near.kept, o
 
 -- each event of a host names its side's clock at the latest
 pub tables-near : (limit : ℕ) (w : WorldView) → IsReached limit w → (side : Side) → AreNear (clock_of w.network side) (table_of w.network side)
-tables-near limit w (begins a b apart small) A = fresh_near a.addr (record { 0 = 0 })
-tables-near limit w (begins a b apart small) B = fresh_near b.addr (record { 0 = 0 })
+tables-near limit w (begins a b apart small) A = fresh_near a.addr a.scales (record { 0 = 0 })
+tables-near limit w (begins a b apart small) B = fresh_near b.addr b.scales (record { 0 = 0 })
 tables-near limit _ (goes_on w v happens answer reached step) side =
     by_move (nearer (clock_of w.network side) (clock_of v.network side) (table_of w.network side) (clock-goes-on happens (length w.trace) answer w.network v.network step.network side) (tables-near limit w reached side)) (moved w v happens answer step side)
   where

@@ -55,7 +55,7 @@ AreTraced w side events = (now : Moment) (isn : ℕ) (octets : List ℕ) → Con
 -- a list of events leads to a side's host, from one of its own MAC, address and routes on which nothing happened, and what it delivers was delivered in the world
 pub record HasRun (w : WorldView) (side : Side) : Type 0 where
   pub config : ConfigView
-  pub own : let h = host_of w.network side in config ≡ record { mac = h.interface.mac; addr = h.interface.addr; routes = h.interface.routes }
+  pub own : let h = host_of w.network side in config ≡ record { mac = h.interface.mac; addr = h.interface.addr; routes = h.interface.routes; scales = h.sockets.scales }
   pub events : List HostEvent
   pub runs : Runs config events (host_of w.network side)
   pub traced : AreTraced w side events

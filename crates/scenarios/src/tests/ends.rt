@@ -221,8 +221,8 @@ pub(super) const HANDSHAKE: &[Step] = &[
 
 /// Plays a scenario with two ends of its own.
 fn plays(rt: &impl Abort, alloc: Global, scenario: &Scenario) {
-    let ours = Buffers::new(alloc, CAPACITY).expect(rt, "memory for two buffers");
-    let theirs = Buffers::new(alloc, CAPACITY).expect(rt, "memory for two buffers");
+    let ours = Buffers::new(alloc, CAPACITY, false).expect(rt, "memory for two buffers");
+    let theirs = Buffers::new(alloc, CAPACITY, false).expect(rt, "memory for two buffers");
     let syn = TcpView::parse(CALLER.addr, LISTENER.addr, &SYN_SEGMENT).expect(rt, "a segment");
     let mut a = End::new(Connection::active(ours, CALLER, LISTENER, Seq(4_294_967_295), Moment(0)));
     let mut b = End::new(Connection::passive(theirs, LISTENER, CALLER, Seq(7), &syn, Moment(0)));

@@ -6,13 +6,12 @@ use Rattle.ipv4.specs.declared.addr.Addr.{Addr}
 use Rattle.ipv4.specs.declared.addr.Endpoint.{Endpoint}
 use Rattle.tcp_segment.specs.declared.head.Head.{Head}
 use Rattle.tcp_segment.specs.Segment.{Segment}
-use Rattle.tcp_halves.specs.declared.buffers.TheConstants.{CAPACITY}
 use Rattle.tcp_state.specs.Arrival.{opened_passively}
 use Rattle.tcp_state.specs.declared.connection.Fate.{Fate}
 use Rattle.tcp_state.specs.declared.connection.Fate.TheVariants.{Stays, Removed, Rejected}
 use Rattle.sockets.specs.declared.entry.Entry.{Entry}
 use Rattle.sockets.specs.declared.entry.SocketId.{SocketId}
-use Rattle.sockets.specs.Arrival.{Arrival, Becomes, Opens, NoRoom, Answers, local_end, peer_end, is_opening, has_no_room, after_opening, arrival_with_reply, opening, arrival_at, arrival_alone, arrival_at_connection, arrival}
+use Rattle.sockets.specs.Arrival.{Arrival, Becomes, Opens, NoRoom, Answers, local_end, peer_end, is_opening, has_no_room, after_opening, arrival_with_reply, opening, arrival_at, arrival_alone, arrival_at_connection, arrival, room_for}
 use Rattle.sockets.specs.Entries.{sends, is_between, is_listening_at, new_waiting, fate_of, role_after_segment, role_after_unreachable, unreachable_fate_of, role_after_tick, tick_fate_of, role_after_emission, emission_fate_of, entries_after_step}
 use Rattle.sockets.specs.Emission.{after_segment_sent}
 use Rattle.sockets.proofs.Emitting.{found_due, segment_sent-found, segment_sent-none}
@@ -52,7 +51,7 @@ leads_to own other h now isn source s t = by_entry (find (is_between (local_end 
       numbered = t.numbered;
       in_turn = t.in_turn;
       sockets = All-added (λ (e : Entry). IsEntryOf own other h.addr e.role) h.entries
-          (new_waiting (record { 0 = h.last_id + 1 }) listener.id (opened_passively CAPACITY (local_end h s) (peer_end source s) isn s (later_moment h now))) t.sockets tt;
+          (new_waiting (record { 0 = h.last_id + 1 }) listener.id (opened_passively (room_for h s) (local_end h s) (peer_end source s) isn s (later_moment h now))) t.sockets tt;
     }
 
     by_place : (listener : Entry) (b : Bool) → LeadsTo own other (cond b NoRoom (Opens (after_opening h (later_moment h now) isn listener source s)))

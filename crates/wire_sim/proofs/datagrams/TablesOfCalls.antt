@@ -6,7 +6,6 @@ use Rattle.std.specs.Option.{ok_or}
 use Rattle.ipv4.specs.declared.addr.Addr.{Addr}
 use Rattle.ipv4.specs.declared.addr.Endpoint.{Endpoint}
 use Rattle.ipv4.specs.Addresses.{same_addr}
-use Rattle.tcp_halves.specs.declared.buffers.TheConstants.{CAPACITY}
 use Rattle.sockets.specs.declared.entry.Entry.{Entry}
 use Rattle.sockets.specs.declared.entry.Kind.{Kind}
 use Rattle.sockets.specs.declared.entry.Kind.TheVariants.{Tcp, Udp}
@@ -19,7 +18,7 @@ use Rattle.sockets.specs.Calls.{of_socket, bound_of, last_port_after, IsMade, an
 use Rattle.sockets.specs.Entries.{is_socket, new_socket as new_entry, new_datagram_socket, with_role, role_after_bind, role_after_listen, role_after_connect, role_after_accept, role_after_close, role_after_listener_close, listener_close_fate_of, close_fate_of, entries_after_step}
 use Rattle.sockets.specs.Lists.{change_first}
 use Rattle.sockets.specs.Ports.{first_port, is_free_datagram_port}
-use Rattle.sockets.specs.SocketsView.{SocketsView, new_sockets, role_of, with_socket}
+use Rattle.sockets.specs.SocketsView.{SocketsView, new_sockets, role_of, with_socket, room_of}
 use Rattle.datagram_law.specs.Accepted.{Accepted, AreInTurn}
 use Rattle.datagram_law.specs.Sockets.{IsSocketOf}
 use Rattle.datagram_law.proofs.Keeping.{new}
@@ -31,8 +30,8 @@ use Rattle.wire_sim.proofs.datagrams.TablesKeepToAccepted.{IsEntryOf, AreEntries
 none-in_turn : AreInTurn []
 none-in_turn = record { numbered = λ n a e. cc; widths = λ k d within. absurd (omega (arith, within)) }
 
-pub kept-fresh : (addr : Addr) → IsTableOf [] [] (new_sockets addr)
-kept-fresh addr = record { numbered = refl; in_turn = none-in_turn; sockets = tt }
+pub kept-fresh : (addr : Addr) (scales : Bool) → IsTableOf [] [] (new_sockets addr scales)
+kept-fresh addr scales = record { numbered = refl; in_turn = none-in_turn; sockets = tt }
 
 -- one of the two hosts accepts more
 pub are-own : (own other more : List Accepted) (addr : Addr) (entries : List Entry) → AreEntriesOf own other addr entries → AreEntriesOf (own ++ more) other addr entries
@@ -53,7 +52,7 @@ pub kept-made : (own other : List Accepted) (kind : Kind) (h next : SocketsView)
 kept-made own other Tcp h next made t = subst (IsTableOf own other) (sym made) record {
   numbered = t.numbered;
   in_turn = t.in_turn;
-  sockets = All-added (λ (e : Entry). IsEntryOf own other h.addr e.role) h.entries (new_entry (record { 0 = h.last_id + 1 }) CAPACITY) t.sockets tt;
+  sockets = All-added (λ (e : Entry). IsEntryOf own other h.addr e.role) h.entries (new_entry (record { 0 = h.last_id + 1 }) (room_of h.scales)) t.sockets tt;
 }
 kept-made own other Udp h next made t = subst (IsTableOf own other) (sym made) record {
   numbered = t.numbered;

@@ -1,4 +1,5 @@
 -- A pair that a host does not hold is held after an event only where the event opens it.
+use Rattle.tcp_halves.specs.Halves.{Room}
 use Rattle.std.proofs.Common.{◌≡◌, ◌⊎◌, inl, inr, ℕ, ◌&&◌, ◌||◌, ◌==◌, not, if◌then◌else◌, Bool, true, false, cond, List, [], ◌∷◌, Option, Some, None, is_some, refl, sym, ◌∙◌, ap}
 use Rattle.std.specs.List.{find}
 use Rattle.std.proofs.lemmas.Bool.{and_parts}
@@ -184,11 +185,11 @@ unheld_given_up lost now pair (Connected c l) out = by_hop (is_hopless lost c)
     by_hop false = out
 
 -- an idle socket connects, to an end of another pair
-pub unheld_connecting : (capacity : ℕ) (local peer : Endpoint) (isn : ℕ) (now : Moment) (pair : Pair) → joins pair (Connected (opened_actively capacity local peer isn now) None) ≡ false → (r : Role) → joins pair r ≡ false → joins pair (role_after_connect local peer isn now r) ≡ false
-unheld_connecting capacity local peer isn now pair other (Idle b bound) out = other
-unheld_connecting capacity local peer isn now pair other (Datagrams bound s) out = refl
-unheld_connecting capacity local peer isn now pair other (Listener x y) out = refl
-unheld_connecting capacity local peer isn now pair other (Connected c l) out = out
+pub unheld_connecting : (room : Room) (local peer : Endpoint) (isn : ℕ) (now : Moment) (pair : Pair) → joins pair (Connected (opened_actively room local peer isn now) None) ≡ false → (r : Role) → joins pair r ≡ false → joins pair (role_after_connect local peer isn now r) ≡ false
+unheld_connecting room local peer isn now pair other (Idle b bound) out = other
+unheld_connecting room local peer isn now pair other (Datagrams bound s) out = refl
+unheld_connecting room local peer isn now pair other (Listener x y) out = refl
+unheld_connecting room local peer isn now pair other (Connected c l) out = out
 
 -- what joins the pair of two ends lies between them
 pub joined : (c : View) (l : Option SocketId) (x y : Endpoint) → (pair_of c.local c.peer ≡ pair_of x y) ⊎ (joins (pair_of x y) (Connected c l) ≡ false)

@@ -8,7 +8,6 @@ use Rattle.ipv4.specs.Addresses.{pair_of}
 use Rattle.tcp_segment.specs.declared.seq.Seq.{Seq}
 use Rattle.tcp_segment.specs.Segment.{Segment}
 use Rattle.clock.specs.declared.moment.Moment.{Moment}
-use Rattle.tcp_halves.specs.declared.buffers.TheConstants.{CAPACITY}
 use Rattle.tcp_state.specs.Arrival.{fate, opened_passively}
 use Rattle.udp_socket.specs.SocketView.{new_socket}
 use Rattle.sockets.specs.declared.emission.Outgoing.{Outgoing}
@@ -19,11 +18,11 @@ use Rattle.sockets.specs.declared.entry.Entry.{Entry}
 use Rattle.sockets.specs.declared.role.Role.TheVariants.{Idle, Connected, Datagrams}
 use Rattle.sockets.specs.Calls.{unless_refused, IsMade, after_socket, after_datagram_socket, port_bound, bind_refusal, after_bind, listen_refusal, after_listen, is_next_at, accept_answer, after_accept, connect_refusal, after_connect, send_answer, after_send, after_recv, shutdown_refusal, after_shutdown, close_refusal, after_close, after_socket_closed, state_answer, sockname_answer, peername_answer}
 use Rattle.sockets.specs.declared.refusal.Refusal.{Refusal}
-use Rattle.sockets.specs.Arrival.{local_end, peer_end}
+use Rattle.sockets.specs.Arrival.{local_end, peer_end, room_for}
 use Rattle.sockets.specs.Datagrams.{end_sent_from, sendto_answer, after_sendto, recvfrom_answer, after_recvfrom, after_reception}
 use Rattle.sockets.specs.Lists.{change_first}
 use Rattle.sockets.specs.Entries.{is_socket, is_between, with_role, role_after_sendto, role_after_recvfrom, role_after_segment, is_of_pair, sends, role_after_bind, role_after_listen, role_after_accept, role_after_send, role_after_recv, role_after_shutdown, role_after_close, close_fate_of, role_after_listener_close, listener_close_fate_of, role_after_tick, tick_fate_of, role_after_emission, emission_fate_of, entries_after_step}
-use Rattle.sockets.specs.SocketsView.{SocketsView, holder_id, later_moment}
+use Rattle.sockets.specs.SocketsView.{SocketsView, holder_id, later_moment, room_of}
 use Rattle.sockets.specs.Ticks as table_ticks
 use Rattle.sockets.specs.Lost.{give_up_fate_of, role_after_giving_up, after_giving_up}
 use Rattle.sockets.specs.Emission.{after_segment_sent}
@@ -85,7 +84,7 @@ is_connecting _ = false
 -- a new socket holds no pair
 made-keeps : (kind : Kind) (own own' : SocketsView) → IsMade kind own own' → KeepsPairs own own'
 made-keeps Tcp own own' made =
-    keeps-next own (after_socket own CAPACITY) own' made (λ pair none. find-added_none (is_of_pair pair) own.entries (record { id = record { 0 = own.last_id + 1 }; role = Idle CAPACITY None }) refl ∙ none)
+    keeps-next own (after_socket own (room_of own.scales)) own' made (λ pair none. find-added_none (is_of_pair pair) own.entries (record { id = record { 0 = own.last_id + 1 }; role = Idle (room_of own.scales) None }) refl ∙ none)
 made-keeps Udp own own' made =
     keeps-next own (after_datagram_socket own) own' made (λ pair none. find-added_none (is_of_pair pair) own.entries (record { id = record { 0 = own.last_id + 1 }; role = Datagrams None new_socket }) refl ∙ none)
 
@@ -326,7 +325,7 @@ frame-noted limit hs ts old new index isn answer sound w fair step x y id free h
         let next : SocketsView = record own { entries = entries_after_step (fate c s) (is_between local peer) (role_after_segment at s) own.entries; offered = offered } in
         absurd (holds-none own own' pair id (keeps-next own next own' same (λ p none. unheld-heard (fate c s) local peer at s p own.entries none)) free held)
     of_arrival f note local peer s opened noted names (Began listener none opens foreseen same) becomes =
-        let c = opened_passively CAPACITY local peer isn.0 s (later_moment own moment) in
+        let c = opened_passively (room_for own s) local peer isn.0 s (later_moment own moment) in
         let e : Entry = record { id = record { 0 = own.last_id + 1 }; role = Connected c (Some listener.id) } in
         elim (joined c (Some listener.id) x y) [
           | inl one ↦ of_pair f note noted (names ∙ one) becomes

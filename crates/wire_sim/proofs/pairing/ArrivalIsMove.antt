@@ -7,7 +7,6 @@ use Rattle.ipv4.specs.declared.addr.Endpoint.{Endpoint}
 use Rattle.ipv4.specs.declared.addr.Pair.{Pair}
 use Rattle.ipv4.specs.Addresses.{pair_of, same_addr, same_end}
 use Rattle.tcp_segment.specs.Segment.{Segment}
-use Rattle.tcp_halves.specs.declared.buffers.TheConstants.{CAPACITY}
 use Rattle.tcp_state.specs.Edges as edge
 use Rattle.tcp_state.specs.declared.connection.Fate.{Fate}
 use Rattle.tcp_state.specs.declared.connection.Fate.TheVariants.{Stays, Removed, Rejected}
@@ -24,7 +23,7 @@ use Rattle.sockets.specs.declared.role.Role.TheVariants.{Connected}
 use Rattle.stream_law.specs.Channel.{IsAmong}
 use Rattle.stream_law.proofs.Clock.{same-timed}
 use Rattle.stream_law.proofs.PairingEndings.{stops-left}
-use Rattle.sockets.specs.Arrival.{is_opening}
+use Rattle.sockets.specs.Arrival.{is_opening, room_for}
 use Rattle.sockets.specs.Entries.{is_between, is_of_pair, is_kept, role_after_segment, entries_after_step, new_waiting}
 use Rattle.sockets.specs.SocketsView.{SocketsView, later_moment, holder_id}
 use Rattle.wire_sim.specs.Openings.{epoch_of, held_anew, opened_by_frame}
@@ -228,11 +227,11 @@ projects-heard limit hs ts a b own own' other bag openings trace now place local
 projects-began : (limit : ℕ) (hs ts : Side) (a b : Addr) (own own' other : SocketsView) (bag : Bag) (openings : List Opening) (trace : List Happening) (isn place : ℕ) (local peer : Endpoint) (s : Segment) (now : Moment) (listener : Entry) → isn < 2 ^ 32
     → Projects limit hs ts a b own other bag openings trace → local.addr ≡ own.addr → same_addr own.addr peer.addr ≡ false → MayCome limit hs ts own other bag openings trace (pair_of local peer) s
     → find (is_opening_of hs (pair_of local peer) (epoch_of openings (pair_of local peer))) openings ≡ None → find (is_between local peer) own.entries ≡ None → is_opening s.flags ≡ true
-    → own' ≡ record own { last_id = own.last_id + 1; entries = own.entries ++ new_waiting (record { 0 = own.last_id + 1 }) listener.id (opened_passively CAPACITY local peer isn s now) ∷ [] }
+    → own' ≡ record own { last_id = own.last_id + 1; entries = own.entries ++ new_waiting (record { 0 = own.last_id + 1 }) listener.id (opened_passively (room_for own s) local peer isn s now) ∷ [] }
     → Opens limit hs ts a b own' other bag openings (opened_by_frame openings hs place (pair_of local peer) own own') trace
 projects-began limit hs ts a b own own' other bag openings trace isn place local peer s now listener small_isn h is_local is_apart may first none opens becomes =
     let id : SocketId = record { 0 = own.last_id + 1 } in
-    let c = opened_passively CAPACITY local peer isn s now in
+    let c = opened_passively (room_for own s) local peer isn s now in
     let x : Entry = record { id = id; role = Connected c (Some listener.id) } in
     let next : SocketsView = record own { last_id = own.last_id + 1; entries = own.entries ++ x ∷ [] } in
     let pair = pair_of local peer in
@@ -261,8 +260,8 @@ projects-began limit hs ts a b own own' other bag openings trace isn place local
       | inl reset ↦ let bad : true ≡ false = sym reset ∙ flags.1 in cc
       | inr y ↦
           let recent : IsTimely limit was y.emission = subst (λ e. IsTimely limit (pairing e there (bag.out pair epoch) (bag.arrived pair epoch)) y.emission) own_end y.timely in
-          subst (λ x. Move limit was (pairing (end_with (Present (opened_passively CAPACITY local peer isn x now)) untold) there (bag.out pair epoch) (bag.arrived pair epoch))) y.segment
-          (accepts was CAPACITY local peer isn y.emission now refl small_isn y.among recent (ap (λ (x : Segment). x.flags.syn) y.segment ∙ flags.0))
+          subst (λ x. Move limit was (pairing (end_with (Present (opened_passively (room_for own s) local peer isn x now)) untold) there (bag.out pair epoch) (bag.arrived pair epoch))) y.segment
+          (accepts was (room_for own s) local peer isn y.emission now refl small_isn y.among recent (ap (λ (x : Segment). x.flags.syn) y.segment ∙ flags.0))
     ] in
     let was_free : holder_id own pair ≡ None = ap (option_map (λ (e : Entry). e.id)) free in
     let holds : holder_id own' pair ≡ Some id =

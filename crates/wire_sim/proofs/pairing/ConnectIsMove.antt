@@ -6,7 +6,6 @@ use Rattle.ipv4.specs.declared.addr.Endpoint.{Endpoint}
 use Rattle.ipv4.specs.declared.addr.Pair.{Pair}
 use Rattle.ipv4.specs.Addresses.{pair_of}
 use Rattle.udp_socket.specs.SocketView.{new_socket}
-use Rattle.tcp_halves.specs.declared.buffers.TheConstants.{CAPACITY}
 use Rattle.tcp_state.specs.View.{opened_actively}
 use Rattle.sides.specs.declared.side.Side.{Side}
 use Rattle.wire_sim.specs.declared.event.Opening.{Opening}
@@ -19,7 +18,7 @@ use Rattle.sockets.specs.declared.role.Role.{Role}
 use Rattle.sockets.specs.declared.role.Role.TheVariants.{Idle, Listener, Connected, Datagrams}
 use Rattle.sockets.specs.Calls.{IsMade, after_socket, after_datagram_socket, connect_refusal, after_connect, last_port_after, pair_connected}
 use Rattle.sockets.specs.Entries.{is_socket, is_of_pair, role_after_connect, with_role}
-use Rattle.sockets.specs.SocketsView.{SocketsView, holder_id}
+use Rattle.sockets.specs.SocketsView.{SocketsView, holder_id, room_of}
 use Rattle.sockets.specs.Lists.{change_first}
 use Rattle.wire_sim.specs.Fairness.{second_in}
 use Rattle.wire_sim.specs.Openings.{epoch_of, epoch_connected, opened_as, opened_by_connect}
@@ -149,7 +148,7 @@ pub projects-socket_made : (limit : ℕ) (hs ts : Side) (a b : Addr) (own next o
     → Projects limit hs ts a b next other bag openings trace
 projects-socket_made limit hs ts a b own next other bag openings trace Tcp made h =
     subst (λ w. Projects limit hs ts a b w other bag openings trace) (sym made)
-    (projects-joined limit hs ts a b own (after_socket own CAPACITY) other bag openings trace (Idle CAPACITY None) refl refl refl refl (λ id none. none) h)
+    (projects-joined limit hs ts a b own (after_socket own (room_of own.scales)) other bag openings trace (Idle (room_of own.scales) None) refl refl refl refl (λ id none. none) h)
 projects-socket_made limit hs ts a b own next other bag openings trace Udp made h =
     subst (λ w. Projects limit hs ts a b w other bag openings trace) (sym made)
     (projects-joined limit hs ts a b own (after_datagram_socket own) other bag openings trace (Datagrams None new_socket) refl refl refl refl (λ id none. none) h)

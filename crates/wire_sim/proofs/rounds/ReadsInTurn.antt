@@ -56,7 +56,7 @@ unread_few h id sound = by_entry (find (is_socket id) h.sockets.entries) refl
       where
         by_state : (b : Bool) → length c.receiving.readable ≤ cond b 0 c.receiving.size → length c.receiving.readable ≤ LARGEST_CAPACITY
         by_state true few = omega (arith, few)
-        by_state false few = omega (arith, few, solid.sound.places, solid.sound.capacity)
+        by_state false few = omega (arith, few, solid.sound.terms.places, solid.sound.terms.capacity)
     by_role (Listener local backlog) solid = omega arith
     by_role (Idle buffers bound) solid = omega arith
     by_role (Datagrams bound socket) solid = omega arith

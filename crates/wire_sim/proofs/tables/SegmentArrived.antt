@@ -8,7 +8,6 @@ use Rattle.ipv4.specs.Addresses.{pair_of}
 use Rattle.tcp_segment.specs.Segment.{Segment}
 use Rattle.tcp_segment.specs.declared.head.Head.{Head}
 use Rattle.clock.specs.declared.moment.Moment.{Moment}
-use Rattle.tcp_halves.specs.declared.buffers.TheConstants.{CAPACITY}
 use Rattle.tcp_state.specs.declared.connection.Fate.{Fate}
 use Rattle.tcp_state.specs.declared.connection.Fate.TheVariants.{Stays, Removed, Rejected}
 use Rattle.tcp_state.specs.Arrival.{opened_passively, fate}
@@ -18,7 +17,7 @@ use Rattle.sockets.specs.declared.entry.Entry.{Entry}
 use Rattle.sockets.specs.declared.role.Role.{Role}
 use Rattle.sockets.specs.declared.role.Role.TheVariants.{Idle, Listener, Connected, Datagrams}
 use Rattle.sockets.specs.declared.taken.Taken.{Taken}
-use Rattle.sockets.specs.Arrival.{Opens, NoRoom, local_end, peer_end, is_opening, has_no_room, after_opening, arrival_with_reply, opening, arrival_at, arrival_alone, offered_with, arrival_at_connection, arrival, pair_opened, Meets}
+use Rattle.sockets.specs.Arrival.{Opens, NoRoom, local_end, peer_end, is_opening, has_no_room, after_opening, arrival_with_reply, opening, arrival_at, arrival_alone, offered_with, arrival_at_connection, arrival, pair_opened, Meets, room_for}
 use Rattle.sockets.specs.Entries.{is_live_between, is_between, is_listening_at, role_after_segment, fate_of, is_offered_by, entries_after_step, new_waiting}
 use Rattle.sockets.specs.Replies.{reset_at_ack, answer_to, answer_at_listener}
 use Rattle.sockets.specs.SocketsView.{SocketsView, later_moment}
@@ -32,7 +31,7 @@ pub data Arrived (h : SocketsView) (now : Moment) (isn : ℕ) (local peer : Endp
   Heard : (c : View) (l : Option SocketId) (id : SocketId) (offered : List SocketId) → find (is_between local peer) h.entries ≡ Some (record { id = id; role = Connected c l })
       → new ≡ record h { entries = entries_after_step (fate c s) (is_between local peer) (role_after_segment (later_moment h now) s) h.entries; offered = offered } → Arrived h now isn local peer s opened new
   Began : (listener : Entry) → find (is_between local peer) h.entries ≡ None → is_opening s.flags ≡ true → opened ≡ Some (pair_of local peer)
-      → new ≡ record h { last_id = h.last_id + 1; entries = h.entries ++ new_waiting (record { 0 = h.last_id + 1 }) listener.id (opened_passively CAPACITY local peer isn s (later_moment h now)) ∷ [] } → Arrived h now isn local peer s opened new
+      → new ≡ record h { last_id = h.last_id + 1; entries = h.entries ++ new_waiting (record { 0 = h.last_id + 1 }) listener.id (opened_passively (room_for h s) local peer isn s (later_moment h now)) ∷ [] } → Arrived h now isn local peer s opened new
 
 -- a segment for no connection of the table
 arrival-unfound : (h : SocketsView) (now : Moment) (isn : ℕ) (source : Addr) (s : Segment) → find (is_between (local_end h s) (peer_end source s)) h.entries ≡ None → arrival h now isn source s ≡ arrival_alone h (later_moment h now) isn source s

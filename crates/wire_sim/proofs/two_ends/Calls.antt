@@ -7,7 +7,7 @@ use Rattle.std.specs.List.{find}
 use Rattle.ipv4.specs.declared.addr.Endpoint.{Endpoint}
 use Rattle.clock.specs.declared.moment.Moment.{Moment}
 use Rattle.tcp_segment.specs.Wire.{past}
-use Rattle.tcp_halves.specs.Halves.{Sending, Receiving}
+use Rattle.tcp_halves.specs.Halves.{Sending, Receiving, Room}
 use Rattle.tcp_halves.specs.Stream.{outstanding}
 use Rattle.tcp_halves.specs.Windows.{sendable, is_worth_sending}
 use Rattle.tcp_halves.proofs.Choices.{unowed}
@@ -155,7 +155,7 @@ shutdown_ends limit side id before after ours theirs c w v answer reached step h
 
 -- `connect`.
 
-opens_idle : (role : Role) (bound : Option Endpoint) (local peer : Endpoint) (isn : ℕ) (now : Moment) → table.open_answer role ≡ Ok bound → (capacity : ℕ) × (has_socket role ≡ true) × (role_after_connect local peer isn now role ≡ Connected (opened_actively capacity local peer isn now) None)
+opens_idle : (role : Role) (bound : Option Endpoint) (local peer : Endpoint) (isn : ℕ) (now : Moment) → table.open_answer role ≡ Ok bound → (room : Room) × (has_socket role ≡ true) × (role_after_connect local peer isn now role ≡ Connected (opened_actively room local peer isn now) None)
 opens_idle (Idle buffers b) bound local peer isn now e = (buffers, refl, refl)
 opens_idle (Connected c l) bound local peer isn now e = absurd (none_opens c.state c.pending_error e)
   where

@@ -10,7 +10,6 @@ use Rattle.tcp_segment.specs.Segment.{Segment}
 use Rattle.tcp_segment.specs.Sent.{sent_segment}
 use Rattle.tcp_segment.specs.Wire.{wire}
 use Rattle.tcp_halves.proofs.Choices.{and_false}
-use Rattle.tcp_halves.specs.declared.buffers.TheConstants.{CAPACITY}
 use Rattle.tcp_state.specs.declared.calls.Refusal.TheVariants as error
 use Rattle.tcp_state.specs.declared.connection.Fate.{Fate}
 use Rattle.tcp_state.specs.declared.connection.Fate.TheVariants.{Stays, Removed}
@@ -30,7 +29,7 @@ use Rattle.interface.specs.Replies.{is_full, owed, after_answer, answer_result}
 use Rattle.interface.specs.Ways.{is_routed}
 use Rattle.sockets.specs.declared.entry.SocketId.{SocketId}
 use Rattle.sockets.specs.declared.entry.Entry.{Entry}
-use Rattle.sockets.specs.Arrival.{Arrival, Opens, NoRoom, local_end, peer_end, is_opening, has_no_room, after_opening, arrival}
+use Rattle.sockets.specs.Arrival.{Arrival, Opens, NoRoom, local_end, peer_end, is_opening, has_no_room, after_opening, arrival, room_for}
 use Rattle.sockets.specs.Causes.{Hears, after_event}
 use Rattle.sockets.specs.Closing.{entry_of}
 use Rattle.sockets.specs.Entries.{is_socket, is_between, is_listening_at, is_kept, new_waiting}
@@ -258,10 +257,10 @@ syn_opened limit side id ours c listener w0 w1 w2 w3 isn t has asks unknown plac
     let by_route = subst (λ (b : Bool). MeetsSegment (if b then Opens next else NoRoom) h a.moment source a.told (host_of w3.network (other_side side))) m.routed met in
     let new : host_of w3.network (other_side side) ≡ with_sockets h next = subst (λ (r : Result (Unit {0}) DropCause). MeetsSegment (Opens next) h a.moment source r (host_of w3.network (other_side side))) (ok-told a.told a.answered) by_route in
     let own : SocketId = record { 0 = h.sockets.last_id + 1 } in
-    let f : View = opened_passively CAPACITY (local_end h.sockets s) (peer_end source s) isn.0 s (later_moment h.sockets a.moment) in
+    let f : View = opened_passively (room_for h.sockets s) (local_end h.sockets s) (peer_end source s) isn.0 s (later_moment h.sockets a.moment) in
     let none : find (has_id own) h.sockets.entries ≡ None = none_past own 0 h.sockets.last_id h.sockets.entries (omega arith) a.kept_there.ordered.ids in
     let there : entry_of next own ≡ Some (connected own f (Some listener.id)) = find-added (has_id own) h.sockets.entries (new_waiting own listener.id f) none (eqb-same own.0) in
-    let answers = listener_answers CAPACITY (local_end h.sockets s) (peer_end source s) isn.0 s (later_moment h.sockets a.moment) a.small in (
+    let answers = listener_answers (room_for h.sockets s) (local_end h.sockets s) (peer_end source s) isn.0 s (later_moment h.sockets a.moment) a.small in (
       f,
       ap (λ (k : HostView). entry_of k.sockets own) new ∙ there,
       record { state = refl; syn = refl; expects = ap (λ (n : ℕ). wire n 1) m.number },

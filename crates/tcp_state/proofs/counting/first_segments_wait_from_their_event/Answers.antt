@@ -5,8 +5,8 @@ use Rattle.tcp_state.proofs.counting.first_segments_wait_from_their_event.Goals 
 pub returns : goal.returns
 returns c = record {
   stands = stands_where_due;
-  opened = λ capacity local peer isn now. refl;
-  accepted = λ capacity local peer isn syn now. refl;
+  opened = λ room local peer isn now. refl;
+  accepted = λ room local peer isn syn now. refl;
   begins = wait_begins;
   stays = wait_stays;
 }

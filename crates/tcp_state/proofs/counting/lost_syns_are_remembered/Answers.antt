@@ -4,8 +4,8 @@ use Rattle.tcp_state.proofs.counting.lost_syns_are_remembered.Goals as goal
 
 pub returns : goal.returns
 returns c = record {
-  opened = λ capacity local peer isn now. refl;
-  accepted = λ capacity local peer isn syn now. refl;
+  opened = λ room local peer isn now. refl;
+  accepted = λ room local peer isn syn now. refl;
   resent = resent_is_lost;
   stays = lost_for_ever;
   others = nothing_else_is;

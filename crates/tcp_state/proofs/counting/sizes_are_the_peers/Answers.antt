@@ -4,7 +4,7 @@ use Rattle.tcp_state.proofs.counting.sizes_are_the_peers.Goals as goal
 
 pub returns : goal.returns
 returns c = record {
-  listener = λ capacity local peer isn syn now. refl;
+  listener = λ room local peer isn syn now. refl;
   opens = size_of_syn;
   others = others_leave_size;
   told = size_told;

@@ -1,6 +1,7 @@
 use Rattle.std.proofs.Common.{refl}
-use Rattle.tcp_state.proofs.SameSizes.{units_kept}
+use Rattle.tcp_state.proofs.Scales.{own_units, peer_units}
+use Rattle.tcp_state.proofs.PeerSizes.{unit_of_syn, units_stay}
 use Rattle.tcp_state.proofs.laws.units_stay.Goals as goal
 
 pub returns : goal.returns
-returns c = record { opened = λ capacity local peer isn now. (refl, refl); accepted = λ capacity local peer isn syn now. (refl, refl); stays = units_kept }
+returns c = record { own = own_units; peer = peer_units; accepted = λ room local peer isn syn now. refl; answered = unit_of_syn; stays = units_stay }

@@ -1,19 +1,21 @@
 use Rattle.std.proofs.Common.{rules, ◌≡◌, sym, subst}
-use Rattle.tcp_halves.specs.Stream.{size_of}
+use Rattle.tcp_halves.specs.Stream.{size_in, own_unit}
 use Rattle.tcp_halves.proofs.Keeping.{IsKeeping, nothing_keeps, new_is}
 use Rattle.tcp_halves.proofs.receiver.Receiver.new.Goals as goal
 
 pub invariant_of-result : goal.invariant_of-result
 invariant_of-result c =
-    let size : c.min-size.result ≡ size_of c.args.buffer.capacity = search rules in
-    let is = new_is c.args.buffer c.min-size.result c.requires.empty size in
-    let k = subst IsKeeping is (nothing_keeps c.args.buffer.capacity c.requires.most) in
+    let size : c.size_in-size.result ≡ size_in c.args.scales c.args.buffer.capacity = search rules in
+    let unit : c.own_unit.result ≡ own_unit c.args.scales = search rules in
+    let is = new_is c.args.buffer c.args.scales c.size_in-size.result c.own_unit.result c.requires.empty size unit in
+    let k = subst IsKeeping is (nothing_keeps c.args.buffer.capacity c.args.scales c.requires.most) in
     (k.sized, k.most, k.fits, k.buffer, k.kept, k.some, k.few, k.told)
 
 pub returns-clause-value : goal.returns-clause-value
 returns-clause-value c =
-    let size : c.min-size.result ≡ size_of c.args.buffer.capacity = search rules in
-    sym (new_is c.args.buffer c.min-size.result c.requires.empty size)
+    let size : c.size_in-size.result ≡ size_in c.args.scales c.args.buffer.capacity = search rules in
+    let unit : c.own_unit.result ≡ own_unit c.args.scales = search rules in
+    sym (new_is c.args.buffer c.args.scales c.size_in-size.result c.own_unit.result c.requires.empty size unit)
 
 pub returns-clause-kept : goal.returns-clause-kept
 returns-clause-kept c = (invariant_of-result c).4

@@ -1,0 +1,15 @@
+use Rattle.std.proofs.Common.{refl}
+use Rattle.tcp_segment.specs.Segment.{scale_option_of}
+use Rattle.tcp_state.proofs.Scales.{where_both, heard_by_both, told_in_syns, plain}
+use Rattle.tcp_state.proofs.PeerSizes.{scale_stays}
+use Rattle.tcp_state.proofs.laws.windows_are_scaled_where_both_sides_say_so.Goals as goal
+
+pub returns : goal.returns
+returns c = record {
+  offered = λ room local peer isn now. refl;
+  accepted = λ room local peer isn syn now. where_both room.scales (scale_option_of syn);
+  answered = heard_by_both;
+  stays = scale_stays;
+  told = told_in_syns;
+  plain = plain;
+}
