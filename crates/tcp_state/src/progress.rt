@@ -12,7 +12,7 @@ ghost use Rattle.tcp_state.specs.View.{View, IsSound, is_opening, is_closed, is_
 ghost use Rattle.tcp_state.specs.Timing.{KeepsTime};
 ghost use Rattle.tcp_state.specs.Congestion.{KeepsCongestion};
 ghost use Rattle.tcp_state.specs.Arrival.{is_receiving, beyond_fin};
-ghost use Rattle.tcp_state.specs.Due.{first_due};
+ghost use Rattle.tcp_state.specs.Due.{MayGoOut, first_due};
 ghost use Rattle.tcp_state.specs.Said.{segment_of};
 ghost use Rattle.tcp_state.specs.Duties.{acknowledges, Places, StandsAt};
 ghost use Rattle.tcp_state.specs.Edges.{Event, after_event};
@@ -24,6 +24,11 @@ pub fn quiet_readers_have_told_their_room()
     ensures told { (v : View) → (is_opening v.state || is_closed v.state) ≡ false → v.spoke ≡ true → first_due v ≡ None → receive_room v.receiving < receive_window v.receiving + MSS }
     ensures whole { (v : View) → (is_opening v.state || is_closed v.state) ≡ false → v.spoke ≡ true → first_due v ≡ None → v.receiving.readable ≡ [] → v.receiving.size < receive_window v.receiving + MSS }
     ensures wide { (v : View) → (is_opening v.state || is_closed v.state) ≡ false → v.spoke ≡ true → first_due v ≡ None → v.receiving.readable ≡ [] → 2 * MSS ≤ v.receiving.size → MSS ≤ receive_window v.receiving }
+{}
+
+/// What is due first is one of the segments that may go out (RFC 9293 section 3.8).
+pub fn what_is_due_may_go_out()
+    ensures { (v : View) (due : Due) → IsSound v → first_due v ≡ Some due → MayGoOut v due }
 {}
 
 /// The oldest octet that is held goes out again and again (RFC 6298 section 5.4, RFC 9293 sections 3.8.1, 3.8.6.1 and 3.8.6.2.1): at a tick by which every timer that runs has come, what is due first begins at SND.UNA and brings
