@@ -1,11 +1,12 @@
 -- Why two connections that open to each other at the same time both open.
-use Rattle.std.proofs.Common.{◌≡◌, ℕ, ◌+◌, ◌-◌, ◌*◌, ◌/◌, ◌%◌, ◌^◌, ◌<◌, ◌==◌, ◌||◌, ◌&&◌, not, min, max, nat_lt, nat_le, if◌then◌else◌, Bool, true, false, [], Option, Some, None, inl, inr, option_map, arith, refl, sym, ◌∙◌, ap, subst}
-use Rattle.std.proofs.lemmas.Bool.{lt-ltb, le-ltb, lt-leb, le-leb}
-use Rattle.std.proofs.lemmas.Bool.Decides.{eqb_tells}
+use Rattle.std.proofs.Common.{◌≡◌, ℕ, ◌+◌, ◌-◌, ◌*◌, ◌/◌, ◌%◌, ◌^◌, ◌<◌, ◌==◌, ◌||◌, ◌&&◌, not, min, max, nat_lt, nat_le, if◌then◌else◌, ◌⊎◌, ◌≤◌, Bool, true, false, List, [], ◌∷◌, Option, Some, None, is_some, unwrap_or, inl, inr, option_map, arith, refl, sym, ◌∙◌, ap, subst}
+use Rattle.std.proofs.lemmas.Bool.{lt-ltb, le-ltb, lt-leb, le-leb, eq-eqb}
+use Rattle.std.proofs.lemmas.Bool.Decides.{eqb_tells, leb_tells}
 use Rattle.ipv4.specs.declared.addr.Endpoint.{Endpoint}
 use Rattle.clock.specs.declared.moment.Moment.{Moment}
 use Rattle.clock.specs.Moments.{after}
-use Rattle.tcp_segment.specs.Segment.{Segment}
+use Rattle.tcp_segment.specs.Options.{HeaderOption, NoOperation, MaximumSegmentSize, WindowScale, last_mss, last_scale}
+use Rattle.tcp_segment.specs.Segment.{Segment, scale_option_of, shift_of, smss_of}
 use Rattle.tcp_segment.specs.Sent.{sent_segment}
 use Rattle.tcp_segment.specs.Wire.{wire, past}
 use Rattle.retransmit.specs.declared.timers.Timers.{Timers}
@@ -17,8 +18,8 @@ use Rattle.tcp_state.specs.declared.emission.Due.TheVariants.{Syn, Text, Ack}
 use Rattle.tcp_state.specs.declared.state.State.TheVariants.{SynReceived, Established}
 use Rattle.tcp_halves.specs.Numbers.{is_before, later_number}
 use Rattle.tcp_halves.specs.Halves.{Room, Receiving}
-use Rattle.tcp_halves.specs.Stream.{outstanding, sending_from, receiving_nothing, receive_window, is_in_window, is_acceptable}
-use Rattle.tcp_halves.specs.Windows.{window_in, updates_window, is_worth_sending, has_grown, after_advertisement, window_field, after_syn_advertisement}
+use Rattle.tcp_halves.specs.Stream.{size_in, own_unit, peer_unit, size_of, outstanding, sending_from, receiving_nothing, receive_window, is_in_window, is_acceptable}
+use Rattle.tcp_halves.specs.Windows.{window_in, updates_window, is_worth_sending, receive_room, has_grown, whole_units, after_advertisement, window_field, syn_window, after_syn_advertisement}
 use Rattle.tcp_state.specs.Resend.{Resend, first_resend, mark_past, resend_lost}
 use Rattle.tcp_state.specs.Timing.{waiting_since, clocked}
 use Rattle.tcp_state.specs.View.{View, first_congestion, opened_actively}
@@ -27,16 +28,41 @@ use Rattle.tcp_state.specs.Congestion.Signal.{Begins, Nothing}
 use Rattle.tcp_state.specs.Arrival.{owing_ack, after_establishment, after_window, after_text, after_fin, after_acceptable_segment, is_acceptable_to, acknowledges_unsent, answers_probe, before, reveals_loss, timed_by, after_heard}
 use Rattle.tcp_state.specs.Due.{first_due, ack_due, new_octets, head_of, octets_of, after_syn_ack_paid, after_resent, after_first_sent, after_syn_again}
 use Rattle.tcp_state.specs.Edges.{Hears, Emits, after_first, after_event}
-use Rattle.tcp_state.specs.Simultaneous.{first_segment, after_coming, Ends, crossed, AnswersSyn, HasOpened}
+use Rattle.tcp_state.specs.Simultaneous.{first_segment, after_coming, Ends, crossed, AnswersSyn, CanBeMade, HasOpened, KnowsWindow}
 use Rattle.tcp_state.proofs.Clocked.{comes_to, unmoved, timed_unmoved}
-use Rattle.tcp_halves.proofs.Choices.{either, clash, both, or_left}
+use Rattle.tcp_halves.proofs.Choices.{either, clash, both, or_left, and_false}
+use Rattle.tcp_halves.proofs.Keeping.{in_units}
+use Rattle.tcp_state.proofs.Scales.{settled_once}
 use Rattle.tcp_state.proofs.Unreachable.{and_no}
 
--- What an end is, step by step.
+-- What the two ends are.
 
--- its buffers, where windows aren't scaled
-abbrev small : Room
-small = record { capacity = 65535; scales = false }
+-- what an end has: what its buffers are made for, how many octets each half holds once the SYNs crossed, and the windows that it tells, by its SYN and later
+record Half : Type 0 where
+  pub room : Room
+  pub size : ℕ
+  pub told : ℕ
+  pub wide : ℕ
+
+-- one end and the other: whether windows are scaled once the SYNs crossed, and the unit of both
+record Meeting : Type 0 where
+  pub scales : Bool
+  pub unit : ℕ
+  pub mine : Half
+  pub theirs : Half
+  pub here : Endpoint
+  pub there : Endpoint
+  pub isn : ℕ
+  pub other : ℕ
+
+-- .. as the other sees it
+abbrev mirror : Meeting → Meeting
+mirror m = record { scales = m.scales; unit = m.unit; mine = m.theirs; theirs = m.mine; here = m.there; there = m.here; isn = m.other; other = m.isn }
+
+-- an end, step by step
+
+abbrev opening : Meeting → Moment → View
+opening m at = opened_actively m.mine.room m.here m.there m.isn at
 
 -- its SYN went out at this moment: its round trip is measured, and its timer runs
 abbrev timed_from : ℕ → Moment → Resend
@@ -45,18 +71,33 @@ timed_from isn first = record first_resend { timed = Some (record { end = record
 abbrev runs_from : Moment → Timers
 runs_from first = record no_timers { retransmission = Some (after first 1000) }
 
-abbrev waiting : Endpoint → Endpoint → ℕ → Moment → View
-waiting here there isn first = record (opened_actively small here there isn first) { sending = record (sending_from 65535 isn) { nxt = wire isn 1 }; resend = timed_from isn first; timers = runs_from first; unheard = None }
+abbrev waiting : Meeting → Moment → View
+waiting m first = record (opening m first) { sending = record (sending_from (size_of m.mine.room) m.isn) { nxt = wire m.isn 1 }; resend = timed_from m.isn first; timers = runs_from first; unheard = None }
+
+-- what the other's SYN settles
+record Settled : Type 0 where
+  pub scales : Bool
+  pub sends : ℕ
+  pub peer : ℕ
+  pub takes : ℕ
+  pub own : ℕ
+  pub smss : ℕ
+  pub heard : ℕ
+  pub told : ℕ
+
+abbrev settled : Meeting → Settled
+settled m = record { scales = m.scales; sends = m.mine.size; peer = m.unit; takes = m.mine.size; own = m.unit; smss = 1460; heard = m.theirs.told; told = m.mine.told }
 
 -- it has both SYNs
-abbrev receives : ℕ → Receiving
-receives other = record { readable = []; kept = (receiving_nothing small).kept; rnext = wire other 1; edge = (wire other 1 + 65535) % 2 ^ 32; size = 65535; capacity = 65535; unit = 1 }
+abbrev receives : Meeting → ℕ → Receiving
+receives m window = record { readable = []; kept = (receiving_nothing m.mine.room).kept; rnext = wire m.other 1; edge = (wire m.other 1 + window) % 2 ^ 32; size = m.mine.size; capacity = m.mine.room.capacity; unit = m.unit }
 
-abbrev answering : Endpoint → Endpoint → ℕ → ℕ → Bool → Bool → Resend → Moment → View
-answering here there isn other owes spoke resend first = record (opened_actively small here there isn first) {
+abbrev answering : Meeting → ℕ → Bool → Bool → Resend → Moment → View
+answering m window owes spoke resend first = record (opening m first) {
   state = SynReceived;
-  sending = record (sending_from 65535 isn) { nxt = wire isn 1; window = 65535; max_window = 65535; wl1 = other; smss = 1460 };
-  receiving = receives other;
+  scales = m.scales;
+  sending = record { held = []; una = m.isn; nxt = wire m.isn 1; window = m.theirs.told; max_window = max 0 m.theirs.told; wl1 = m.other; wl2 = m.isn; smss = 1460; size = m.mine.size; unit = m.unit };
+  receiving = receives m window;
   owes_ack = owes;
   spoke = spoke;
   resend = resend;
@@ -64,28 +105,93 @@ answering here there isn other owes spoke resend first = record (opened_actively
   unheard = None;
 }
 
+-- .. which settled this, of windows and sizes
+abbrev taken : Meeting → Settled → ℕ → Option ℕ → Moment → View
+taken m t out mark first = record (opening m first) {
+  state = SynReceived;
+  scales = t.scales;
+  sending = record { held = []; una = m.isn; nxt = wire m.isn 1; window = t.heard; max_window = max 0 t.heard; wl1 = m.other; wl2 = m.isn; smss = t.smss; size = t.sends; unit = t.peer };
+  receiving = record { readable = []; kept = (receiving_nothing m.mine.room).kept; rnext = wire m.other 1; edge = (wire m.other 1 + (if out == 0 then 0 else t.told)) % 2 ^ 32; size = t.takes; capacity = m.mine.room.capacity; unit = t.own };
+  resend = record (timed_from m.isn first) { mark = mark };
+  timers = runs_from first;
+  unheard = None;
+}
+
 -- its SYN goes out again, with an acknowledgement ..
-abbrev again_due : Endpoint → Endpoint → ℕ → ℕ → Moment → View
-again_due here there isn other first = answering here there isn other false false (record (timed_from isn first) { mark = Some 0 }) first
+abbrev again_due : Meeting → Moment → View
+again_due m first = answering m m.mine.told false false (record (timed_from m.isn first) { mark = Some 0 }) first
 
 -- .. and went out twice, so that its round trip is not measured
-abbrev again_sent : Endpoint → Endpoint → ℕ → ℕ → Bool → Bool → Moment → View
-again_sent here there isn other owes spoke first = answering here there isn other owes spoke first_resend first
+abbrev again_sent : Meeting → ℕ → Bool → Bool → Moment → View
+again_sent m window owes spoke first = answering m window owes spoke first_resend first
+
+-- the other's window, in octets
+abbrev known : Meeting → ℕ
+known m = whole_units m.unit m.theirs.wide
 
 -- it is open, and its congestion window begins
-abbrev opened : Endpoint → Endpoint → ℕ → ℕ → View
-opened here there isn other = record (opened_actively small here there isn (record { 0 = 0 })) {
+abbrev opened : Meeting → View
+opened m = record (opening m (record { 0 = 0 })) {
   state = Established;
-  sending = record { held = []; una = wire isn 1; nxt = wire isn 1; window = 65535; max_window = 65535; wl1 = wire other 1; wl2 = wire isn 1; smss = 1460; size = 65535; unit = 1 };
-  receiving = receives other;
+  scales = m.scales;
+  sending = record { held = []; una = wire m.isn 1; nxt = wire m.isn 1; window = known m; max_window = max (max 0 m.theirs.told) (known m); wl1 = wire m.other 1; wl2 = wire m.isn 1; smss = 1460; size = m.mine.size; unit = m.unit };
+  receiving = receives m m.mine.wide;
   spoke = true;
   congestion = initial_window 1460 false;
   unheard = None;
 }
 
 -- .. but for the clock
-abbrev heard : Endpoint → Endpoint → ℕ → ℕ → Moment → View
-heard here there isn other first = record (opened here there isn other) { timers = runs_from first; congestion = first_congestion }
+abbrev heard : Meeting → Moment → View
+heard m first = record (opened m) { timers = runs_from first; congestion = first_congestion }
+
+-- the segments that each sends
+
+abbrev syn_of : Meeting → Segment
+syn_of m = sent_segment (head_of (opening m (record { 0 = 0 })) Syn) []
+
+abbrev syn_ack_of : Meeting → Moment → Segment
+syn_ack_of m first = sent_segment (head_of (again_due m first) Syn) []
+
+abbrev ack_of : Meeting → Segment
+ack_of m = sent_segment (head_of (again_sent m m.mine.told true false (record { 0 = 0 })) Ack) []
+
+-- What holds of them.
+
+-- what an end tells: by its SYN what 16 bits can, of what it would hold, and later all but less than a segment
+record Tells (unit : ℕ) (h : Half) : Type 0 where
+  pub offers : syn_window (receiving_nothing h.room) ≡ h.told
+  pub some : 1460 ≤ h.told
+  pub few : h.told ≤ 65535
+  pub again : min h.size 65535 ≡ h.told
+  pub widens : (if nat_le (h.told + 1460) h.size then whole_units unit h.size else h.told) ≡ h.wide
+  pub least : 0 < h.wide
+  pub most : h.wide ≤ 1048576
+  pub rest : h.size < h.wide + 1460
+
+-- what the other's SYN settles, as it says it
+abbrev read_of : Meeting → Settled
+read_of m = let s = syn_of (mirror m) in let scales = m.mine.room.scales && is_some (scale_option_of s) in record {
+  scales = scales;
+  sends = size_in scales (size_of m.mine.room);
+  peer = peer_unit scales (shift_of s);
+  takes = size_in scales (size_of m.mine.room);
+  own = own_unit scales;
+  smss = smss_of s;
+  heard = s.window;
+  told = syn_window (receiving_nothing m.mine.room);
+}
+
+record Fits (m : Meeting) : Type 0 where
+  pub isn : m.isn < 2 ^ 32
+  pub other : m.other < 2 ^ 32
+  pub mine : Tells m.unit m.mine
+  pub theirs : Tells m.unit m.theirs
+  pub settles : read_of m ≡ settled m
+  pub settles_there : read_of (mirror m) ≡ settled (mirror m)
+
+abbrev mirrored : (m : Meeting) → Fits m → Fits (mirror m)
+mirrored m f = record { isn = f.other; other = f.isn; mine = f.theirs; theirs = f.mine; settles = f.settles_there; settles_there = f.settles }
 
 -- The numbers.
 
@@ -98,27 +204,51 @@ one_out n fits = omega (arith, fits)
 one_behind : (n : ℕ) → n < 2 ^ 32 → past n (wire n 1) ≡ 4294967295
 one_behind n fits = omega (arith, fits)
 
-told : (n : ℕ) → n < 2 ^ 32 → receive_window (receives n) ≡ 65535
-told n fits = omega (arith, fits)
-
--- the window takes the whole room, and does not grow
-full : (n : ℕ) → n < 2 ^ 32 → has_grown (receives n) ≡ false
-full n fits = ap (λ w. nat_le (w + 1460) 65535) (told n fits)
-
-still_told : (n : ℕ) → n < 2 ^ 32 → after_advertisement (receives n) ≡ receives n
-still_told n fits = ap (λ b. if b then record (receives n) { edge = (wire n 1 + 65535) % 2 ^ 32 } else receives n) (full n fits)
-
-still_told_by_syn : (n : ℕ) → n < 2 ^ 32 → after_syn_advertisement (receives n) ≡ receives n
-still_told_by_syn n fits = ap (λ b. if b then record (receives n) { edge = (wire n 1 + 65535) % 2 ^ 32 } else receives n) (full n fits)
+-- the window is as wide as it was told
+window_is : (m : Meeting) (window : ℕ) → window ≤ 1048576 → receive_window (receives m window) ≡ window
+window_is m window few = reaches (wire m.other 1) window (omega arith) few
+  where
+    reaches : (next window : ℕ) → next < 2 ^ 32 → window ≤ 1048576 → past ((next + window) % 2 ^ 32) next ≡ window
+    reaches next window fits few = omega (arith, fits, few)
 
 -- its acknowledgement moves SND.UNA
 moves : (n : ℕ) → n < 2 ^ 32 → not (n == wire n 1) ≡ true
 moves n fits = elim (eqb_tells n (wire n 1)) [ inl same ↦ let one = one_out n fits in absurd (omega (arith, fits, same.1)) | inr other ↦ ap not other.0 ]
 
+-- The windows.
+
+-- what 16 bits can tell is told: a SYN-ACK tells the same once more
+still_told : (m : Meeting) → Fits m → after_syn_advertisement (receives m m.mine.told) ≡ receives m m.mine.told
+still_told m f =
+    let r = receives m m.mine.told in
+    let full : nat_le (receive_window r + 1460) (syn_window r) ≡ false = lt-leb (receive_window r + 1460) (syn_window r) (omega (arith, window_is m m.mine.told (omega (arith, f.mine.few)), f.mine.again)) in
+    ap (λ b. if b then record r { edge = (r.rnext + syn_window r) % 2 ^ 32 } else r) full
+
+-- the acknowledgement tells the whole room, where that is a step further
+widened : (m : Meeting) → Fits m → after_advertisement (receives m m.mine.told) ≡ receives m m.mine.wide
+widened m f =
+    let told = window_is m m.mine.told (omega (arith, f.mine.few)) in
+    ap (λ n. if nat_le (n + 1460) (m.mine.size - 0) then receives m (whole_units m.unit (m.mine.size - 0)) else receives m m.mine.told) told
+    ∙ (ap (λ n. if nat_le (m.mine.told + 1460) n then receives m (whole_units m.unit n) else receives m m.mine.told) (less_none m.mine.size)
+    ∙ (one_of (nat_le (m.mine.told + 1460) m.mine.size) (whole_units m.unit m.mine.size) m.mine.told ∙ ap (receives m) f.mine.widens))
+  where
+    less_none : (n : ℕ) → n - 0 ≡ n
+    less_none n = omega arith
+
+    one_of : (wide : Bool) (all some : ℕ) → (if wide then receives m all else receives m some) ≡ receives m (if wide then all else some)
+    one_of true all some = refl
+    one_of false all some = refl
+
+-- .. and then it grows no more
+full : (m : Meeting) → Fits m → has_grown (receives m m.mine.wide) ≡ false
+full m f =
+    let r = receives m m.mine.wide in
+    lt-leb (receive_window r + 1460) (receive_room r) (omega (arith, window_is m m.mine.wide f.mine.most, f.mine.rest))
+
 -- The SYN.
 
-first_is_syn : (here there : Endpoint) (isn : ℕ) (at : Moment) → isn < 2 ^ 32 → first_due (opened_actively small here there isn at) ≡ Some Syn
-first_is_syn here there isn at fits = ap (λ n. if (n == 0) || false then Some Syn else None) (none_out isn fits)
+first_is_syn : (m : Meeting) (at : Moment) → Fits m → first_due (opening m at) ≡ Some Syn
+first_is_syn m at f = ap (λ n. if (n == 0) || false then Some Syn else None) (none_out m.isn f.isn)
 
 sent_first : (isn : ℕ) → isn < 2 ^ 32 → later_number isn isn (wire isn 1) ≡ wire isn 1
 sent_first isn fits =
@@ -136,87 +266,84 @@ running_if v was now first out = record v {
 abbrev out_again : View → Moment → ℕ → View
 out_again v now out = let sent = if nat_lt 0 out then after_resent v 1 else after_first_sent v 1 now in if nat_lt 0 out then after_syn_again sent else sent
 
-syn_goes : (here there : Endpoint) (isn : ℕ) (at now : Moment) → isn < 2 ^ 32 → after_event (opened_actively small here there isn at) (Emits now) ≡ waiting here there isn now
-syn_goes here there isn at now fits =
-    let v = opened_actively small here there isn at in
-    ap (λ d. after_first v d now) (first_is_syn here there isn at fits)
-    ∙ (ap (λ n. clocked false (out_again v now n) now) (none_out isn fits)
-    ∙ (ap (λ n. clocked false (record v { sending = record (sending_from 65535 isn) { nxt = n }; resend = record first_resend { timed = Some (record { end = record { 0 = n }; since = now }) } }) now) (sent_first isn fits)
-    ∙ ap (running_if (waiting here there isn now) (Some at) now now) (one_out isn fits)))
+syn_goes : (m : Meeting) (at now : Moment) → Fits m → after_event (opening m at) (Emits now) ≡ waiting m now
+syn_goes m at now f =
+    let v = opening m at in
+    ap (λ d. after_first v d now) (first_is_syn m at f)
+    ∙ (ap (λ n. clocked false (out_again v now n) now) (none_out m.isn f.isn)
+    ∙ (ap (λ n. clocked false (record v { sending = record (sending_from (size_of m.mine.room) m.isn) { nxt = n }; resend = record first_resend { timed = Some (record { end = record { 0 = n }; since = now }) } }) now) (sent_first m.isn f.isn)
+    ∙ ap (running_if (waiting m now) (Some at) now now) (one_out m.isn f.isn)))
 
-abbrev syn_of : Endpoint → Endpoint → ℕ → Segment
-syn_of here there isn = sent_segment (head_of (opened_actively small here there isn (record { 0 = 0 })) Syn) []
-
-syn_comes : (here there : Endpoint) (isn other : ℕ) (first now : Moment) → isn < 2 ^ 32
-    → after_event (waiting here there isn first) (Hears (syn_of there here other) now) ≡ again_due here there isn other first
-syn_comes here there isn other first now fits =
-    let v = waiting here there isn first in
-    let w = again_due here there isn other first in
-    let b = before v (syn_of there here other) in
-    ap (λ n. timed_by b (record w { receiving = record w.receiving { edge = (wire other 1 + (if n == 0 then 0 else 65535)) % 2 ^ 32 }; resend = record w.resend { mark = mark_past 0 n } }) now) (one_out isn fits)
-    ∙ (timed_unmoved b w now (unmoved v) refl refl ∙ ap (running_if w None now first) (one_out isn fits))
+syn_comes : (m : Meeting) (first now : Moment) → Fits m → after_event (waiting m first) (Hears (syn_of (mirror m)) now) ≡ again_due m first
+syn_comes m first now f =
+    let v = waiting m first in
+    let w = again_due m first in
+    let b = before v (syn_of (mirror m)) in
+    ap (λ n. timed_by b (taken m (read_of m) n (mark_past 0 n) first) now) (one_out m.isn f.isn)
+    ∙ (ap (λ t. timed_by b (taken m t 1 (Some 0) first) now) f.settles
+    ∙ (timed_unmoved b w now (unmoved v) refl refl ∙ ap (running_if w None now first) (one_out m.isn f.isn)))
 
 -- The SYN-ACK.
 
 sent_again : (isn : ℕ) → later_number isn (wire isn 1) (wire isn 1) ≡ wire isn 1
 sent_again isn = either ℕ (λ n. n ≡ wire isn 1) (nat_le (past (wire isn 1) isn) (past (wire isn 1) isn)) (wire isn 1) (wire isn 1) (λ le. refl) (λ gt. refl)
 
-first_is_syn_ack : (here there : Endpoint) (isn other : ℕ) (first : Moment) → isn < 2 ^ 32 → first_due (again_due here there isn other first) ≡ Some Syn
-first_is_syn_ack here there isn other first fits = ap (λ n. if (n == 0) || true then Some Syn else None) (one_out isn fits)
+first_is_syn_ack : (m : Meeting) (first : Moment) → Fits m → first_due (again_due m first) ≡ Some Syn
+first_is_syn_ack m first f = ap (λ n. if (n == 0) || true then Some Syn else None) (one_out m.isn f.isn)
 
-syn_ack_goes : (here there : Endpoint) (isn other : ℕ) (first now : Moment) → isn < 2 ^ 32 → other < 2 ^ 32
-    → after_event (again_due here there isn other first) (Emits now) ≡ again_sent here there isn other false false first
-syn_ack_goes here there isn other first now fits other_fits =
-    let v = again_due here there isn other first in
-    let w = again_sent here there isn other false false first in
-    ap (λ d. after_first v d now) (first_is_syn_ack here there isn other first fits)
-    ∙ (ap (λ n. clocked false (after_syn_ack_paid (out_again v now n)) now) (one_out isn fits)
-    ∙ (ap (λ n. clocked false (after_syn_ack_paid (record w { sending = record w.sending { nxt = n }; resend = record first_resend { mark = mark_past 1 (past n isn) } })) now) (sent_again isn)
-    ∙ (ap (λ n. clocked false (after_syn_ack_paid (record w { resend = record first_resend { mark = mark_past 1 n } })) now) (one_out isn fits)
-    ∙ (ap (λ r. clocked false (record w { receiving = r }) now) (still_told_by_syn other other_fits) ∙ ap (running_if w None now first) (one_out isn fits)))))
-
-abbrev syn_ack_of : Endpoint → Endpoint → ℕ → ℕ → Moment → Segment
-syn_ack_of here there isn other first = sent_segment (head_of (again_due here there isn other first) Syn) []
+syn_ack_goes : (m : Meeting) (first now : Moment) → Fits m → after_event (again_due m first) (Emits now) ≡ again_sent m m.mine.told false false first
+syn_ack_goes m first now f =
+    let v = again_due m first in
+    let w = again_sent m m.mine.told false false first in
+    ap (λ d. after_first v d now) (first_is_syn_ack m first f)
+    ∙ (ap (λ n. clocked false (after_syn_ack_paid (out_again v now n)) now) (one_out m.isn f.isn)
+    ∙ (ap (λ n. clocked false (after_syn_ack_paid (record w { sending = record w.sending { nxt = n }; resend = record first_resend { mark = mark_past 1 (past n m.isn) } })) now) (sent_again m.isn)
+    ∙ (ap (λ n. clocked false (after_syn_ack_paid (record w { resend = record first_resend { mark = mark_past 1 n } })) now) (one_out m.isn f.isn)
+    ∙ (ap (λ r. clocked false (record w { receiving = r }) now) (still_told m f) ∙ ap (running_if w None now first) (one_out m.isn f.isn)))))
 
 -- the other's SYN, once more, stands right before the window
-outside : (other : ℕ) → other < 2 ^ 32 → is_in_window (receives other) other ≡ false
-outside other fits = le-ltb (past other (wire other 1)) (receive_window (receives other)) (omega (arith, one_behind other fits, told other fits))
+outside : (m : Meeting) → Fits m → is_in_window (receives m m.mine.told) m.other ≡ false
+outside m f =
+    le-ltb (past m.other (wire m.other 1)) (receive_window (receives m m.mine.told)) (omega (arith, one_behind m.other f.other, window_is m m.mine.told (omega (arith, f.mine.few)), f.mine.few))
 
-unacceptable : (other : ℕ) → other < 2 ^ 32 → is_acceptable (receives other) other 1 ≡ false
-unacceptable other fits =
-    let same : (other + 0) % 2 ^ 32 ≡ other = omega (arith, fits) in
-    ap (λ b. b || is_in_window (receives other) ((other + 0) % 2 ^ 32)) (outside other fits) ∙ (ap (is_in_window (receives other)) same ∙ outside other fits)
+unacceptable : (m : Meeting) → Fits m → is_acceptable (receives m m.mine.told) m.other 1 ≡ false
+unacceptable m f =
+    let r = receives m m.mine.told in
+    let same : (m.other + 0) % 2 ^ 32 ≡ m.other = kept m.other f.other in
+    ap (λ b. b || is_in_window r ((m.other + 0) % 2 ^ 32)) (outside m f) ∙ (ap (is_in_window r) same ∙ outside m f)
+  where
+    kept : (n : ℕ) → n < 2 ^ 32 → (n + 0) % 2 ^ 32 ≡ n
+    kept n fits = omega (arith, fits)
 
-syn_ack_comes : (here there : Endpoint) (isn other : ℕ) (first now : Moment) → isn < 2 ^ 32 → other < 2 ^ 32
-    → after_event (again_sent here there isn other false false first) (Hears (syn_ack_of there here other isn first) now) ≡ again_sent here there isn other true false first
-syn_ack_comes here there isn other first now fits other_fits =
-    let v = again_sent here there isn other false false first in
-    let w = again_sent here there isn other true false first in
-    let s = syn_ack_of there here other isn first in
+syn_ack_comes : (m : Meeting) (first now : Moment) → Fits m
+    → after_event (again_sent m m.mine.told false false first) (Hears (syn_ack_of (mirror m) first) now) ≡ again_sent m m.mine.told true false first
+syn_ack_comes m first now f =
+    let v = again_sent m m.mine.told false false first in
+    let w = again_sent m m.mine.told true false first in
+    let s = syn_ack_of (mirror m) first in
     let b = before v s in
     comes_to v s now refl (and_no (acknowledges_unsent v s) (is_acceptable_to v s && false) (and_no (is_acceptable_to v s) false refl))
-    ∙ (ap (λ a. timed_by b (if a then after_acceptable_segment v s else owing_ack v) now) (unacceptable other other_fits) ∙ (timed_unmoved b w now (unmoved v) refl refl ∙ ap (running_if w None now first) (one_out isn fits)))
+    ∙ (ap (λ a. timed_by b (if a then after_acceptable_segment v s else owing_ack v) now) (unacceptable m f) ∙ (timed_unmoved b w now (unmoved v) refl refl ∙ ap (running_if w None now first) (one_out m.isn f.isn)))
 
 -- The acknowledgement.
 
-first_is_ack : (here there : Endpoint) (isn other : ℕ) (first : Moment) → isn < 2 ^ 32 → first_due (again_sent here there isn other true false first) ≡ Some Ack
-first_is_ack here there isn other first fits = ap (λ n. if (n == 0) || false then Some Syn else Some Ack) (one_out isn fits)
+first_is_ack : (m : Meeting) (first : Moment) → Fits m → first_due (again_sent m m.mine.told true false first) ≡ Some Ack
+first_is_ack m first f = ap (λ n. if (n == 0) || false then Some Syn else Some Ack) (one_out m.isn f.isn)
 
-ack_goes : (here there : Endpoint) (isn other : ℕ) (first now : Moment) → isn < 2 ^ 32 → other < 2 ^ 32
-    → after_event (again_sent here there isn other true false first) (Emits now) ≡ again_sent here there isn other false true first
-ack_goes here there isn other first now fits other_fits =
-    let v = again_sent here there isn other true false first in
-    let w = again_sent here there isn other false true first in
-    ap (λ d. after_first v d now) (first_is_ack here there isn other first fits)
-    ∙ (ap (λ r. clocked false (record w { receiving = r }) now) (still_told other other_fits) ∙ ap (running_if w None now first) (one_out isn fits))
+ack_goes : (m : Meeting) (first now : Moment) → Fits m → after_event (again_sent m m.mine.told true false first) (Emits now) ≡ again_sent m m.mine.wide false true first
+ack_goes m first now f =
+    let v = again_sent m m.mine.told true false first in
+    let w = again_sent m m.mine.wide false true first in
+    ap (λ d. after_first v d now) (first_is_ack m first f)
+    ∙ (ap (λ r. clocked false (record w { receiving = r }) now) (widened m f) ∙ ap (running_if w None now first) (one_out m.isn f.isn))
 
-abbrev ack_of : Endpoint → Endpoint → ℕ → ℕ → Segment
-ack_of here there isn other = sent_segment (head_of (again_sent here there isn other true false (record { 0 = 0 })) Ack) []
-
-in_order : (other : ℕ) → other < 2 ^ 32 → is_acceptable (receives other) (wire other 1) 0 ≡ true
-in_order other fits =
-    let within : is_in_window (receives other) (wire other 1) ≡ true = lt-ltb (past (wire other 1) (wire other 1)) (receive_window (receives other)) (omega (arith, none_out (wire other 1) (omega arith), told other fits)) in
-    ap (λ n. if n == 0 then wire other 1 == wire other 1 else is_in_window (receives other) (wire other 1)) (told other fits) ∙ within
+in_order : (m : Meeting) → Fits m → is_acceptable (receives m m.mine.wide) (wire m.other 1) 0 ≡ true
+in_order m f =
+    let r = receives m m.mine.wide in
+    let next = wire m.other 1 in
+    either Bool (λ b. b ≡ true) (receive_window r == 0) (next == next) (is_in_window r next)
+    (λ none. eq-eqb next next refl)
+    (λ some. lt-ltb (past next next) (receive_window r) (omega (arith, none_out next (omega arith), window_is m m.mine.wide f.mine.most, f.mine.least)))
 
 -- our SYN is acknowledged by a segment one further than the other's SYN
 acknowledges : (isn : ℕ) → isn < 2 ^ 32 → (nat_lt 0 (past (wire isn 1) isn) && nat_le (past (wire isn 1) isn) (past (wire isn 1) isn)) ≡ true
@@ -228,59 +355,78 @@ later other fits = le-leb (2 ^ 31) (past other (wire other 1)) (omega (arith, on
 not_behind : (n : ℕ) → n < 2 ^ 32 → is_before n n ≡ false
 not_behind n fits = lt-leb (2 ^ 31) (past n n) (omega (arith, none_out n fits))
 
-updates : (isn other : ℕ) → other < 2 ^ 32
-    → updates_window (record (sending_from 65535 isn) { una = wire isn 1; nxt = wire isn 1; window = 65535; max_window = 65535; wl1 = other; wl2 = wire isn 1; smss = 1460 }) (wire other 1) (wire isn 1) ≡ true
-updates isn other fits =
-    let same = is_before (wire isn 1) (wire isn 1) in
-    both (not same) (is_before other (wire other 1) || (other == wire other 1 && not same))
-    (ap not (not_behind (wire isn 1) (omega arith))) (or_left (is_before other (wire other 1)) (other == wire other 1 && not same) (later other fits))
+updates : (m : Meeting) (first : Moment) → Fits m → (let e = after_establishment (again_sent m m.mine.wide false true first) in updates_window e.sending (wire m.other 1) (wire m.isn 1)) ≡ true
+updates m first f =
+    let same = is_before (wire m.isn 1) (wire m.isn 1) in
+    both (not same) (is_before m.other (wire m.other 1) || (m.other == wire m.other 1 && not same))
+    (ap not (not_behind (wire m.isn 1) (omega arith))) (or_left (is_before m.other (wire m.other 1)) (m.other == wire m.other 1 && not same) (later m.other f.other))
 
 -- what the acknowledgement makes of the connection without the clock
-ack_heard : (here there : Endpoint) (isn other : ℕ) (first : Moment) → isn < 2 ^ 32 → other < 2 ^ 32
-    → after_heard (again_sent here there isn other false true first) (ack_of there here other isn) ≡ heard here there isn other first
-ack_heard here there isn other first fits other_fits =
-    let v = again_sent here there isn other false true first in
-    let s = ack_of there here other isn in
-    let w = heard here there isn other first in
+ack_heard : (m : Meeting) (first : Moment) → Fits m → after_heard (again_sent m m.mine.wide false true first) (ack_of (mirror m)) ≡ heard m first
+ack_heard m first f =
+    let v = again_sent m m.mine.wide false true first in
+    let s = ack_of (mirror m) in
+    let w = heard m first in
     let e = after_establishment v in
-    ap (λ b. if b then after_acceptable_segment v s else owing_ack v) (in_order other other_fits)
-    ∙ (ap (λ b. if b then after_fin (after_text (after_window (if b then e else v) s) s) s else (if b then e else v)) (acknowledges isn fits)
-    ∙ (ap (λ b. record w { sending = if b then record w.sending { window = window_in e.sending s.window; max_window = max 65535 (window_in e.sending s.window) } else e.sending }) (updates isn other other_fits)
-    ∙ (ap (λ r. record w { sending = record w.sending { window = window_field r * 1; max_window = max 65535 (window_field r * 1) } }) (still_told isn fits)
-    ∙ ap (λ n. record w { sending = record w.sending { window = n / 1 * 1; max_window = max 65535 (n / 1 * 1) } }) (told isn fits))))
+    let most = max 0 m.theirs.told in
+    ap (λ b. if b then after_acceptable_segment v s else owing_ack v) (in_order m f)
+    ∙ (ap (λ b. if b then after_fin (after_text (after_window (if b then e else v) s) s) s else (if b then e else v)) (acknowledges m.isn f.isn)
+    ∙ (ap (λ b. record w { sending = if b then record w.sending { window = window_in e.sending s.window; max_window = max most (window_in e.sending s.window) } else e.sending }) (updates m first f)
+    ∙ (ap (λ r. record w { sending = record w.sending { window = window_field r * m.unit; max_window = max most (window_field r * m.unit) } }) (widened (mirror m) (mirrored m f))
+    ∙ ap (λ n. record w { sending = record w.sending { window = n / m.unit * m.unit; max_window = max most (n / m.unit * m.unit) } }) (window_is (mirror m) m.theirs.wide f.theirs.most))))
 
--- the connection is open: no timer runs
-at_rest : (here there : Endpoint) (isn other : ℕ) (first now : Moment) → clocked true (record (opened here there isn other) { timers = runs_from first }) now ≡ opened here there isn other
-at_rest here there isn other first now =
-    let w = opened here there isn other in
-    ap (λ n. record w {
+-- the connection is open: no octets wait
+none_waits : (out window : ℕ) → nat_lt 0 (min (0 - out) window) ≡ false
+none_waits out window = le-ltb 0 (min (0 - out) window) (omega arith)
+
+-- .. and no timer runs
+at_rest : (m : Meeting) (first now : Moment) → clocked true (record (opened m) { timers = runs_from first }) now ≡ opened m
+at_rest m first now =
+    let w = opened m in
+    let n = outstanding w.sending in
+    let open_window = min w.sending.window w.congestion.cwnd - n in
+    let worth = is_worth_sending w.sending w.congestion.cwnd false in
+    ap (λ b. record w {
+      resend = record w.resend { interval = if b && false then 1000 else 1000 };
+      timers = record no_timers {
+        retransmission = if nat_lt 0 n && not b then Some (after now 1000) else None;
+        probe = if b then Some (after now 1000) else None;
+        overriding = if nat_lt 0 (min (0 - n) open_window) && not worth then Some (after now OVERRIDE_WAIT) else None;
+      };
+      unheard = if (n == 0) && ((nat_lt 0 (min (0 - n) open_window) && worth) || false || false) then Some now else None;
+    }) (and_no (w.sending.window == 0) false refl)
+    ∙ (ap (λ b. record w {
       timers = record no_timers {
         retransmission = if nat_lt 0 n && true then Some (after now 1000) else None;
-        overriding = if nat_lt 0 (min (0 - n) (w.congestion.cwnd - n)) && not (is_worth_sending w.sending w.congestion.cwnd false) then Some (after now OVERRIDE_WAIT) else None;
+        overriding = if b && not worth then Some (after now OVERRIDE_WAIT) else None;
       };
-      unheard = if (n == 0) && ((nat_lt 0 (min (0 - n) (w.congestion.cwnd - n)) && is_worth_sending w.sending w.congestion.cwnd false) || false || false) then Some now else None;
-    }) (none_out (wire isn 1) (omega arith))
+      unheard = if (n == 0) && ((b && worth) || false || false) then Some now else None;
+    }) (none_waits n open_window)
+    ∙ ap (λ k. record w {
+      timers = record no_timers { retransmission = if nat_lt 0 k && true then Some (after now 1000) else None };
+      unheard = if (k == 0) && false then Some now else None;
+    }) (none_out (wire m.isn 1) (omega arith)))
 
-ack_comes : (here there : Endpoint) (isn other : ℕ) (first now : Moment) → isn < 2 ^ 32 → other < 2 ^ 32
-    → after_event (again_sent here there isn other false true first) (Hears (ack_of there here other isn) now) ≡ opened here there isn other
-ack_comes here there isn other first now fits other_fits =
-    let v = again_sent here there isn other false true first in
-    let s = ack_of there here other isn in
+ack_comes : (m : Meeting) (first now : Moment) → Fits m → after_event (again_sent m m.mine.wide false true first) (Hears (ack_of (mirror m)) now) ≡ opened m
+ack_comes m first now f =
+    let v = again_sent m m.mine.wide false true first in
+    let s = ack_of (mirror m) in
     let b = before v s in
-    let w = heard here there isn other first in
-    comes_to v s now refl (ap (λ a. not a && (is_acceptable_to v s && true)) (acknowledges isn fits))
-    ∙ (ap (λ x. timed_by b x now) (ack_heard here there isn other first fits other_fits)
-    ∙ (ap (λ m. clocked m (record w {
-      resend = let resend = if m then first_resend else if answers_probe v s then first_resend else first_resend in if reveals_loss (if m then Begins else Nothing) w.congestion then resend_lost resend (outstanding w.sending) else resend;
-      congestion = after_signal w.congestion (if m then Begins else Nothing) 1460 false;
-    }) now) (moves isn fits)
-    ∙ at_rest here there isn other first now))
+    let w = heard m first in
+    comes_to v s now refl (ap (λ a. not a && (is_acceptable_to v s && true)) (acknowledges m.isn f.isn))
+    ∙ (ap (λ x. timed_by b x now) (ack_heard m first f)
+    ∙ (ap (λ x. clocked x (record w {
+      resend = let resend = if x then first_resend else if answers_probe v s then first_resend else first_resend in if reveals_loss (if x then Begins else Nothing) w.congestion then resend_lost resend (outstanding w.sending) else resend;
+      congestion = after_signal w.congestion (if x then Begins else Nothing) 1460 false;
+    }) now) (moves m.isn f.isn)
+    ∙ at_rest m first now))
 
-none_left : (here there : Endpoint) (isn other : ℕ) → other < 2 ^ 32 → first_due (opened here there isn other) ≡ None
-none_left here there isn other fits =
-    let v = opened here there isn other in
-    ap (λ n. if nat_lt 0 (min (0 - n) (v.congestion.cwnd - n)) && is_worth_sending v.sending v.congestion.cwnd false then Some (Text (new_octets v)) else ack_due v) (none_out (wire isn 1) (omega arith))
-    ∙ ap (λ b. if b then Some Ack else None) (full other fits)
+none_left : (m : Meeting) → Fits m → first_due (opened m) ≡ None
+none_left m f =
+    let v = opened m in
+    let n = outstanding v.sending in
+    ap (λ b. if b && is_worth_sending v.sending v.congestion.cwnd false then Some (Text (new_octets v)) else ack_due v) (none_waits n (min v.sending.window v.congestion.cwnd - n))
+    ∙ ap (λ b. if b then Some Ack else None) (full m f)
 
 -- Both together.
 
@@ -292,80 +438,235 @@ crosses v w x s y now goes is comes = ap (λ u. after_coming u (first_segment w)
 segment_due : (v : View) (due : Due) → first_due v ≡ Some due → first_segment v ≡ Some (sent_segment (head_of v due) (octets_of v due))
 segment_due v due is = ap (λ o. option_map (λ d. sent_segment (head_of v d) (octets_of v d)) o) is
 
-syns_cross : (here there : Endpoint) (isn other : ℕ) (one two now : Moment) → isn < 2 ^ 32 → other < 2 ^ 32
-    → after_coming (after_event (opened_actively small here there isn one) (Emits now)) (first_segment (opened_actively small there here other two)) now ≡ again_due here there isn other now
-syns_cross here there isn other one two now fits other_fits =
-    crosses (opened_actively small here there isn one) (opened_actively small there here other two) (waiting here there isn now) (syn_of there here other) (again_due here there isn other now) now
-    (syn_goes here there isn one now fits) (segment_due (opened_actively small there here other two) Syn (first_is_syn there here other two other_fits)) (syn_comes here there isn other now now fits)
+syns_cross : (m : Meeting) (one two now : Moment) → Fits m → after_coming (after_event (opening m one) (Emits now)) (first_segment (opening (mirror m) two)) now ≡ again_due m now
+syns_cross m one two now f =
+    crosses (opening m one) (opening (mirror m) two) (waiting m now) (syn_of (mirror m)) (again_due m now) now
+    (syn_goes m one now f) (segment_due (opening (mirror m) two) Syn (first_is_syn (mirror m) two (mirrored m f))) (syn_comes m now now f)
 
-syn_acks_cross : (here there : Endpoint) (isn other : ℕ) (first now : Moment) → isn < 2 ^ 32 → other < 2 ^ 32
-    → after_coming (after_event (again_due here there isn other first) (Emits now)) (first_segment (again_due there here other isn first)) now ≡ again_sent here there isn other true false first
-syn_acks_cross here there isn other first now fits other_fits =
-    let v = again_due here there isn other first in
-    let w = again_due there here other isn first in
-    crosses v w (again_sent here there isn other false false first) (syn_ack_of there here other isn first) (again_sent here there isn other true false first) now
-    (syn_ack_goes here there isn other first now fits other_fits) (segment_due w Syn (first_is_syn_ack there here other isn first other_fits)) (syn_ack_comes here there isn other first now fits other_fits)
+syn_acks_cross : (m : Meeting) (first now : Moment) → Fits m
+    → after_coming (after_event (again_due m first) (Emits now)) (first_segment (again_due (mirror m) first)) now ≡ again_sent m m.mine.told true false first
+syn_acks_cross m first now f =
+    let w = again_due (mirror m) first in
+    crosses (again_due m first) w (again_sent m m.mine.told false false first) (syn_ack_of (mirror m) first) (again_sent m m.mine.told true false first) now
+    (syn_ack_goes m first now f) (segment_due w Syn (first_is_syn_ack (mirror m) first (mirrored m f))) (syn_ack_comes m first now f)
 
-acks_cross : (here there : Endpoint) (isn other : ℕ) (first now : Moment) → isn < 2 ^ 32 → other < 2 ^ 32
-    → after_coming (after_event (again_sent here there isn other true false first) (Emits now)) (first_segment (again_sent there here other isn true false first)) now ≡ opened here there isn other
-acks_cross here there isn other first now fits other_fits =
-    let v = again_sent here there isn other true false first in
-    let w = again_sent there here other isn true false first in
-    crosses v w (again_sent here there isn other false true first) (ack_of there here other isn) (opened here there isn other) now
-    (ack_goes here there isn other first now fits other_fits) (segment_due w Ack (first_is_ack there here other isn first other_fits)) (ack_comes here there isn other first now fits other_fits)
+acks_cross : (m : Meeting) (first now : Moment) → Fits m
+    → after_coming (after_event (again_sent m m.mine.told true false first) (Emits now)) (first_segment (again_sent (mirror m) m.theirs.told true false first)) now ≡ opened m
+acks_cross m first now f =
+    let w = again_sent (mirror m) m.theirs.told true false first in
+    crosses (again_sent m m.mine.told true false first) w (again_sent m m.mine.wide false true first) (ack_of (mirror m)) (opened m) now
+    (ack_goes m first now f) (segment_due w Ack (first_is_ack (mirror m) first (mirrored m f))) (ack_comes m first now f)
 
-abbrev both_open : Endpoint → Endpoint → ℕ → ℕ → Moment → Moment → Ends
-both_open here there isn other one two = record { one = opened_actively small here there isn one; other = opened_actively small there here other two }
+-- the two of a meeting
+abbrev pair : (Meeting → View) → Meeting → Ends
+pair end m = record { one = end m; other = end (mirror m) }
 
-abbrev both_due : Endpoint → Endpoint → ℕ → ℕ → Moment → Ends
-both_due here there isn other first = record { one = again_due here there isn other first; other = again_due there here other isn first }
+-- what becomes of each becomes of both
+together : (m : Meeting) (v w : View) (end : Meeting → View) (now : Moment) → after_coming (after_event v (Emits now)) (first_segment w) now ≡ end m
+    → after_coming (after_event w (Emits now)) (first_segment v) now ≡ end (mirror m) → crossed (record { one = v; other = w }) now ≡ pair end m
+together m v w end now one other =
+    ap (λ x. record { one = x; other = after_coming (after_event w (Emits now)) (first_segment v) now }) one ∙ ap (λ x. record { one = end m; other = x }) other
 
-abbrev both_sent : Endpoint → Endpoint → ℕ → ℕ → Moment → Ends
-both_sent here there isn other first = record { one = again_sent here there isn other true false first; other = again_sent there here other isn true false first }
+abbrev both_open : Meeting → Moment → Moment → Ends
+both_open m one two = record { one = opening m one; other = opening (mirror m) two }
 
-first_crossing : (here there : Endpoint) (isn other : ℕ) (one two now : Moment) → isn < 2 ^ 32 → other < 2 ^ 32 → crossed (both_open here there isn other one two) now ≡ both_due here there isn other now
-first_crossing here there isn other one two now fits other_fits =
-    ap (λ v. record { one = v; other = after_coming (after_event (opened_actively small there here other two) (Emits now)) (first_segment (opened_actively small here there isn one)) now }) (syns_cross here there isn other one two now fits other_fits)
-    ∙ ap (λ w. record { one = again_due here there isn other now; other = w }) (syns_cross there here other isn two one now other_fits fits)
+first_crossing : (m : Meeting) (one two now : Moment) → Fits m → crossed (both_open m one two) now ≡ pair (λ m. again_due m now) m
+first_crossing m one two now f = together m (opening m one) (opening (mirror m) two) (λ m. again_due m now) now (syns_cross m one two now f) (syns_cross (mirror m) two one now (mirrored m f))
 
-second_crossing : (here there : Endpoint) (isn other : ℕ) (first now : Moment) → isn < 2 ^ 32 → other < 2 ^ 32 → crossed (both_due here there isn other first) now ≡ both_sent here there isn other first
-second_crossing here there isn other first now fits other_fits =
-    let v = again_due here there isn other first in
-    let w = again_due there here other isn first in
-    ap (λ x. record { one = x; other = after_coming (after_event w (Emits now)) (first_segment v) now }) (syn_acks_cross here there isn other first now fits other_fits)
-    ∙ ap (λ x. record { one = again_sent here there isn other true false first; other = x }) (syn_acks_cross there here other isn first now other_fits fits)
+second_crossing : (m : Meeting) (first now : Moment) → Fits m → crossed (pair (λ m. again_due m first) m) now ≡ pair (λ m. again_sent m m.mine.told true false first) m
+second_crossing m first now f =
+    together m (again_due m first) (again_due (mirror m) first) (λ m. again_sent m m.mine.told true false first) now (syn_acks_cross m first now f) (syn_acks_cross (mirror m) first now (mirrored m f))
 
-third_crossing : (here there : Endpoint) (isn other : ℕ) (first now : Moment) → isn < 2 ^ 32 → other < 2 ^ 32
-    → crossed (both_sent here there isn other first) now ≡ record { one = opened here there isn other; other = opened there here other isn }
-third_crossing here there isn other first now fits other_fits =
-    let v = again_sent here there isn other true false first in
-    let w = again_sent there here other isn true false first in
-    ap (λ x. record { one = x; other = after_coming (after_event w (Emits now)) (first_segment v) now }) (acks_cross here there isn other first now fits other_fits)
-    ∙ ap (λ x. record { one = opened here there isn other; other = x }) (acks_cross there here other isn first now other_fits fits)
+third_crossing : (m : Meeting) (first now : Moment) → Fits m → crossed (pair (λ m. again_sent m m.mine.told true false first) m) now ≡ pair opened m
+third_crossing m first now f =
+    together m (again_sent m m.mine.told true false first) (again_sent (mirror m) m.theirs.told true false first) opened now (acks_cross m first now f) (acks_cross (mirror m) first now (mirrored m f))
 
-answers : (here there : Endpoint) (isn other : ℕ) (first : Moment) → isn < 2 ^ 32 → other < 2 ^ 32 → AnswersSyn isn other (again_due here there isn other first)
-answers here there isn other first fits other_fits = record {
+all_crossings : (m : Meeting) (one two first second third : Moment) → Fits m → crossed (crossed (crossed (both_open m one two) first) second) third ≡ pair opened m
+all_crossings m one two first second third f =
+    ap (λ ends. crossed (crossed ends second) third) (first_crossing m one two first f) ∙ (ap (λ ends. crossed ends third) (second_crossing m first second f) ∙ third_crossing m first third f)
+
+answers : (m : Meeting) (first : Moment) → Fits m → AnswersSyn m.isn m.other (again_due m first)
+answers m first f = record {
   state = refl;
-  due = first_is_syn_ack here there isn other first fits;
+  due = first_is_syn_ack m first f;
   syn = refl;
   ack = refl;
   number = refl;
   expects = refl;
-  then_sent = λ now. ap (λ (v : View). v.sending.nxt) (syn_ack_goes here there isn other first now fits other_fits);
+  then_sent = λ now. ap (λ (v : View). v.sending.nxt) (syn_ack_goes m first now f);
 }
 
-has_opened : (here there : Endpoint) (isn other : ℕ) → other < 2 ^ 32 → HasOpened isn other (opened here there isn other)
-has_opened here there isn other fits = record { state = refl; una = refl; nxt = refl; expects = refl; due = none_left here there isn other fits }
+-- The rooms.
 
-pub both_answered : (here there : Endpoint) (isn other : ℕ) (one two first : Moment) → isn < 2 ^ 32 → other < 2 ^ 32
-    → (let ends = crossed (both_open here there isn other one two) first in AnswersSyn isn other ends.one × AnswersSyn other isn ends.other)
-both_answered here there isn other one two first fits other_fits =
-    subst (λ (ends : Ends). AnswersSyn isn other ends.one × AnswersSyn other isn ends.other) (sym (first_crossing here there isn other one two first fits other_fits))
-    (answers here there isn other first fits other_fits, answers there here other isn first other_fits fits)
+-- the options of a SYN
+abbrev options_in : Bool → List HeaderOption
+options_in scales = MaximumSegmentSize 1460 ∷ (if scales then NoOperation ∷ WindowScale 5 ∷ [] else [])
 
-pub both_opened : (here there : Endpoint) (isn other : ℕ) (one two first second third : Moment) → isn < 2 ^ 32 → other < 2 ^ 32
-    → (let ends = crossed (crossed (crossed (both_open here there isn other one two) first) second) third in HasOpened isn other ends.one × HasOpened other isn ends.other)
-both_opened here there isn other one two first second third fits other_fits =
-    let met = ap (λ ends. crossed (crossed ends second) third) (first_crossing here there isn other one two first fits other_fits)
-    ∙ (ap (λ ends. crossed ends third) (second_crossing here there isn other first second fits other_fits) ∙ third_crossing here there isn other first third fits other_fits) in
-    subst (λ (ends : Ends). HasOpened isn other ends.one × HasOpened other isn ends.other) (sym met) (has_opened here there isn other other_fits, has_opened there here other isn fits)
+-- windows are scaled where both offer it ..
+both_say : (mine theirs : Bool) → (mine && is_some (last_scale None (options_in theirs))) ≡ (mine && theirs)
+both_say mine true = refl
+both_say mine false = refl
+
+both_say_too : (mine theirs : Bool) → (mine && theirs) ≡ (theirs && mine)
+both_say_too true true = refl
+both_say_too true false = refl
+both_say_too false true = refl
+both_say_too false false = refl
+
+-- .. and then a unit is ours, since the shifts are the same
+unit_read : (mine theirs both : Bool) → (mine && theirs) ≡ both → peer_unit both (min (unwrap_or (last_scale None (options_in theirs)) 0) 14) ≡ own_unit both
+unit_read mine true both same = refl
+unit_read mine false true same = let bad = sym (and_false mine) ∙ same in cc
+unit_read mine false false same = refl
+
+size_read : (theirs : Bool) → min (max (unwrap_or (last_mss None (options_in theirs)) 536) 64) 1460 ≡ 1460
+size_read true = refl
+size_read false = refl
+
+-- as many octets count as where windows had always been so
+size_settled : (mine theirs both : Bool) (capacity : ℕ) → (mine && theirs) ≡ both → size_in both (size_in mine capacity) ≡ size_in both capacity
+size_settled mine theirs both capacity same = subst (λ b. size_in b (size_in mine capacity) ≡ size_in b capacity) same (settled_once mine theirs capacity)
+
+-- what 16 bits can tell of a buffer
+told_of : (scales : Bool) (capacity : ℕ) → min (size_in scales capacity - 0) 65535 ≡ min capacity 65535
+told_of true capacity = omega arith
+told_of false capacity = omega arith
+
+abbrev half_of : Bool → Room → Half
+half_of both room = let size = size_in both room.capacity in let told = min room.capacity 65535 in
+    record { room = room; size = size; told = told; wide = if nat_le (told + 1460) size then whole_units (own_unit both) size else told }
+
+abbrev meeting : Bool → Room → Room → Endpoint → Endpoint → ℕ → ℕ → Meeting
+meeting both room facing here there isn other =
+    record { scales = both; unit = own_unit both; mine = half_of both room; theirs = half_of both facing; here = here; there = there; isn = isn; other = other }
+
+-- the first window that is told is a step further than none
+syn_tells : (room : Room) → CanBeMade room → min (receive_window (after_syn_advertisement (receiving_nothing room))) 65535 ≡ min room.capacity 65535
+syn_tells room made =
+    let r = receiving_nothing room in
+    let told = min room.capacity 65535 in
+    ap (λ n. min (receive_window (if nat_le 1460 n then record r { edge = (0 + n) % 2 ^ 32 } else r)) 65535) (told_of room.scales room.capacity)
+    ∙ (ap (λ b. min (receive_window (if b then record r { edge = (0 + told) % 2 ^ 32 } else r)) 65535) (le-leb 1460 told (omega (arith, made.least))) ∙ omega arith)
+
+alike : (t : Settled) (scales : Bool) (sends peer takes own smss heard told : ℕ) → scales ≡ t.scales → sends ≡ t.sends → peer ≡ t.peer → takes ≡ t.takes → own ≡ t.own → smss ≡ t.smss → heard ≡ t.heard → told ≡ t.told
+    → record { scales = scales; sends = sends; peer = peer; takes = takes; own = own; smss = smss; heard = heard; told = told } ≡ t
+alike t scales sends peer takes own smss heard told a b c d e f g h = rw a (rw b (rw c (rw d (rw e (rw f (rw g (rw h refl)))))))
+
+settles : (both : Bool) (room facing : Room) (here there : Endpoint) (isn other : ℕ) → CanBeMade facing → (room.scales && facing.scales) ≡ both
+    → (let m = meeting both room facing here there isn other in read_of m ≡ settled m)
+settles both room facing here there isn other made say =
+    let m = meeting both room facing here there isn other in
+    let t = read_of m in
+    let same : t.scales ≡ both = both_say room.scales facing.scales ∙ say in
+    let size = ap (λ b. size_in b (size_of room)) same ∙ size_settled room.scales facing.scales both room.capacity say in
+    alike (settled m) t.scales t.sends t.peer t.takes t.own t.smss t.heard t.told
+    same size (ap (λ b. peer_unit b (shift_of (syn_of (mirror m)))) same ∙ unit_read room.scales facing.scales both say) size (ap own_unit same)
+    (size_read facing.scales) (syn_tells facing made) (told_of room.scales room.capacity)
+
+units : (both : Bool) → (0 < own_unit both) × (own_unit both ≤ 1460)
+units true = (omega arith, omega arith)
+units false = (omega arith, omega arith)
+
+-- a buffer is as large as was made, or as 16 bits can tell
+sizes : (both : Bool) (capacity : ℕ) → 1460 ≤ capacity → (min (size_in both capacity) 65535 ≡ min capacity 65535) × (size_in both capacity ≤ capacity)
+sizes true capacity least = (refl, omega arith)
+sizes false capacity least = (omega arith, omega arith)
+
+tells : (both : Bool) (room : Room) → CanBeMade room → Tells (own_unit both) (half_of both room)
+tells both room made =
+    let size = size_in both room.capacity in
+    let told = min room.capacity 65535 in
+    let whole = whole_units (own_unit both) size in
+    let unit = units both in
+    let filled = in_units (own_unit both) size unit.0 in
+    let sized = sizes both room.capacity made.least in
+    let wide : (let w = if nat_le (told + 1460) size then whole else told in (0 < w) × (w ≤ 1048576) × (size < w + 1460)) =
+    elim (leb_tells (told + 1460) size) [
+      | inl step ↦ subst (λ b. let w = if b then whole else told in (0 < w) × (w ≤ 1048576) × (size < w + 1460)) (sym step.0)
+          (omega (arith, unit.1, filled.1, step.1), omega (arith, filled.0, sized.1, made.most), omega (arith, unit.1, filled.1))
+      | inr none ↦ subst (λ b. let w = if b then whole else told in (0 < w) × (w ≤ 1048576) × (size < w + 1460)) (sym none.0)
+          (omega (arith, made.least), omega arith, none.1)
+    ] in
+    record {
+      offers = told_of room.scales room.capacity;
+      some = omega (arith, made.least);
+      few = omega arith;
+      again = sized.0;
+      widens = refl;
+      least = wide.0;
+      most = wide.1;
+      rest = wide.2;
+    }
+
+fits : (room facing : Room) (here there : Endpoint) (isn other : ℕ) → CanBeMade room → CanBeMade facing → isn < 2 ^ 32 → other < 2 ^ 32
+    → Fits (meeting (room.scales && facing.scales) room facing here there isn other)
+fits room facing here there isn other made made_there few other_few = let both = room.scales && facing.scales in record {
+  isn = few;
+  other = other_few;
+  mine = tells both room made;
+  theirs = tells both facing made_there;
+  settles = settles both room facing here there isn other made_there refl;
+  settles_there = settles both facing room there here other isn made (both_say_too facing.scales room.scales);
+}
+
+-- a mebibyte is told whole, and what 16 bits can tell
+all_told : (both : Bool) (told size : ℕ) → min size 65535 ≡ told → (size ≡ 65535) ⊎ ((size ≡ 1048576) × (both ≡ true)) → (if nat_le (told + 1460) size then whole_units (own_unit both) size else told) ≡ size
+all_told both told size same (inl small) =
+    ap (λ b. if b then whole_units (own_unit both) size else told) (lt-leb (told + 1460) size (omega (arith, same, small))) ∙ omega (arith, same, small)
+all_told true told size same (inr large) =
+    ap (λ b. if b then whole_units 32 size else told) (le-leb (told + 1460) size (omega (arith, same, large.0))) ∙ omega (arith, large.0)
+all_told false told size same (inr large) = cc
+
+has_opened : (both : Bool) (room facing : Room) (here there : Endpoint) (isn other : ℕ) → CanBeMade room
+    → (let m = meeting both room facing here there isn other in Fits m → HasOpened both room.capacity isn other (opened m))
+has_opened both room facing here there isn other made f =
+    let m = meeting both room facing here there isn other in
+    let window = window_is m m.mine.wide f.mine.most in
+    let sized = sizes both room.capacity made.least in
+    record {
+      state = refl;
+      una = refl;
+      nxt = refl;
+      expects = refl;
+      due = none_left m f;
+      scales = refl;
+      sends = refl;
+      takes = refl;
+      told = omega (arith, window, f.mine.rest);
+      whole = λ known. window ∙ all_told both m.mine.told m.mine.size sized.0 (elim known [ inl small ↦ inl small | inr large ↦ inr (large, where_large both room.capacity large) ]);
+    }
+  where
+    where_large : (both : Bool) (capacity : ℕ) → size_in both capacity ≡ 1048576 → both ≡ true
+    where_large true capacity large = refl
+    where_large false capacity large = absurd (omega (arith, large))
+
+knows : (m : Meeting) → Fits m → KnowsWindow (opened m) (opened (mirror m))
+knows m f = record { unit = refl; window = ap (whole_units m.unit) (sym (window_is (mirror m) m.theirs.wide f.theirs.most)) }
+
+pub both_answered : (here there : Endpoint) (room facing : Room) (isn other : ℕ) (one two first : Moment) → CanBeMade room → CanBeMade facing → isn < 2 ^ 32 → other < 2 ^ 32
+    → (let ends = crossed (record { one = opened_actively room here there isn one; other = opened_actively facing there here other two }) first in
+    let both = room.scales && facing.scales in AnswersSyn isn other ends.one × (ends.one.scales ≡ both) × AnswersSyn other isn ends.other × (ends.other.scales ≡ both))
+both_answered here there room facing isn other one two first made made_there few other_few =
+    let both = room.scales && facing.scales in
+    let m = meeting both room facing here there isn other in
+    let f = fits room facing here there isn other made made_there few other_few in
+    subst (λ (ends : Ends). AnswersSyn isn other ends.one × (ends.one.scales ≡ both) × AnswersSyn other isn ends.other × (ends.other.scales ≡ both)) (sym (first_crossing m one two first f))
+    (answers m first f, refl, answers (mirror m) first (mirrored m f), refl)
+
+pub both_opened : (here there : Endpoint) (room facing : Room) (isn other : ℕ) (one two first second third : Moment) → CanBeMade room → CanBeMade facing → isn < 2 ^ 32 → other < 2 ^ 32
+    → (let ends = crossed (crossed (crossed (record { one = opened_actively room here there isn one; other = opened_actively facing there here other two }) first) second) third in
+    let both = room.scales && facing.scales in HasOpened both room.capacity isn other ends.one × HasOpened both facing.capacity other isn ends.other)
+both_opened here there room facing isn other one two first second third made made_there few other_few =
+    let both = room.scales && facing.scales in
+    let m = meeting both room facing here there isn other in
+    let f = fits room facing here there isn other made made_there few other_few in
+    subst (λ (ends : Ends). HasOpened both room.capacity isn other ends.one × HasOpened both facing.capacity other isn ends.other) (sym (all_crossings m one two first second third f))
+    (has_opened both room facing here there isn other made f, has_opened both facing room there here other isn made_there (mirrored m f))
+
+pub both_know : (here there : Endpoint) (room facing : Room) (isn other : ℕ) (one two first second third : Moment) → CanBeMade room → CanBeMade facing → isn < 2 ^ 32 → other < 2 ^ 32
+    → (let ends = crossed (crossed (crossed (record { one = opened_actively room here there isn one; other = opened_actively facing there here other two }) first) second) third in
+    KnowsWindow ends.one ends.other × KnowsWindow ends.other ends.one)
+both_know here there room facing isn other one two first second third made made_there few other_few =
+    let m = meeting (room.scales && facing.scales) room facing here there isn other in
+    let f = fits room facing here there isn other made made_there few other_few in
+    subst (λ (ends : Ends). KnowsWindow ends.one ends.other × KnowsWindow ends.other ends.one) (sym (all_crossings m one two first second third f)) (knows m f, knows (mirror m) (mirrored m f))

@@ -33,7 +33,7 @@ ghost use Rattle.tcp_state.specs.Congestion.{KeepsCongestion, after_signal};
 ghost use Rattle.tcp_state.specs.Arrival.{opened_passively, fate, is_acceptable_to, is_receiving, is_read, is_duplicate, after_ack, after_heard, after_segment_at};
 ghost use Rattle.tcp_state.specs.Due.{MayGoOut, first_due, number_of, end_of, flags_of, octets_of, window_of, sends_again, again, after_emitted};
 ghost use Rattle.tcp_state.specs.Unreachable.{IsRefused};
-ghost use Rattle.tcp_state.specs.Simultaneous.{crossed, AnswersSyn, HasOpened};
+ghost use Rattle.tcp_state.specs.Simultaneous.{crossed, AnswersSyn, CanBeMade, HasOpened, KnowsWindow};
 ghost use Rattle.tcp_state.specs.Opening.{TellsShift, TakesSyn, OpenedBy, Confirmed};
 ghost use Rattle.tcp_state.specs.Said.{segment_of};
 ghost use Rattle.tcp_state.specs.Edges.{Event, after_event, fate_by, moment_of, state_after, IsEdge, ends_by, is_cause, may_raise, congestion_event_by};
@@ -328,14 +328,18 @@ pub fn hard_errors_end_openings_alone()
         → IsRefused (after_event v (Event.Unreachable v.sending.una)) × (fate_by v (Event.Unreachable v.sending.una) ≡ Fate.Stays) }
 {}
 
-/// Two connections that open to each other at the same time (RFC 9293 section 3.5, figure 7): once their SYNs crossed, a SYN-ACK is due at each, with the number
-/// of its SYN; once the SYN-ACKs crossed, and then what is due for them, both are open, and each expects the number behind the other's SYN.
+/// Two connections that open to each other at the same time (RFC 9293 section 3.5, figure 7), whatever buffers they have and whether either would scale its windows: once their SYNs crossed, a SYN-ACK is due at
+/// each, with the number of its SYN; once the SYN-ACKs crossed, and then what is due for them, both are open, and each expects the number behind the other's SYN. Windows are scaled at both where both
+/// SYNs offered that, and else at neither (RFC 7323 section 2.2), and each end knows the window of the other.
 pub fn simultaneous_openings_meet()
-    ensures answers { (here there : Endpoint) (isn other : ℕ) (one two first : Moment) → isn < 2 ^ 32 → other < 2 ^ 32
-        → (let ends = crossed (record { one = opened_actively (record { capacity = CAPACITY; scales = false }) here there isn one; other = opened_actively (record { capacity = CAPACITY; scales = false }) there here other two }) first in AnswersSyn isn other ends.one × AnswersSyn other isn ends.other) }
-    ensures opens { (here there : Endpoint) (isn other : ℕ) (one two first second third : Moment) → isn < 2 ^ 32 → other < 2 ^ 32
-        → (let ends = crossed (crossed (crossed (record { one = opened_actively (record { capacity = CAPACITY; scales = false }) here there isn one; other = opened_actively (record { capacity = CAPACITY; scales = false }) there here other two }) first) second) third in
-        HasOpened isn other ends.one × HasOpened other isn ends.other) }
+    ensures answers { (here there : Endpoint) (room facing : Room) (isn other : ℕ) (one two first : Moment) → CanBeMade room → CanBeMade facing → isn < 2 ^ 32 → other < 2 ^ 32
+        → (let ends = crossed (record { one = opened_actively room here there isn one; other = opened_actively facing there here other two }) first in
+        let both = room.scales && facing.scales in AnswersSyn isn other ends.one × (ends.one.scales ≡ both) × AnswersSyn other isn ends.other × (ends.other.scales ≡ both)) }
+    ensures opens { (here there : Endpoint) (room facing : Room) (isn other : ℕ) (one two first second third : Moment) → CanBeMade room → CanBeMade facing → isn < 2 ^ 32 → other < 2 ^ 32
+        → (let ends = crossed (crossed (crossed (record { one = opened_actively room here there isn one; other = opened_actively facing there here other two }) first) second) third in
+        let both = room.scales && facing.scales in HasOpened both room.capacity isn other ends.one × HasOpened both facing.capacity other isn ends.other) }
+    ensures windows { (here there : Endpoint) (room facing : Room) (isn other : ℕ) (one two first second third : Moment) → CanBeMade room → CanBeMade facing → isn < 2 ^ 32 → other < 2 ^ 32
+        → (let ends = crossed (crossed (crossed (record { one = opened_actively room here there isn one; other = opened_actively facing there here other two }) first) second) third in KnowsWindow ends.one ends.other × KnowsWindow ends.other ends.one) }
 {}
 
 /// The three steps of an opening (RFC 9293 section 3.5, figure 6): what a SYN opens at a listener is to answer that by a SYN-ACK; a SYN-ACK that acknowledges our SYN opens the connection, and is to be
