@@ -71,6 +71,7 @@ pub mod Shut
 pub mod MovedOctets
 pub mod Spoken
 pub mod ToldRoom
+pub mod LeftWindows
 pub mod OwedAlone
 pub mod Fewer
 pub mod Ordinary

@@ -1,22 +1,24 @@
 //! Laws of progress: what waits is brought, what comes is taken or acknowledged, and what is acknowledged is freed. Functions with nothing to do, whose contracts are the laws.
 
-ghost use Rattle.std.specs.Prelude.{◌≡◌, ℕ, ◌+◌, ◌*◌, ◌<◌, ◌≤◌, ◌||◌, ◌⊎◌, List, ◌++◌, [], length, drop, true, false, Some, None};
+ghost use Rattle.std.specs.Prelude.{◌≡◌, ℕ, ◌+◌, ◌*◌, ◌^◌, ◌<◌, ◌≤◌, ◌||◌, ◌⊎◌, List, ◌++◌, [], length, drop, true, false, Some, None};
 ghost use Rattle.tcp_segment.specs.Segment.{Segment};
 ghost use Rattle.tcp_segment.specs.Wire.{wire};
 ghost use Rattle.tcp_segment.specs.declared.TheConstants.{MSS};
 ghost use Rattle.clock.specs.declared.moment.Moment.{Moment};
-ghost use Rattle.tcp_halves.specs.Stream.{outstanding, receive_window};
+ghost use Rattle.ipv4.specs.declared.addr.Endpoint.{Endpoint};
+ghost use Rattle.tcp_halves.specs.Halves.{Room};
+ghost use Rattle.tcp_halves.specs.Stream.{size_of, outstanding, receive_window};
 ghost use Rattle.tcp_halves.specs.Windows.{receive_room};
 ghost use Rattle.tcp_state.specs.declared.emission.Due.{Due};
-ghost use Rattle.tcp_state.specs.View.{View, IsSound, is_opening, is_closed, is_time_wait, awaits_fin_ack};
+ghost use Rattle.tcp_state.specs.View.{View, IsSound, opened_actively, is_opening, is_closed, is_time_wait, awaits_fin_ack};
 ghost use Rattle.tcp_state.specs.Timing.{KeepsTime};
 ghost use Rattle.tcp_state.specs.Congestion.{KeepsCongestion};
-ghost use Rattle.tcp_state.specs.Arrival.{is_receiving, beyond_fin};
+ghost use Rattle.tcp_state.specs.Arrival.{opened_passively, is_receiving, beyond_fin};
 ghost use Rattle.tcp_state.specs.Due.{MayGoOut, first_due};
 ghost use Rattle.tcp_state.specs.Said.{segment_of};
 ghost use Rattle.tcp_state.specs.Duties.{acknowledges, Places, StandsAt};
 ghost use Rattle.tcp_state.specs.Edges.{Event, after_event};
-ghost use Rattle.tcp_state.specs.Progress.{AllCome, IsOrdinary, BringsOldest, IsAckAlone};
+ghost use Rattle.tcp_state.specs.Progress.{AllCome, IsOrdinary, BringsOldest, IsAckAlone, IsSized, LeavesAWindow};
 
 /// An open connection that has spoken, and of which nothing is due, has told its peer of its free room, but for less than a segment (RFC 1122 section 4.2.3.3, RFC 9293 section 3.8.6.2.2). So where all that came has been read, and
 /// there is room for two segments, a window of one is left at least.
@@ -24,6 +26,15 @@ pub fn quiet_readers_have_told_their_room()
     ensures told { (v : View) → (is_opening v.state || is_closed v.state) ≡ false → v.spoke ≡ true → first_due v ≡ None → receive_room v.receiving < receive_window v.receiving + MSS }
     ensures whole { (v : View) → (is_opening v.state || is_closed v.state) ≡ false → v.spoke ≡ true → first_due v ≡ None → v.receiving.readable ≡ [] → v.receiving.size < receive_window v.receiving + MSS }
     ensures wide { (v : View) → (is_opening v.state || is_closed v.state) ≡ false → v.spoke ≡ true → first_due v ≡ None → v.receiving.readable ≡ [] → 2 * MSS ≤ v.receiving.size → MSS ≤ receive_window v.receiving }
+{}
+
+/// An open connection of which nothing is due, and that has nothing to be read, leaves its peer a window of a segment at least, whether it has spoken or not, where its buffer has room for three segments and none that it heard had more
+/// octets than a segment may have. Before it speaks it has told its window by a SYN alone, and one segment with octets may come until an acknowledgement is owed (RFC 9293 section 3.8.6.3). So it is from its opening on, and over every event.
+pub fn quiet_readers_leave_a_window()
+    ensures active { (room : Room) (local peer : Endpoint) (isn : ℕ) (now : Moment) → 3 * MSS ≤ size_of room → LeavesAWindow (opened_actively room local peer isn now) }
+    ensures passive { (room : Room) (local peer : Endpoint) (isn : ℕ) (syn : Segment) (now : Moment) → isn < 2 ^ 32 → 3 * MSS ≤ size_of room → LeavesAWindow (opened_passively room local peer isn syn now) }
+    ensures event { (v : View) (e : Event) → IsSound v → IsSized e → LeavesAWindow v → LeavesAWindow (after_event v e) }
+    ensures quiet { (v : View) → LeavesAWindow v → (is_opening v.state || is_closed v.state) ≡ false → first_due v ≡ None → v.receiving.readable ≡ [] → MSS ≤ receive_window v.receiving }
 {}
 
 /// What is due first is one of the segments that may go out (RFC 9293 section 3.8).
