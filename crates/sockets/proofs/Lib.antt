@@ -54,6 +54,7 @@ pub mod Unheard
 pub mod SoundTicks
 pub mod HopTicks
 pub mod Near
+pub mod Leaving
 pub mod Telling
 pub mod OneEvent
 pub mod EachOnce

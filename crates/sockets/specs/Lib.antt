@@ -20,6 +20,7 @@ pub mod Traffic
 pub mod Names
 pub mod Offered
 pub mod Timing
+pub mod Leaving
 pub mod Steps
 pub mod Closing
 pub mod Strays

@@ -1,6 +1,6 @@
 //! Laws over the definitions alone: functions with nothing to do, whose contracts are the laws.
 
-ghost use Rattle.std.specs.Prelude.{◌≡◌, ◌⊎◌, ℕ, ◌+◌, ◌-◌, ◌%◌, ◌^◌, ◌≤◌, ◌<◌, ◌==◌, Bool, true, false, not, List, [], length, count_by, filter, find, Option, Some, None, Err, is_some, is_ok, option_map};
+ghost use Rattle.std.specs.Prelude.{◌≡◌, ◌⊎◌, ℕ, ◌+◌, ◌-◌, ◌*◌, ◌%◌, ◌^◌, ◌≤◌, ◌<◌, ◌==◌, ◌||◌, Bool, true, false, not, List, [], length, count_by, filter, find, Option, Some, None, Err, is_some, is_ok, option_map};
 ghost use Rattle.std.specs.List.{AllByRecursion};
 ghost use Rattle.ipv4.specs.declared.addr.Addr.{Addr};
 ghost use Rattle.udp_socket.specs.SocketView.{SocketView, with_sent};
@@ -12,13 +12,16 @@ ghost use Rattle.tcp_segment.specs.Segment.{Segment, FieldsFit};
 ghost use Rattle.tcp_segment.specs.Sent.{CanBeSent};
 ghost use Rattle.clock.specs.declared.moment.Moment.{Moment};
 ghost use Rattle.clock.specs.Moments.{has_come};
+ghost use Rattle.tcp_segment.specs.declared.TheConstants.{MSS};
+ghost use Rattle.tcp_halves.specs.Stream.{size_of, receive_window};
+ghost use Rattle.tcp_state.specs.Due.{first_due};
 ghost use Rattle.tcp_state.specs.Hop.{unheard_until};
-ghost use Rattle.tcp_state.specs.View.{View};
+ghost use Rattle.tcp_state.specs.View.{View, is_opening, is_closed};
 ghost use Rattle.tcp_state.specs.declared.calls.Refusal.{Refusal as Error};
 ghost use Rattle.sockets.specs.declared.entry.SocketId.{SocketId};
 ghost use Rattle.sockets.specs.declared.entry.Entry.{Entry};
 ghost use Rattle.sockets.specs.Entries.{is_listening_at, is_waiting_at, backlog_of};
-ghost use Rattle.sockets.specs.SocketsView.{SocketsView, holder_id, new_sockets, later_moment, role_of};
+ghost use Rattle.sockets.specs.SocketsView.{SocketsView, holder_id, new_sockets, later_moment, role_of, room_of};
 ghost use Rattle.sockets.specs.Ticks.{after_tick, least_deadline, IsLeastDeadline, HasNoDeadline};
 ghost use Rattle.sockets.specs.Lost.{role_after_giving_up, after_giving_up, waiting_resets, waits_still};
 ghost use Rattle.sockets.specs.Arrival.{Opens, NoRoom, Answers, local_end, peer_end, arrival, opened_by, pair_opened};
@@ -29,6 +32,7 @@ ghost use Rattle.sockets.specs.Calls.{refusal_of, connect_refusal, after_connect
 ghost use Rattle.sockets.specs.Pairs.{socket_pair};
 ghost use Rattle.sockets.specs.Sound.{IsSoundTable, NoneIsOver};
 ghost use Rattle.sockets.specs.Timing.{EachKeepsTime, IsNumbered, AreSound, IsNear, AreNear, IsUpTo};
+ghost use Rattle.sockets.specs.Leaving.{EachLeavesAWindow, IsSized};
 ghost use Rattle.sockets.specs.Ports.{first_port, IsDynamic, IsFirstBehind};
 ghost use Rattle.sockets.specs.declared.calls.TheConstants.{MOST_BACKLOG};
 ghost use Rattle.sockets.specs.declared.table.TheConstants.{ENTRIES};
@@ -106,6 +110,16 @@ pub fn timers_lie_near()
     ensures kept { (h : SocketsView) (e : Event) → IsSoundTable h → let after = after_event h e in IsUpTo after.kept e → AreNear h.kept h → AreNear after.kept after }
     ensures hop { (c : View) (latest until : Moment) → IsNear latest c → unheard_until c ≡ Some until → until.0 ≤ latest.0 + 483000 }
     ensures deadline { (h : SocketsView) (latest moment : Moment) → AreNear latest h → least_deadline h ≡ Some moment → moment.0 ≤ latest.0 + 240000 }
+{}
+
+/// An open connection of which nothing is due, and that has nothing to be read, leaves its peer a window of a segment at least, whether it has spoken or not: so it is in a new table, and over each event that makes no socket of less room
+/// than a host's, and brings no segment of more octets than a segment may have (RFC 9293 sections 3.8.6.2.2 and 3.8.6.3).
+pub fn quiet_readers_leave_a_window()
+    ensures fresh { (addr : Addr) (scales : Bool) → EachLeavesAWindow (new_sockets addr scales) }
+    ensures room { (scales : Bool) → 3 * MSS ≤ size_of (room_of scales) }
+    ensures event { (h : SocketsView) (e : Event) → IsSoundTable h → IsNumbered e → IsSized e → EachLeavesAWindow h → EachLeavesAWindow (after_event h e) }
+    ensures quiet { (h : SocketsView) (id : SocketId) (c : View) (listener : Option SocketId) → EachLeavesAWindow h → role_of h id ≡ Some (Connected c listener) → (is_opening c.state || is_closed c.state) ≡ false → first_due c ≡ None
+        → c.receiving.readable ≡ [] → MSS ≤ receive_window c.receiving }
 {}
 
 /// No socket is given up with what can't go out: each id names what it named, a UDP socket without the datagrams that it gives up, and a connection that ended, in CLOSED. (What a listener opened is a
