@@ -1,4 +1,5 @@
 pub mod Streams
+pub mod Calls
 pub mod Passages
 pub mod Told
 pub mod Time

@@ -4,10 +4,12 @@ ghost use Rattle.std.specs.Prelude.{◌≡◌, ℕ, ◌≤◌, Bool, true, List,
 ghost use Rattle.std.specs.Io.{ReadsAtMost, WritesAtMost};
 ghost use Rattle.std.specs.Io.KnownBytes.{Appends, Keeps, ReadConsumes, WriteAppends};
 ghost use Rattle.devices.specs.Streams.{counted, write_fails, written_on, handed_on, ReadGives, TakesFront};
+ghost use Rattle.devices.specs.Calls.{end_of, IsMadeAgain};
 
 pub mod memory;
 
-use std::io::{Error, ErrorKind, Read, Result, Write};
+use crate::calls::{self, Reader, Writer};
+use std::io::{Error, ErrorKind, Result};
 
 /// Gives octets, as std's `Read` does, and counts its failures.
 pub trait Source {
@@ -81,7 +83,8 @@ pub fn write_all<W: Sink>(sink: &mut W, octets: &[u8]) -> Result<()>
     Ok(())
 }
 
-/// A reader of std, as an open file: of its octets it makes known what the reader does.
+/// A reader of std, as an open file: of its octets it makes known what the reader does. A read that a signal interrupted is made again, 64 times in a
+/// row at most; then it failed.
 #[derive(Debug, Drop)]
 pub struct Reading<R> {
     reader: R,
@@ -101,13 +104,19 @@ impl<R> Reading<R> {
     }
 }
 
-impl<R: Read> Source for Reading<R> {
+impl<R: Reader> Source for Reading<R> {
     ghost failures = { λ source. source.failures };
 
     ghost remaining = { λ source. R.remaining source.reader };
 
-    fn read(&mut self, buffer: &mut [u8]) -> Result<usize> {
-        let outcome = self.reader.read(buffer);
+    fn read(&mut self, buffer: &mut [u8]) -> Result<usize>
+        ensures bound { ReadsAtMost result buffer.new }
+        ensures failures { self.new.failures ≡ counted (is_err result) self.old.failures }
+        ensures given { ReadGives None None result buffer.new }
+        ensures remaining { ReadConsumes (R.remaining self.old.reader) (R.remaining self.new.reader) result buffer.new }
+        ensures ends { IsMadeAgain (R.ends self.old.reader) (R.ends self.new.reader) (end_of result) }
+    {
+        let outcome = calls::read(&mut self.reader, buffer);
         if outcome.is_err() {
             self.failures = self.failures.saturating_add(1);
         }
@@ -119,7 +128,8 @@ impl<R: Read> Source for Reading<R> {
     }
 }
 
-/// A writer of std, as standard output: of its octets it makes known what the writer does.
+/// A writer of std, as standard output: of its octets it makes known what the writer does. A write or a flush that a signal interrupted is made again, 64
+/// times in a row at most; then it failed.
 #[derive(Debug, Drop)]
 pub struct Writing<W> {
     writer: W,
@@ -142,15 +152,21 @@ impl<W> Writing<W> {
     }
 }
 
-impl<W: Write> Sink for Writing<W> {
+impl<W: Writer> Sink for Writing<W> {
     ghost failures = { λ sink. sink.failures };
 
     ghost taken = { λ sink. W.contents sink.writer };
 
     ghost is_flushed = { λ sink. sink.is_flushed };
 
-    fn write(&mut self, octets: &[u8]) -> Result<usize> {
-        let outcome = self.writer.write(octets);
+    fn write(&mut self, octets: &[u8]) -> Result<usize>
+        ensures bound { WritesAtMost result octets.now }
+        ensures failures { self.new.failures ≡ counted (write_fails result octets.now) self.old.failures }
+        ensures taken { WriteAppends (W.contents self.old.writer) (W.contents self.new.writer) result octets.now }
+        ensures flushed { self.new.is_flushed ≡ written_on result self.old.is_flushed }
+        ensures ends { IsMadeAgain (W.ends self.old.writer) (W.ends self.new.writer) (end_of result) }
+    {
+        let outcome = calls::write(&mut self.writer, octets);
         match outcome {
             Ok(0) if octets.is_empty() => {}
             Ok(count) if count > 0 => self.is_flushed = false,
@@ -159,8 +175,13 @@ impl<W: Write> Sink for Writing<W> {
         outcome
     }
 
-    fn flush(&mut self) -> Result<()> {
-        let outcome = self.writer.flush();
+    fn flush(&mut self) -> Result<()>
+        ensures failures { self.new.failures ≡ counted (is_err result) self.old.failures }
+        ensures taken { Keeps (W.contents self.old.writer) (W.contents self.new.writer) }
+        ensures flushed { self.new.is_flushed ≡ handed_on result self.old.is_flushed }
+        ensures ends { IsMadeAgain (W.ends self.old.writer) (W.ends self.new.writer) (end_of result) }
+    {
+        let outcome = calls::flush(&mut self.writer);
         match outcome {
             Ok(()) => self.is_flushed = true,
             Err(_) => self.failures = self.failures.saturating_add(1),

@@ -5,11 +5,13 @@
 mod every;
 mod link;
 mod losses;
+mod machine;
 mod peer;
 mod socket;
 
 pub use every::{Every, LEAST_STEP, MOST_STEP};
 pub use link::SocketLink;
 pub use losses::{Fate, Losses};
+pub use machine::MachineSocket;
 pub use peer::{PeerSocket, pair};
 pub use socket::DatagramSocket;

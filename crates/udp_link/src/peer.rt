@@ -1,25 +1,31 @@
 //! A UDP socket of the machine that knows its peer.
 
-ghost use Rattle.std.specs.Prelude.{◌≡◌, IfOk};
+ghost use Rattle.std.specs.Prelude.{◌≡◌, ◌≤◌, None, is_err, IfOk, IfSome};
+ghost use Rattle.devices.specs.Calls.{end_of};
+ghost use Rattle.devices.specs.Streams.{counted};
+ghost use Rattle.udp_link.specs.Datagrams.{Sends, Receives};
+ghost use Rattle.udp_link.specs.Machine.{IsAsked, IsAskedLast};
 
+use crate::machine::{self, MachineSocket};
 use crate::socket::DatagramSocket;
 use ether::FRAME_MAX;
 use std::io::{ErrorKind, Result};
 use std::net::{Ipv4Addr, Net, SocketAddr, UdpSocket};
 
 /// The most datagrams of others that one call passes over.
-const MOST_STRANGERS: usize = 64;
+const MOST_STRANGERS: u32 = 64;
 
-/// A UDP socket of the machine that sends to its peer alone, and passes over the datagrams of others.
+/// A UDP socket of the machine that sends to its peer alone, and passes over the datagrams of others. A call that a signal interrupted is made again, 64
+/// times in a row at most; then it failed.
 #[derive(Debug, Drop)]
-pub struct PeerSocket {
-    socket: UdpSocket,
+pub struct PeerSocket<S> {
+    socket: S,
     peer: SocketAddr,
     failures: u64,
 }
 
 /// Two sockets on 127.0.0.1, each with the other as its peer. No call of theirs waits.
-pub fn pair<N: Net>(net: &N) -> Result<(PeerSocket, PeerSocket)>
+pub fn pair<N: Net>(net: &N) -> Result<(PeerSocket<UdpSocket>, PeerSocket<UdpSocket>)>
     ensures { IfOk result (λ sockets. (sockets.0.failures ≡ 0) × (sockets.1.failures ≡ 0)) }
 {
     let (a, b) = (bound(net)?, bound(net)?);
@@ -34,10 +40,11 @@ fn bound<N: Net>(net: &N) -> Result<UdpSocket> {
     Ok(socket)
 }
 
-impl PeerSocket {
+impl<S> PeerSocket<S> {
     /// A socket whose peer is here, with no failure so far.
-    fn new(socket: UdpSocket, peer: SocketAddr) -> PeerSocket
-        ensures { result.failures ≡ 0 }
+    pub fn new(socket: S, peer: SocketAddr) -> Self
+        ensures socket { (result.socket ≡ socket) × (result.peer ≡ peer) }
+        ensures failures { result.failures ≡ 0 }
     {
         PeerSocket {
             socket,
@@ -54,12 +61,16 @@ impl PeerSocket {
     }
 }
 
-impl DatagramSocket for PeerSocket {
+impl<S: MachineSocket> DatagramSocket for PeerSocket<S> {
     ghost failures = { λ socket. socket.failures };
 
     /// One that the machine has no room for now is lost.
-    fn send(&mut self, datagram: &[u8]) -> Result<()> {
-        match self.socket.send_to(datagram, self.peer) {
+    fn send(&mut self, datagram: &[u8]) -> Result<()>
+        ensures failures { self.new.failures ≡ counted (is_err result) self.old.failures }
+        ensures sent { Sends None None result datagram.now }
+        ensures asked { IsAsked (S.ends self.old.socket) (S.ends self.new.socket) (end_of result) }
+    {
+        match machine::send(&mut self.socket, datagram, self.peer) {
             Ok(_) => Ok(()),
             Err(error) if error.kind() == ErrorKind::WouldBlock => Ok(()),
             Err(error) => {
@@ -69,11 +80,17 @@ impl DatagramSocket for PeerSocket {
         }
     }
 
-    fn recv(&mut self, buffer: &mut [u8; FRAME_MAX]) -> Result<Option<usize>> {
-        for _ in 0..MOST_STRANGERS {
-            match self.socket.recv_from(buffer) {
+    fn recv(&mut self, buffer: &mut [u8; FRAME_MAX]) -> Result<Option<usize>>
+        ensures bound { IfOk result (λ given. IfSome given (λ len. len ≤ FRAME_MAX)) }
+        ensures failures { self.new.failures ≡ counted (is_err result) self.old.failures }
+        ensures received { Receives None None result buffer.new }
+        ensures asked { IsAskedLast (S.ends self.old.socket) (S.ends self.new.socket) (end_of result) }
+    {
+        let mut strangers = 0;
+        while strangers < MOST_STRANGERS {
+            match machine::recv(&mut self.socket, buffer) {
                 Ok((len, source)) if source == self.peer => return Ok(Some(len)),
-                Ok(_) => {}
+                Ok(_) => strangers += 1,
                 Err(error) if error.kind() == ErrorKind::WouldBlock => return Ok(None),
                 Err(error) => {
                     self.failures = self.failures.saturating_add(1);
