@@ -12,6 +12,7 @@ pub mod Messages
 pub mod Reporting
 pub mod Gathering
 pub mod Unusable
+pub mod Sized
 pub mod Tables
 pub mod Ran
 pub mod FrameSide

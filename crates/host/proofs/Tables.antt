@@ -1,5 +1,5 @@
 -- What the events of a host make of its table: that is reached by events of the table, none of them refused, and its connections keep time.
-use Rattle.std.proofs.Common.{◌≡◌, ℕ, ◌+◌, ◌≤◌, ◌<◌, ◌^◌, not, Bool, true, false, List, [], ◌∷◌, ◌++◌, Option, Some, None, Result, Ok, Err, refl, sym, ◌∙◌, ap, subst, arith}
+use Rattle.std.proofs.Common.{◌≡◌, ℕ, ◌+◌, ◌≤◌, ◌<◌, ◌^◌, not, Bool, true, false, List, [], ◌∷◌, ◌++◌, length, Option, Some, None, Result, Ok, Err, refl, sym, ◌∙◌, ap, subst, arith}
 use Rattle.std.specs.List.{AllByRecursion}
 use Rattle.std.proofs.lemmas.Bool.{and_parts}
 use Rattle.ipv4.specs.declared.addr.Addr.{Addr}
@@ -10,6 +10,7 @@ use Rattle.udp.specs.Datagram.{UserDatagram}
 use Rattle.udp.specs.Reading.{datagram_or_fault}
 use Rattle.clock.specs.declared.moment.Moment.{Moment}
 use Rattle.tcp_segment.specs.Segment.{Segment}
+use Rattle.tcp_segment.specs.declared.TheConstants.{MSS}
 use Rattle.frames.specs.declared.drop.DropCause.{DropCause}
 use Rattle.frames.specs.declared.meaning.Control.{Control}
 use Rattle.frames.specs.declared.meaning.Meaning.{Meaning}
@@ -38,8 +39,11 @@ use Rattle.sockets.specs.Order.{IsOrdered, IsAllowed}
 use Rattle.sockets.specs.Sound.{IsSoundTable, NoneIsOver}
 use Rattle.sockets.specs.Timing.{EachKeepsTime, AreNear}
 use Rattle.sockets.specs.Timing as timing
+use Rattle.sockets.specs.Leaving.{EachLeavesAWindow}
+use Rattle.sockets.specs.Leaving as leaving
 use Rattle.sockets.specs.SocketsView.{SocketsView, later_moment, new_sockets, role_of}
 use Rattle.sockets.specs.Ticks.{least_deadline}
+use Rattle.sockets.proofs.Leaving.{each_leaves, fresh_leaves}
 use Rattle.sockets.proofs.Led.{led_nowhere, led_by, led_on, further, reached_by, reached_ordered, reached_over}
 use Rattle.sockets.proofs.Near.{each_near, fresh_near, deadline_near}
 use Rattle.sockets.proofs.Numbered.{address_stays, scale_stays, never_back}
@@ -52,48 +56,53 @@ use Rattle.host.specs.ConfigView.{ConfigView}
 use Rattle.host.specs.Emission.{Emission, Replies, Sends, Asks, Nothing, left_by, emission, goes_out_from}
 use Rattle.host.specs.HostView.{HostView, with_pool, with_sockets}
 use Rattle.host.specs.Messages.{Told, Asks as AsksForEcho, Refuses, Nothing as TellsNothing, told_by}
-use Rattle.host.specs.Runs.{Event, Calls, Ticks, Delivers, Emits, IsNumbered, IsUpTo, Makes, LeadOn, Runs, Begins, GoesOn, HasRun}
+use Rattle.host.specs.Runs.{Event, Calls, Ticks, Delivers, Emits, IsNumbered, IsUpTo, IsSized, Makes, LeadOn, Runs, Begins, GoesOn, HasRun}
 use Rattle.host.specs.Sound.{IsSoundHost}
 use Rattle.host.specs.Ticks.{lacks_hop}
+use Rattle.host.proofs.Sized.{segments_fit}
 
 -- who may send to a host is another
 another : (own source : Addr) → may_send own source ≡ true → same_addr source own ≡ false
 another own source may = not_true (same_addr source own) (and_parts (is_unicast source) (not (same_addr source own)) may).1
 
--- What an event of a host makes of its table: nothing, what one event of the table makes of it, or what a tick does. None of them names a moment behind those
--- that bound the event's own.
-data IsStep (h : SocketsView) (Bounds : Moment → Type 0) : SocketsView → Type 0 where
-  stays : IsStep h Bounds h
-  steps : (e : table.Event) → IsAllowed h e → timing.IsNumbered e → ((latest : Moment) → Bounds latest → timing.IsUpTo latest e) → IsStep h Bounds (after_event h e)
-  ticks : (lost : Addr → Bool) (moment : Moment) → ((latest : Moment) → Bounds latest → moment.0 ≤ latest.0) → IsStep h Bounds (after_giving_up (after_event h (table.Ticks moment)) lost moment)
-
 -- a moment is this one at the latest
 abbrev IsBy : Moment → Moment → Type 0
 IsBy moment latest = moment.0 ≤ latest.0
 
+-- What an event of a host makes of its table: nothing, what one event of the table makes of it, or what a tick does. None of them names a moment behind those
+-- that bound the event's own, and its sizes are such as leave windows where the event's own are.
+data IsStep (h : SocketsView) (Bounds : Moment → Type 0) (Sized : Type 0) : SocketsView → Type 0 where
+  stays : IsStep h Bounds Sized h
+  steps : (e : table.Event) → IsAllowed h e → timing.IsNumbered e → ((latest : Moment) → Bounds latest → timing.IsUpTo latest e) → (Sized → leaving.IsSized e) → IsStep h Bounds Sized (after_event h e)
+  ticks : (lost : Addr → Bool) (moment : Moment) → ((latest : Moment) → Bounds latest → moment.0 ≤ latest.0) → IsStep h Bounds Sized (after_giving_up (after_event h (table.Ticks moment)) lost moment)
+
+-- that of a host's own events, whose sizes are
+abbrev IsOwnStep : SocketsView → Moment → SocketsView → Type 0
+IsOwnStep h moment new = IsStep h (IsBy moment) (Unit {0}) new
+
 -- that of a host that is this one
-step-to : {Bounds : Moment → Type 0} (h left new : HostView) → new ≡ left → IsStep h.sockets Bounds left.sockets → IsStep h.sockets Bounds new.sockets
-step-to {Bounds = Bounds} h left new is step = subst (λ (w : HostView). IsStep h.sockets Bounds w.sockets) (sym is) step
+step-to : {Bounds : Moment → Type 0} {Sized : Type 0} (h left new : HostView) → new ≡ left → IsStep h.sockets Bounds Sized left.sockets → IsStep h.sockets Bounds Sized new.sockets
+step-to {Bounds = Bounds} {Sized = Sized} h left new is step = subst (λ (w : HostView). IsStep h.sockets Bounds Sized w.sockets) (sym is) step
 
 -- A segment from another address.
 
-segment-leads : (h : HostView) (moment : Moment) (isn : ℕ) (source : Addr) (s : Segment) (answer : Result (Unit {0}) DropCause) (new : HostView) → isn < 2 ^ 32 → same_addr source h.sockets.addr ≡ false
-    → MeetsSegment (segment_arrival h moment isn source s) h moment source answer new → IsStep h.sockets (IsBy moment) new.sockets
-segment-leads h moment isn source s answer new small apart met = by_arrival (arrival h.sockets moment isn source s) refl met
+segment-leads : (h : HostView) (moment : Moment) (isn : ℕ) (source : Addr) (s : Segment) (answer : Result (Unit {0}) DropCause) (new : HostView) → isn < 2 ^ 32 → length s.octets ≤ MSS → same_addr source h.sockets.addr ≡ false
+    → MeetsSegment (segment_arrival h moment isn source s) h moment source answer new → IsOwnStep h.sockets moment new.sockets
+segment-leads h moment isn source s answer new small few apart met = by_arrival (arrival h.sockets moment isn source s) refl met
   where
-    heard : (next : SocketsView) → after_arrival h.sockets (arrival h.sockets moment isn source s) ≡ next → IsStep h.sockets (IsBy moment) next
-    heard next is = subst (IsStep h.sockets (IsBy moment)) is (steps (table.Hears moment isn source s) apart small (λ latest by. by))
+    heard : (next : SocketsView) → after_arrival h.sockets (arrival h.sockets moment isn source s) ≡ next → IsOwnStep h.sockets moment next
+    heard next is = subst (IsOwnStep h.sockets moment) is (steps (table.Hears moment isn source s) apart small (λ latest by. by) (λ own. few))
 
     opened : (next : SocketsView) → arrival h.sockets moment isn source s ≡ Opens next → (r : Result (Unit {0}) DropCause)
-        → MeetsSegment (Opens next) h moment source r new → IsStep h.sockets (IsBy moment) new.sockets
+        → MeetsSegment (Opens next) h moment source r new → IsOwnStep h.sockets moment new.sockets
     opened next is (Ok done) met = step-to h (with_sockets h next) new met (heard next (ap (after_arrival h.sockets) is))
     opened next is (Err cause) met = step-to h h new met.1 stays
 
-    by_route : (next : SocketsView) → arrival h.sockets moment isn source s ≡ Opens next → (routed : Bool) → MeetsSegment (arrival_by_route routed (Opens next)) h moment source answer new → IsStep h.sockets (IsBy moment) new.sockets
+    by_route : (next : SocketsView) → arrival h.sockets moment isn source s ≡ Opens next → (routed : Bool) → MeetsSegment (arrival_by_route routed (Opens next)) h moment source answer new → IsOwnStep h.sockets moment new.sockets
     by_route next is true met = opened next is answer met
     by_route next is false met = step-to h h new met.1 stays
 
-    by_arrival : (a : Arrival) → arrival h.sockets moment isn source s ≡ a → MeetsSegment (arrival_by_route (is_routed h.interface source) a) h moment source answer new → IsStep h.sockets (IsBy moment) new.sockets
+    by_arrival : (a : Arrival) → arrival h.sockets moment isn source s ≡ a → MeetsSegment (arrival_by_route (is_routed h.interface source) a) h moment source answer new → IsOwnStep h.sockets moment new.sockets
     by_arrival (Becomes next) is met = step-to h (with_sockets h next) new met.1 (heard next (ap (after_arrival h.sockets) is))
     by_arrival (Opens next) is met = by_route next is (is_routed h.interface source) met
     by_arrival NoRoomInTable is met = step-to h h new met.1 stays
@@ -101,39 +110,39 @@ segment-leads h moment isn source s answer new small apart met = by_arrival (arr
 
 -- A UDP datagram, whole or put together.
 
-user-leads : (h : HostView) (to : Reception) (moment : Moment) (source : Addr) (d : UserDatagram) (quote : List ℕ) → IsStep h.sockets (IsBy moment) (let left = after_user_datagram to h moment source d quote in left.sockets)
-user-leads h socket.Queued moment source d quote = steps (table.HearsDatagram source d) tt tt (λ latest by. tt)
+user-leads : (h : HostView) (to : Reception) (moment : Moment) (source : Addr) (d : UserDatagram) (quote : List ℕ) → IsOwnStep h.sockets moment (let left = after_user_datagram to h moment source d quote in left.sockets)
+user-leads h socket.Queued moment source d quote = steps (table.HearsDatagram source d) tt tt (λ latest by. tt) (λ own. tt)
 user-leads h socket.NoRoom moment source d quote = stays
 user-leads h socket.NoSocket moment source d quote = stays
 
-payload-leads : (h : HostView) (read : Result UserDatagram UdpFault) (moment : Moment) (source : Addr) (quote : List ℕ) → IsStep h.sockets (IsBy moment) (let left = after_payload read h moment source quote in left.sockets)
+payload-leads : (h : HostView) (read : Result UserDatagram UdpFault) (moment : Moment) (source : Addr) (quote : List ℕ) → IsOwnStep h.sockets moment (let left = after_payload read h moment source quote in left.sockets)
 payload-leads h (Ok d) moment source quote = user-leads h (reception h.sockets d) moment source d _
 payload-leads h (Err fault) moment source quote = stays
 
-outcome-leads : (h : HostView) (outcome : Outcome) (moment : Moment) (d : Datagram) → IsStep h.sockets (IsBy moment) (let left = after_outcome outcome h moment d in left.sockets)
+outcome-leads : (h : HostView) (outcome : Outcome) (moment : Moment) (d : Datagram) → IsOwnStep h.sockets moment (let left = after_outcome outcome h moment d in left.sockets)
 outcome-leads h (Waits r) moment d = stays
 outcome-leads h GivesUp moment d = stays
 outcome-leads h (Completes payload quote) moment d = payload-leads h (datagram_or_fault d.source d.destination payload) moment d.source quote
 
-fragment-leads : (h : HostView) (outcome : Option Outcome) (moment : Moment) (d : Datagram) (answer : Result (Unit {0}) DropCause) (new : HostView) → MeetsFragment outcome h moment d answer new → IsStep h.sockets (IsBy moment) new.sockets
+fragment-leads : (h : HostView) (outcome : Option Outcome) (moment : Moment) (d : Datagram) (answer : Result (Unit {0}) DropCause) (new : HostView) → MeetsFragment outcome h moment d answer new → IsOwnStep h.sockets moment new.sockets
 fragment-leads h None moment d answer new met = step-to h h new met.1 stays
 fragment-leads h (Some outcome) moment d answer new met = step-to h _ new met.1 (outcome-leads (with_pool h (after_take moment d h.pool)) outcome moment d)
 
 -- A message.
 
-message-leads : (h : HostView) (told : Told) (moment : Moment) (c : Control) (answer : Result (Unit {0}) DropCause) (new : HostView) → MeetsMessage told h moment c answer new → IsStep h.sockets (IsBy moment) new.sockets
+message-leads : (h : HostView) (told : Told) (moment : Moment) (c : Control) (answer : Result (Unit {0}) DropCause) (new : HostView) → MeetsMessage told h moment c answer new → IsOwnStep h.sockets moment new.sockets
 message-leads h AsksForEcho moment c answer new met = step-to h _ new met.1 stays
-message-leads h (Refuses quote) moment c answer new met = step-to h _ new met.1 (steps (table.Unreachable quote.source quote.destination quote.number) tt tt (λ latest by. tt))
+message-leads h (Refuses quote) moment c answer new met = step-to h _ new met.1 (steps (table.Unreachable quote.source quote.destination quote.number) tt tt (λ latest by. tt) (λ own. tt))
 message-leads h TellsNothing moment c answer new met = step-to h h new met.1 stays
 
 -- A frame.
 
 heard-leads : (h : HostView) (moment : Moment) (isn : ℕ) (octets : List ℕ) (answer : Result (Unit {0}) DropCause) (new : HostView) → isn < 2 ^ 32 → h.interface.addr ≡ h.sockets.addr → (m : Result Meaning DropCause) → heard_by h octets ≡ m
-    → MeetsHeard m h moment isn answer new → IsStep h.sockets (IsBy moment) new.sockets
+    → MeetsHeard m h moment isn answer new → IsOwnStep h.sockets moment new.sockets
 heard-leads h moment isn octets answer new small own (Ok (Arp packet)) is met = step-to h _ new met.1 stays
 heard-leads h moment isn octets answer new small own (Ok (Tcp r)) is met =
     let other : may_send h.sockets.addr r.source ≡ true = subst (λ (a : Addr). may_send a r.source ≡ true) own (from_others h.interface.mac h.interface.addr octets r is) in
-    segment-leads h moment isn r.source r.segment answer new small (another h.sockets.addr r.source other) met
+    segment-leads h moment isn r.source r.segment answer new small (segments_fit h.interface.mac h.interface.addr octets r is) (another h.sockets.addr r.source other) met
 heard-leads h moment isn octets answer new small own (Ok (Icmp c)) is met = message-leads h (told_by c.message) moment c answer new met
 heard-leads h moment isn octets answer new small own (Ok (Udp r)) is met = step-to h _ new met.1 (user-leads h (reception h.sockets r.datagram) moment r.carrier.source r.datagram _)
 heard-leads h moment isn octets answer new small own (Ok (UdpFragment d)) is met = fragment-leads h (fragment_outcome moment d h.pool) moment d answer new met
@@ -142,9 +151,9 @@ heard-leads h moment isn octets answer new small own (Err cause) is met = step-t
 
 -- Any event.
 
-emission-leads : (h : HostView) (moment : Moment) (x : Emission) → IsStep h.sockets (IsBy moment) (let left = left_by h moment x in left.sockets)
+emission-leads : (h : HostView) (moment : Moment) (x : Emission) → IsOwnStep h.sockets moment (let left = left_by h moment x in left.sockets)
 emission-leads h moment (Replies place) = stays
-emission-leads h moment (Sends mac to) = steps (table.Emits (goes_out_from h moment) moment) tt tt (λ latest by. by)
+emission-leads h moment (Sends mac to) = steps (table.Emits (goes_out_from h moment) moment) tt tt (λ latest by. by) (λ own. tt)
 emission-leads h moment (Asks hop) = stays
 emission-leads h moment Nothing = stays
 
@@ -155,8 +164,8 @@ Bounds h (Ticks now) = IsBy (later_moment h.sockets now)
 Bounds h (Delivers now isn octets) = IsBy (later_moment h.sockets now)
 Bounds h (Emits now) = IsBy (later_moment h.sockets now)
 
-event-leads : (event : Event) (old new : HostView) → IsSoundHost old → IsNumbered event → Makes event old new → IsStep old.sockets (Bounds old event) new.sockets
-event-leads (Calls call) old new sound small makes = step-to old _ new makes.1 (steps call makes.0 small (λ latest up. up))
+event-leads : (event : Event) (old new : HostView) → IsSoundHost old → IsNumbered event → Makes event old new → IsStep old.sockets (Bounds old event) (IsSized event) new.sockets
+event-leads (Calls call) old new sound small makes = step-to old _ new makes.1 (steps call makes.0 small (λ latest up. up) (λ sized. sized))
 event-leads (Ticks now) old new sound small makes = let moment : Moment = later_moment old.sockets now in step-to old _ new makes (ticks (lacks_hop old moment) moment (λ latest by. by))
 event-leads (Delivers now isn octets) old new sound small makes = heard-leads old (later_moment old.sockets now) isn octets makes.0 new small sound.own (heard_by old octets) refl makes.1
 event-leads (Emits now) old new sound small makes = let moment : Moment = later_moment old.sockets now in step-to old _ new makes (emission-leads old moment (emission old moment))
@@ -164,47 +173,52 @@ event-leads (Emits now) old new sound small makes = let moment : Moment = later_
 -- What a table keeps over an event of its host ..
 
 -- the address that it is over
-addr-on : {Bounds : Moment → Type 0} (h new : SocketsView) → IsStep h Bounds new → new.addr ≡ h.addr
+addr-on : {Bounds : Moment → Type 0} {Sized : Type 0} (h new : SocketsView) → IsStep h Bounds Sized new → new.addr ≡ h.addr
 addr-on h _ stays = refl
-addr-on h _ (steps e allowed small within) = address_stays h e
+addr-on h _ (steps e allowed small within sized) = address_stays h e
 addr-on h _ (ticks lost moment within) = address_stays h (table.Ticks moment)
 
 -- whether windows may be scaled
-scale-on : {Bounds : Moment → Type 0} (h new : SocketsView) → IsStep h Bounds new → new.scales ≡ h.scales
+scale-on : {Bounds : Moment → Type 0} {Sized : Type 0} (h new : SocketsView) → IsStep h Bounds Sized new → new.scales ≡ h.scales
 scale-on h _ stays = refl
-scale-on h _ (steps e allowed small within) = scale_stays h e
+scale-on h _ (steps e allowed small within sized) = scale_stays h e
 scale-on h _ (ticks lost moment within) = scale_stays h (table.Ticks moment)
 
-reached-on : {Bounds : Moment → Type 0} (h new : SocketsView) → IsStep h Bounds new → IsReached h → IsReached new
+reached-on : {Bounds : Moment → Type 0} {Sized : Type 0} (h new : SocketsView) → IsStep h Bounds Sized new → IsReached h → IsReached new
 reached-on h _ stays reached = reached
-reached-on h _ (steps e allowed small within) reached = further h (after_event h e) (led_by h e allowed) reached
+reached-on h _ (steps e allowed small within sized) reached = further h (after_event h e) (led_by h e allowed) reached
 reached-on h _ (ticks lost moment within) reached =
     let ticked : SocketsView = after_event h (table.Ticks moment) in
     further h _ (led_on h ticked _ (led_by h (table.Ticks moment) tt) (led_by ticked (table.GivesUp lost moment) tt)) reached
 
-timed-on : {Bounds : Moment → Type 0} (h new : SocketsView) → IsSoundTable h → IsStep h Bounds new → EachKeepsTime h → EachKeepsTime new
+timed-on : {Bounds : Moment → Type 0} {Sized : Type 0} (h new : SocketsView) → IsSoundTable h → IsStep h Bounds Sized new → EachKeepsTime h → EachKeepsTime new
 timed-on h _ sound stays keeps = keeps
-timed-on h _ sound (steps e allowed small within) keeps = each_timed h e sound small keeps
+timed-on h _ sound (steps e allowed small within sized) keeps = each_timed h e sound small keeps
 timed-on h _ sound (ticks lost moment within) keeps = each_timed (after_event h (table.Ticks moment)) (table.GivesUp lost moment) (tick_sound h moment sound) tt (each_timed h (table.Ticks moment) sound tt keeps)
 
-near-on : {Bounds : Moment → Type 0} (latest : Moment) (h new : SocketsView) → IsSoundTable h → Bounds latest → IsStep h Bounds new → AreNear latest h → AreNear latest new
+leaves-on : {Bounds : Moment → Type 0} {Sized : Type 0} (h new : SocketsView) → IsSoundTable h → Sized → IsStep h Bounds Sized new → EachLeavesAWindow h → EachLeavesAWindow new
+leaves-on h _ sound own stays leaves = leaves
+leaves-on h _ sound own (steps e allowed small within sized) leaves = each_leaves h e sound small (sized own) leaves
+leaves-on h _ sound own (ticks lost moment within) leaves = each_leaves (after_event h (table.Ticks moment)) (table.GivesUp lost moment) (tick_sound h moment sound) tt tt (each_leaves h (table.Ticks moment) sound tt tt leaves)
+
+near-on : {Bounds : Moment → Type 0} {Sized : Type 0} (latest : Moment) (h new : SocketsView) → IsSoundTable h → Bounds latest → IsStep h Bounds Sized new → AreNear latest h → AreNear latest new
 near-on latest h _ sound bound stays near = near
-near-on latest h _ sound bound (steps e allowed small within) near = each_near h e latest sound (within latest bound) near
+near-on latest h _ sound bound (steps e allowed small within sized) near = each_near h e latest sound (within latest bound) near
 near-on latest h _ sound bound (ticks lost moment within) near = each_near (after_event h (table.Ticks moment)) (table.GivesUp lost moment) latest (tick_sound h moment sound) (within latest bound) (each_near h (table.Ticks moment) latest sound (within latest bound) near)
 
 -- an error that each entry of an id tells
-tells-on : {Bounds : Moment → Type 0} (id : SocketId) (error : Error) (h new : SocketsView) → IsSoundTable h → EachKeepsTime h → IsStep h Bounds new → id.0 ≤ h.last_id → TellsStill id error h → TellsStill id error new
+tells-on : {Bounds : Moment → Type 0} {Sized : Type 0} (id : SocketId) (error : Error) (h new : SocketsView) → IsSoundTable h → EachKeepsTime h → IsStep h Bounds Sized new → id.0 ≤ h.last_id → TellsStill id error h → TellsStill id error new
 tells-on id error h _ sound keeps stays given told = told
-tells-on id error h _ sound keeps (steps e allowed small within) given told = tells_on h e id error sound keeps given told
+tells-on id error h _ sound keeps (steps e allowed small within sized) given told = tells_on h e id error sound keeps given told
 tells-on id error h _ sound keeps (ticks lost moment within) given told =
     let ticked : SocketsView = after_event h (table.Ticks moment) in
     let back : h.last_id ≤ ticked.last_id = never_back h (table.Ticks moment) in
     tells_on ticked (table.GivesUp lost moment) id error (tick_sound h moment sound) (each_timed h (table.Ticks moment) sound tt keeps) (omega (arith, given, back)) (tells_on h (table.Ticks moment) id error sound keeps given told)
 
 -- the id given last, which never goes back
-given-on : {Bounds : Moment → Type 0} (h new : SocketsView) → IsStep h Bounds new → h.last_id ≤ new.last_id
+given-on : {Bounds : Moment → Type 0} {Sized : Type 0} (h new : SocketsView) → IsStep h Bounds Sized new → h.last_id ≤ new.last_id
 given-on h _ stays = omega arith
-given-on h _ (steps e allowed small within) = never_back h e
+given-on h _ (steps e allowed small within sized) = never_back h e
 given-on h _ (ticks lost moment within) =
     let ticked : SocketsView = after_event h (table.Ticks moment) in
     let first : h.last_id ≤ ticked.last_id = never_back h (table.Ticks moment) in
@@ -216,6 +230,9 @@ event-reaches event old new sound small makes reached = reached-on old.sockets n
 
 pub event-timed : (event : Event) (old new : HostView) → IsSoundHost old → IsNumbered event → Makes event old new → EachKeepsTime old.sockets → EachKeepsTime new.sockets
 event-timed event old new sound small makes keeps = timed-on old.sockets new.sockets sound.table (event-leads event old new sound small makes) keeps
+
+pub event-leaves : (event : Event) (old new : HostView) → IsSoundHost old → IsNumbered event → IsSized event → Makes event old new → EachLeavesAWindow old.sockets → EachLeavesAWindow new.sockets
+event-leaves event old new sound small sized makes leaves = leaves-on old.sockets new.sockets sound.table sized (event-leads event old new sound small makes) leaves
 
 bounded : (latest : Moment) (h : HostView) (event : Event) → h.sockets.kept.0 ≤ latest.0 → IsUpTo latest event → Bounds h event latest
 bounded latest h (Calls call) kept up = up
@@ -267,6 +284,12 @@ run-near c _ _ latest Begins up = fresh_near c.addr c.scales latest
 run-near c _ _ latest (GoesOn before event old new ran sound small makes) up =
     let parts = all-split (IsUpTo latest) before event up in
     event-near event old new latest sound small parts.1 makes (run-near c before old latest ran parts.0)
+
+pub run-leaves : (c : ConfigView) (events : List Event) (h : HostView) → Runs c events h → AllByRecursion IsSized events → EachLeavesAWindow h.sockets
+run-leaves c _ _ Begins sized = fresh_leaves c.addr c.scales
+run-leaves c _ _ (GoesOn before event old new ran sound small makes) sized =
+    let parts = all-split IsSized before event sized in
+    event-leaves event old new sound small parts.1 makes (run-leaves c before old ran parts.0)
 
 pub run-deadline : (c : ConfigView) (events : List Event) (h : HostView) (latest moment : Moment) → Runs c events h → AllByRecursion (IsUpTo latest) events → least_deadline h.sockets ≡ Some moment → moment.0 ≤ latest.0 + 240000
 run-deadline c events h latest moment ran up is = deadline_near h.sockets latest moment (run-near c events h latest ran up) is

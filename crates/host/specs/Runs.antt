@@ -10,6 +10,7 @@ use Rattle.interface.specs.Routing.{next_hop}
 use Rattle.sockets.specs.Causes as table
 use Rattle.sockets.specs.Order.{IsAllowed}
 use Rattle.sockets.specs.Timing as timing
+use Rattle.sockets.specs.Leaving as leaving
 use Rattle.host.specs.Arrival.{IsDelivered}
 use Rattle.host.specs.ConfigView.{ConfigView, IsConfig}
 use Rattle.host.specs.Emission.{after_emission}
@@ -45,6 +46,13 @@ IsUpTo latest (Calls call) = timing.IsUpTo latest call
 IsUpTo latest (Delivers now isn octets) = now.0 ≤ latest.0
 IsUpTo latest (Ticks now) = now.0 ≤ latest.0
 IsUpTo latest (Emits now) = now.0 ≤ latest.0
+
+-- a socket that a call makes has room for three segments
+abbrev pub IsSized : Event → Type 0
+IsSized (Calls call) = leaving.IsSized call
+IsSized (Delivers now isn octets) = Unit {0}
+IsSized (Ticks now) = Unit {0}
+IsSized (Emits now) = Unit {0}
 
 -- These events, the first one first, lead from a host of this set-up on which nothing happened to this host. Each finds the host sound, as every
 -- host is by `Host::sound`.

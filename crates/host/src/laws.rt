@@ -1,6 +1,6 @@
 //! Laws of the definitions that the contracts of this crate cite: each is the contract of a function that does nothing.
 
-ghost use Rattle.std.specs.Prelude.{◌≡◌, ◌≢◌, ℕ, ◌+◌, ◌<◌, ◌≤◌, ◌||◌, false, true, IsTrue, List, [], ◌∷◌, ◌++◌, Contains, find, slice_get, take, Option, Some, None, option_map, Result, Ok, Err};
+ghost use Rattle.std.specs.Prelude.{◌≡◌, ◌≢◌, ℕ, ◌+◌, ◌<◌, ◌≤◌, ◌||◌, false, true, IsTrue, List, [], ◌∷◌, ◌++◌, Contains, find, slice_get, length, take, Option, Some, None, option_map, Result, Ok, Err};
 ghost use Rattle.std.specs.List.{list_any, AllByRecursion};
 ghost use Rattle.ether.specs.declared.mac.Mac.{Mac};
 ghost use Rattle.ether.specs.Frame.{Frame};
@@ -31,6 +31,7 @@ ghost use Rattle.interface.specs.declared.reply.Waiting.{Waiting};
 ghost use Rattle.interface.specs.Ways.{is_routed};
 ghost use Rattle.interface.specs.Timing.{least_deadline as reply_deadline};
 ghost use Rattle.reassembly.specs.Places.{next_deadline as pool_deadline};
+ghost use Rattle.tcp_segment.specs.declared.TheConstants.{MSS};
 ghost use Rattle.tcp_state.specs.declared.calls.Refusal.{Refusal as SocketError};
 ghost use Rattle.tcp_state.specs.Positions.{HasToSend};
 ghost use Rattle.tcp_state.specs.View.{View};
@@ -50,6 +51,7 @@ ghost use Rattle.sockets.specs.Order.{IsOrdered};
 ghost use Rattle.sockets.specs.Sound.{NoneIsOver};
 ghost use Rattle.sockets.specs.Steps.{connected};
 ghost use Rattle.sockets.specs.Timing.{EachKeepsTime, AreNear};
+ghost use Rattle.sockets.specs.Leaving.{EachLeavesAWindow};
 ghost use Rattle.sockets.specs.SocketsView.{later_moment, role_of};
 ghost use Rattle.sockets.specs.Ticks.{least_deadline as timer_deadline};
 ghost use Rattle.host.specs.ConfigView.{ConfigView, IsOfOne};
@@ -61,7 +63,7 @@ ghost use Rattle.host.specs.ComesUp.{IsDueSoon, IsQuiet, ComesUp, ConnectionCome
 ghost use Rattle.host.specs.Emission.{Replies, Sends, Nothing, emission, emission_to, emission_len, after_emission, emission_octets, goes_out_from};
 ghost use Rattle.host.specs.Messages.{errors_of};
 ghost use Rattle.host.specs.Places.{Place, ReplyOf, EntryOf, places, can_go_out};
-ghost use Rattle.host.specs.Runs.{Event, HasRun, IsNumbered, IsUpTo, LeadOn, Makes, Runs, WasHeard};
+ghost use Rattle.host.specs.Runs.{Event, HasRun, IsNumbered, IsUpTo, IsSized, LeadOn, Makes, Runs, WasHeard};
 ghost use Rattle.host.specs.Sound.{IsSoundHost};
 ghost use Rattle.host.specs.Ticks.{after_tick, least_deadline, hop_deadline};
 
@@ -191,6 +193,15 @@ pub fn timers_lie_near()
     ensures event { (event : Event) (old new : HostView) (latest : Moment) → IsSoundHost old → IsNumbered event → IsUpTo latest event → Makes event old new → AreNear latest old.sockets → AreNear latest new.sockets }
     ensures over { (c : ConfigView) (events : List Event) (h : HostView) (latest : Moment) → Runs c events h → AllByRecursion (IsUpTo latest) events → AreNear latest h.sockets }
     ensures deadline { (c : ConfigView) (events : List Event) (h : HostView) (latest moment : Moment) → Runs c events h → AllByRecursion (IsUpTo latest) events → timer_deadline h.sockets ≡ Some moment → moment.0 ≤ latest.0 + 240000 }
+{}
+
+/// An open connection of a host of which nothing is due, and that has nothing to be read, leaves its peer a window of a segment at least, whether it has spoken or not (`sockets::laws::quiet_readers_leave_a_window`): so it is in a new host, over each event, and over every
+/// list of them, as long as none makes a socket of less room than three segments. For what is heard of a frame is a segment of 1,460 octets at most.
+pub fn quiet_readers_leave_a_window()
+    ensures fresh { (c : ConfigView) → let h = new_host c in EachLeavesAWindow h.sockets }
+    ensures heard { (mac : Mac) (ours : Addr) (octets : List ℕ) (r : ReceivedSegment) → heard mac ours octets ≡ Ok (Tcp r) → length r.segment.octets ≤ MSS }
+    ensures event { (event : Event) (old new : HostView) → IsSoundHost old → IsNumbered event → IsSized event → Makes event old new → EachLeavesAWindow old.sockets → EachLeavesAWindow new.sockets }
+    ensures over { (c : ConfigView) (events : List Event) (h : HostView) → Runs c events h → AllByRecursion IsSized events → EachLeavesAWindow h.sockets }
 {}
 
 /// The error that a connection of a host tells, it tells for good: over each event, and over every list of events that leads on from the host, whatever entry has its id then is one of a connection that tells

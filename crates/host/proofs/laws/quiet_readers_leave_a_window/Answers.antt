@@ -1,0 +1,8 @@
+use Rattle.host.specs.ConfigView.{ConfigView}
+use Rattle.sockets.proofs.Leaving.{fresh_leaves}
+use Rattle.host.proofs.Sized.{segments_fit}
+use Rattle.host.proofs.Tables.{event-leaves, run-leaves}
+use Rattle.host.proofs.laws.quiet_readers_leave_a_window.Goals as goal
+
+pub returns : goal.returns
+returns c = record { fresh = λ (c : ConfigView). fresh_leaves c.addr c.scales; heard = segments_fit; event = event-leaves; over = run-leaves }
