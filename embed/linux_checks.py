@@ -286,6 +286,28 @@ def flood_of_openings():
     return f"a client gets in {seconds:.1f} s after its end"
 
 
+def bounded_openings():
+    """Of eight clients at once four get in; the SYNs of the others are passed over, and come again a second later."""
+    with Tap("--openings", 4):
+        clients = [socket.socket() for _ in range(8)]
+        began = time.monotonic()
+        times = []
+        for client in clients:
+            client.setblocking(False)
+            client.connect_ex((OURS, 7))
+        waiting = set(clients)
+        while waiting and time.monotonic() - began < 15:
+            for client in select.select([], list(waiting), [], 0.1)[1]:
+                want(client.getsockopt(socket.SOL_SOCKET, socket.SO_ERROR) == 0, "a client is refused")
+                times.append(time.monotonic() - began)
+                waiting.remove(client)
+        for client in clients:
+            client.close()
+    want(not waiting, f"{len(waiting)} clients don't get in")
+    want(times[3] < 0.9 <= times[4], f"the fourth gets in after {times[3]:.1f} s, the fifth after {times[4]:.1f}")
+    return f"four at once, the last of eight after {times[7]:.1f} s"
+
+
 def linux_opens_and_closes():
     with Tap():
         for turn in range(12):
@@ -601,6 +623,7 @@ CHECKS = [
     ("TCP: the host opens, Linux resets", linux_resets_what_the_host_opened, (), ""),
     ("TCP: the host opens, the host resets", host_resets_what_it_opened, (), ""),
     ("TCP: a flood of openings from silent addresses", flood_of_openings, (), ""),
+    ("TCP: four openings a second", bounded_openings, (), ""),
     ("1 MB to the host", to_host, (MEGABYTE,), ""),
     ("1 MB from the host", from_host, (MEGABYTE,), ""),
     ("1 MB echoed, both ways at once", echo, (MEGABYTE,), ""),

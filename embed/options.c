@@ -34,6 +34,7 @@ static const char help[] =
     "  --pcap FILE                writes what crosses the device as a capture for tcpdump and Wireshark\n"
     "\n"
     "Others:\n"
+    "  --openings N               takes at most N connections a second; a SYN beyond them is passed over, and comes again\n"
     "  --idle SECONDS             an accepted connection on which nothing moves for so long is closed (300)\n"
     "  --patience SECONDS         --connect ends where the peer is silent for so long (60)\n"
     "  --verbose                  tells of each connection, and at the end how many frames came, went and were dropped\n"
@@ -140,7 +141,7 @@ static void read_forward(struct options *options, const char *port, const char *
     forward->to.port = read_port("--forward", strrchr(to, ':') + 1);
 }
 
-enum { TAP = 1, ADDR, GATEWAY, MAC, CONNECT, FORWARD, SOURCE, LOSE, DROP, REPEAT, DELAY, PCAP, IDLE, PATIENCE, VERBOSE, HELP };
+enum { TAP = 1, ADDR, GATEWAY, MAC, CONNECT, FORWARD, SOURCE, LOSE, DROP, REPEAT, DELAY, PCAP, OPENINGS, IDLE, PATIENCE, VERBOSE, HELP };
 
 static const struct option words[] = {
     {"tap", required_argument, NULL, TAP},           {"addr", required_argument, NULL, ADDR},     {"gateway", required_argument, NULL, GATEWAY},
@@ -149,6 +150,7 @@ static const struct option words[] = {
     {"drop", required_argument, NULL, DROP},         {"repeat", required_argument, NULL, REPEAT},
     {"delay", required_argument, NULL, DELAY},       {"pcap", required_argument, NULL, PCAP},     {"idle", required_argument, NULL, IDLE},
     {"patience", required_argument, NULL, PATIENCE}, {"verbose", no_argument, NULL, VERBOSE},     {"help", no_argument, NULL, HELP},
+    {"openings", required_argument, NULL, OPENINGS},
     {NULL, 0, NULL, 0},
 };
 
@@ -187,6 +189,9 @@ static void read_trial(struct options *options, int which)
         break;
     case SOURCE:
         options->source = read_number("--source", optarg, 1, 1000000000000);
+        break;
+    case OPENINGS:
+        options->openings = read_number("--openings", optarg, 1, 1000000000);
         break;
     case IDLE:
         options->idle = 1000 * read_number("--idle", optarg, 1, 1000000000);

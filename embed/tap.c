@@ -7,7 +7,6 @@
 #include <signal.h>
 #include <stdlib.h>
 #include <string.h>
-#include <sys/random.h>
 #include <time.h>
 #include <unistd.h>
 
@@ -18,16 +17,6 @@ static volatile sig_atomic_t is_asked_to_end;
 uint64_t later(uint64_t since, uint64_t wait)
 {
     return since > NEVER - wait ? NEVER : since + wait;
-}
-
-uint32_t fresh_isn(void)
-{
-    uint32_t isn;
-    if (getrandom(&isn, sizeof isn, 0) != (ssize_t)sizeof isn) {
-        perror("tap: getrandom");
-        exit(1);
-    }
-    return isn;
 }
 
 void fail(struct tap *tap, const char *what, const char *why)
@@ -159,6 +148,33 @@ static bool is_from(const uint8_t *frame, size_t len, uint32_t addr)
     return len >= 34 && frame[12] == 0x08 && frame[13] == 0x00 && HOST_ADDR(frame[26], frame[27], frame[28], frame[29]) == addr;
 }
 
+/* Whether a connection may be opened now: at most so many are in a second. A SYN that is passed over comes again. */
+static bool may_open(struct tap *tap)
+{
+    if (tap->options.openings == 0) {
+        return true;
+    }
+    if (later(tap->second, 1000) <= tap->now) {
+        tap->second = tap->now;
+        tap->openings = 0;
+    }
+    if (tap->openings == tap->options.openings) {
+        tap->put_off++;
+        return false;
+    }
+    tap->openings++;
+    return true;
+}
+
+static void hear_one(struct tap *tap, const uint8_t *frame, size_t len)
+{
+    struct host_endpoint pair[2];
+    const bool opens = host_would_open(&tap->host, frame, len, pair) == 1;
+    if (!opens || may_open(tap)) {
+        count(tap, host_deliver(&tap->host, tap->now, opens ? fresh_isn(pair) : 0, frame, len));
+    }
+}
+
 /* Each frame that came is delivered alone, so that what it draws goes out before the next one needs the room. */
 static bool hear(struct tap *tap, const struct work *work)
 {
@@ -172,7 +188,7 @@ static bool hear(struct tap *tap, const struct work *work)
         if (tap->options.connects && is_from(frame, len, tap->options.peer.addr)) {
             tap->heard = tap->now;
         }
-        count(tap, host_deliver(&tap->host, tap->now, fresh_isn(), frame, len));
+        hear_one(tap, frame, len);
         all = act(tap, work) && all;
     }
     return all;
@@ -242,6 +258,9 @@ static void print_counts(const struct tap *tap)
         if (tap->dropped[cause] != 0) {
             fprintf(stderr, " %s %" PRIu64, host_drop_name(-cause), tap->dropped[cause]);
         }
+    }
+    if (tap->options.openings != 0) {
+        fprintf(stderr, "; put off: %" PRIu64, tap->put_off);
     }
     fputc('\n', stderr);
 }

@@ -16,7 +16,8 @@ enum {
     FRAME_MOST = 2048,    /* room for a frame of the device; the host drops one of more than 1,514 octets */
     FORWARDS = 4,         /* how many --forward there may be */
     CONNECTIONS = 64,     /* how many connections are served at once */
-    POLLED = CONNECTIONS + 2
+    POLLED = CONNECTIONS + 2,
+    DYNAMIC_FIRST = 49152 /* of the dynamic ports, the last 16,384 */
 };
 
 #define NEVER UINT64_MAX
@@ -77,6 +78,7 @@ struct options {
     uint8_t length;
     struct faults in, out;
     uint64_t source;              /* octets of the service on port 19; 0: there is none */
+    uint64_t openings;            /* connections that may be opened to the host in a second; 0: any number */
     uint64_t idle, patience;      /* milliseconds */
     bool connects;
     struct host_endpoint peer;
@@ -97,6 +99,7 @@ struct tap {
     struct pollfd *polled;        /* what the work waits for, after the device's own place */
     uint64_t heard;               /* when a datagram of the peer of --connect came last */
     uint64_t came, went, dropped[12];
+    uint64_t second, openings, put_off; /* openings since this moment, and how many were passed over in all */
 };
 
 /* A kind of work: its sockets are made, then in each turn it names what it waits for, and makes its calls once something came. */
@@ -110,8 +113,16 @@ struct work {
 
 extern const struct work serving, connecting, forwarding;
 
-/* A fresh initial sequence number, of the system's random source. */
-uint32_t fresh_isn(void);
+/* SipHash-2-4 of these octets, by a secret. */
+uint64_t siphash(const uint8_t secret[16], const uint8_t *octets, size_t len);
+/* Octets of the system's random source; without it the program ends. */
+void draw(void *octets, size_t len);
+/* The initial sequence number of a connection between two ends at this time (RFC 6528): a clock of 4 microseconds, and a hash by a secret. */
+uint32_t isn_of(const uint8_t secret[16], const struct host_endpoint pair[2], uint64_t microseconds);
+/* The same now, by a secret of this run. */
+uint32_t fresh_isn(const struct host_endpoint pair[2]);
+/* Binds a socket to one of the dynamic ports at random (RFC 6056): as host_bind. */
+int64_t bind_random(struct host *host, uint64_t id);
 /* Ends the run with status 1, and a line on standard error. */
 void fail(struct tap *tap, const char *what, const char *why);
 /* A line on standard error, where --verbose asks for it. */
