@@ -1,8 +1,8 @@
 -- Over every list of events, each echo reply that waits has its request, and each error its cause.
-use Rattle.std.proofs.Common.{◌≡◌, ℕ, zero, suc, ◌≤◌, ◌==◌, ◌&&◌, not, Bool, true, false, cond, List, [], ◌∷◌, ◌++◌, filter, length, remove, take, Option, Some, None, option_map, Result, Ok, Err, refl, sym, ◌∙◌, ap, subst, arith, length-append, length-take}
+use Rattle.std.proofs.Common.{◌≡◌, ℕ, zero, suc, ◌≤◌, ◌==◌, ◌&&◌, not, Bool, true, false, cond, List, [], ◌∷◌, ◌++◌, filter, length, remove, take, Option, Some, None, option_map, Result, Ok, Err, refl, sym, ◌∙◌, ap, subst, arith, length-append, length-set, length-take}
 use Rattle.std.specs.List.{AllByRecursion}
 use Rattle.std.proofs.lemmas.Bool.{eqb-true}
-use Rattle.std.proofs.lemmas.List.{take_all}
+use Rattle.std.proofs.lemmas.List.{length-map, take_all}
 use Rattle.std.proofs.lemmas.List.Elements.{Contains-append_left, Contains-append_right}
 use Rattle.ether.specs.declared.mac.Mac.{Mac}
 use Rattle.ipv4.specs.declared.addr.Addr.{Addr}
@@ -33,8 +33,8 @@ use Rattle.interface.specs.Ways.{is_routed}
 use Rattle.sockets.specs.Arrival.{Arrival, Becomes, Opens, NoRoom as NoRoomInTable, Answers}
 use Rattle.reassembly.specs.declared.expired.Expired.{Expired}
 use Rattle.reassembly.specs.Fragments.{key_of, quote_of}
-use Rattle.reassembly.specs.Places.{after_take, expired, outcome_at, place_for}
-use Rattle.reassembly.specs.Reassembly.{Outcome}
+use Rattle.reassembly.specs.Places.{after_take, after_take_at, after_time, expired, outcome_at, place_for}
+use Rattle.reassembly.specs.Reassembly.{Outcome, Reassembly}
 use Rattle.reassembly.specs.Reassembly.Outcome.{Waits, Completes, GivesUp}
 use Rattle.sockets.specs.declared.datagrams.Reception.{Reception}
 use Rattle.sockets.specs.declared.datagrams.Reception.TheVariants as socket
@@ -115,9 +115,10 @@ pub record Stands (c : ConfigView) (events : List Event) (i : InterfaceView) : T
   pub addr : i.addr ≡ c.addr
   pub replies : AllByRecursion (λ (waiting : Waiting). IsCaused c events waiting.reply) i.replies
 
--- and a host with it, whose pool has what was delivered
+-- and a host with it, whose pool has four places with what was delivered
 pub record HostStands (c : ConfigView) (events : List Event) (h : HostView) : Type 0 where
   pub interface : Stands c events h.interface
+  pub places : length h.pool ≡ 4
   pub pool : AreGathered (WasPart c events) h.pool
 
 -- What was delivered by some events was delivered by more.
@@ -161,6 +162,7 @@ stands-more c events event i stands = record {
 host-more : (c : ConfigView) (events : List Event) (event : Event) (h : HostView) → HostStands c events h → HostStands c (events ++ event ∷ []) h
 host-more c events event h stands = record {
   interface = stands-more c events event h.interface stands.interface;
+  places = stands.places;
   pool = gathered-more (WasPart c events) (WasPart c (events ++ event ∷ [])) (λ d. heard-more c events event (UdpFragment d)) h.pool stands.pool;
 }
 
@@ -234,10 +236,10 @@ to-new : (c : ConfigView) (events : List Event) (made new : HostView) → new �
 to-new c events made new is stands = subst (HostStands c events) (sym is) stands
 
 with-side : (c : ConfigView) (events : List Event) (h : HostView) (i : InterfaceView) → HostStands c events h → Stands c events i → HostStands c events (with_interface h i)
-with-side c events h i stands side = record { interface = side; pool = stands.pool }
+with-side c events h i stands side = record { interface = side; places = stands.places; pool = stands.pool }
 
 with-table : (c : ConfigView) (events : List Event) (h : HostView) (table : SocketsView) → HostStands c events h → HostStands c events (with_sockets h table)
-with-table c events h table stands = record { interface = stands.interface; pool = stands.pool }
+with-table c events h table stands = record { interface = stands.interface; places = stands.places; pool = stands.pool }
 
 stands-segment : (c : ConfigView) (events : List Event) (a : Arrival) (h : HostView) (moment : Moment) (source : Addr) (answer : Result (Unit {0}) DropCause) (new : HostView)
     → HostStands c events h → MeetsSegment a h moment source answer new → HostStands c events new
@@ -302,12 +304,20 @@ stands-outcome c events (Waits r) h moment d stands is = stands
 stands-outcome c events GivesUp h moment d stands is = stands
 stands-outcome c events (Completes payload quote) h moment d stands is = stands-payload c events (datagram_or_fault d.source d.destination payload) h moment d.source quote stands is
 
+-- a place is taken or freed
+taken-places : (moment : Moment) (d : Datagram) (pool : List (Option Reassembly)) → length (after_take moment d pool) ≡ length pool
+taken-places moment d pool = by_place (place_for (key_of d) pool)
+  where
+    by_place : (place : Option ℕ) → length (after_take_at moment d pool place) ≡ length pool
+    by_place None = refl
+    by_place (Some i) = length-set pool i _
+
 stands-fragment : (c : ConfigView) (events : List Event) (h : HostView) (moment : Moment) (d : Datagram) (answer : Result (Unit {0}) DropCause) (new : HostView) → HostStands c events h → WasPart c events d
     → (place : Option ℕ) → place_for (key_of d) h.pool ≡ place → MeetsFragment (option_map (outcome_at moment d h.pool) place) h moment d answer new → HostStands c events new
 stands-fragment c events h moment d answer new stands was None at met = to-new c events h new met.1 stands
 stands-fragment c events h moment d answer new stands was (Some i) at met =
     let pool = after_take moment d h.pool in
-    let taken : HostStands c events (with_pool h pool) = record { interface = stands.interface; pool = after-taking (WasPart c events) moment d h.pool was stands.pool } in
+    let taken : HostStands c events (with_pool h pool) = record { interface = stands.interface; places = taken-places moment d h.pool ∙ stands.places; pool = after-taking (WasPart c events) moment d h.pool was stands.pool } in
     to-new c events (after_outcome (outcome_at moment d h.pool i) (with_pool h pool) moment d) new met.1
     (stands-outcome c events (outcome_at moment d h.pool i) (with_pool h pool) moment d taken (outcome-left (WasPart c events) moment d h.pool i was stands.pool at))
 
@@ -348,6 +358,7 @@ stands-on c before (Ticks now) old new stands makes =
     to-new c all (after_tick old now) new makes (record {
       interface = stands-expired c all moment (expired moment old.pool) (interface_after_tick old.interface moment) (stands-ticked c all moment old.interface more.interface)
           (expired-quoted (WasPart c all) moment old.pool more.pool);
+      places = length-map old.pool (after_time moment) ∙ stands.places;
       pool = after-ageing (WasPart c all) moment old.pool more.pool;
     })
 stands-on c before (Delivers now isn octets) old new stands makes =
@@ -363,6 +374,7 @@ stands-on c before (Emits now) old new stands makes =
     let moment : Moment = later_moment old.sockets now in
     to-new c all (after_emission old now) new makes (record {
       interface = stands-left c all old moment more.interface (emission old moment);
+      places = ap length (pool-left old moment (emission old moment)) ∙ stands.places;
       pool = subst (AreGathered (WasPart c all)) (sym (pool-left old moment (emission old moment))) more.pool;
     })
   where
@@ -374,5 +386,5 @@ stands-on c before (Emits now) old new stands makes =
 
 -- any list of events
 pub run-stands : (c : ConfigView) (events : List Event) (h : HostView) → Runs c events h → HostStands c events h
-run-stands c _ _ Begins = record { interface = record { mac = refl; addr = refl; replies = tt }; pool = none-gathered (WasPart c []) 4 }
+run-stands c _ _ Begins = record { interface = record { mac = refl; addr = refl; replies = tt }; places = refl; pool = none-gathered (WasPart c []) 4 }
 run-stands c _ _ (GoesOn before event old new ran sound small makes) = stands-on c before event old new (run-stands c before old ran) makes

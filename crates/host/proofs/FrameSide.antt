@@ -1,7 +1,10 @@
--- What the frame side of a host keeps over every list of events: its routes; at most 64 requests are noted; and to each reply that waits a route leads.
-use Rattle.std.proofs.Common.{◌≡◌, ℕ, ◌≤◌, ◌&&◌, not, Bool, true, false, cond, List, [], ◌∷◌, ◌++◌, length, take, Option, Some, None, Result, Ok, Err, refl, sym, subst, arith, length-append}
+-- What the frame side of a host keeps over every list of events: its routes; its cache is one that events lead to, so at most 64 neighbours are known and at most 64 requests are
+-- noted; at most 16 replies wait, and to each of them a route leads.
+use Rattle.std.proofs.Common.{◌≡◌, ℕ, zero, suc, ◌≤◌, ◌&&◌, not, Bool, true, false, cond, List, [], ◌∷◌, ◌++◌, length, remove, take, Option, Some, None, Result, Ok, Err, refl, sym, ◌∙◌, ap, subst, arith, length-append}
 use Rattle.std.specs.List.{AllByRecursion}
 use Rattle.std.proofs.lemmas.Bool.{and_parts}
+use Rattle.std.proofs.lemmas.Bool.Decides.{nat_tests}
+use Rattle.std.proofs.lemmas.List.Sums.{fold_push}
 use Rattle.ipv4.specs.declared.addr.Addr.{Addr}
 use Rattle.ipv4.specs.Datagram.{Datagram}
 use Rattle.udp.specs.declared.fault.UdpFault.{UdpFault}
@@ -11,10 +14,11 @@ use Rattle.clock.specs.declared.moment.Moment.{Moment}
 use Rattle.icmp.specs.declared.error.Reason.{Reason}
 use Rattle.icmp.specs.declared.error.Reason.TheVariants.{PortUnreachable, ProtocolUnreachable, ReassemblyTimeExceeded}
 use Rattle.arp.specs.declared.entry.Asked.{Asked}
-use Rattle.arp.specs.Cache.{asked_after, has_place_for, is_live_note, is_request_for, live_notes}
+use Rattle.arp.specs.Cache.{Cache, asked_after, empty, has_place_for, is_live_note, is_request_for, live_notes}
+use Rattle.arp.specs.Events as arp
 use Rattle.arp.specs.Packet.{reply_to}
 use Rattle.arp.proofs.Asking.{has_place}
-use Rattle.arp.proofs.History.{length-filter-le}
+use Rattle.arp.proofs.History.{few_pairs, length-filter-le}
 use Rattle.frames.specs.declared.drop.DropCause.{DropCause}
 use Rattle.frames.specs.declared.meaning.Control.{Control}
 use Rattle.frames.specs.declared.meaning.Meaning.{Meaning}
@@ -51,10 +55,28 @@ use Rattle.host.specs.Runs.{Event, Calls, Ticks, Delivers, Emits, Makes, Runs, B
 use Rattle.host.specs.Ticks.{after_tick, all_reported, reported}
 use Rattle.host.proofs.Causes.{all-behind, all-filtered, all-left}
 
+-- a cache that events lead to
+pub record HasHistory (cache : Cache) : Type 0 where
+  pub events : List arp.Event
+  pub is : cache ≡ arp.cache_after events
+
 pub record KeepsSide (routes : List Route) (i : InterfaceView) : Type 0 where
   pub same : i.routes ≡ routes
+  pub history : HasHistory i.cache
   pub few : length i.cache.asked ≤ 64
+  pub places : length i.replies ≤ 16
   pub routed : AllByRecursion (λ (w : Waiting). is_on_route i.routes (sought w.reply) ≡ true) i.replies
+
+-- One event more.
+
+history-on : (cache : Cache) (event : arp.Event) → HasHistory cache → HasHistory (arp.after_event cache event)
+history-on cache event history = record {
+  events = history.events ++ event ∷ [];
+  is = ap (λ (c : Cache). arp.after_event c event) history.is ∙ sym (fold_push arp.after_event empty history.events event);
+}
+
+pub few-neighbours : {routes : List Route} (i : InterfaceView) → KeepsSide routes i → length i.cache.pairs ≤ 64
+few-neighbours i keeps = let history = keeps.history in subst (λ (c : Cache). length c.pairs ≤ 64) (sym history.is) (few_pairs history.events)
 
 -- A request is noted where fewer than 64 are.
 
@@ -70,9 +92,18 @@ few-after now hop asked few = by_test (has_place_for hop (live_notes now asked))
     by_test false is = live
 
 side-asked : {routes : List Route} (i : InterfaceView) (now : Moment) (hop : Addr) → KeepsSide routes i → KeepsSide routes (asked i now hop)
-side-asked i now hop keeps = record { same = keeps.same; few = few-after now hop i.cache.asked keeps.few; routed = keeps.routed }
+side-asked i now hop keeps = record {
+  same = keeps.same;
+  history = history-on i.cache (arp.Ask now hop) keeps.history;
+  few = few-after now hop i.cache.asked keeps.few;
+  places = keeps.places;
+  routed = keeps.routed;
+}
 
 -- A reply joins those that wait where a route leads to its address.
+
+has-place : (i : InterfaceView) → length i.replies ≤ 16 → not (is_full i) ≡ true → (now : Moment) (r : Reply) → (let next = queued now r i in length next.replies ≤ 16)
+has-place i few room now r = let w : Waiting = record { since = now; reply = r } in grind (arith, nat_tests, few, room, length-append i.replies (w ∷ []))
 
 side-owed : {routes : List Route} (is_owed : Bool) (now : Moment) (r : Reply) (i : InterfaceView) → (is_owed ≡ true → is_on_route i.routes (sought r) ≡ true) → KeepsSide routes i → KeepsSide routes (owed is_owed now r i)
 side-owed {routes = routes} is_owed now r i leads keeps = by_test (is_owed && not (is_full i)) refl
@@ -80,7 +111,9 @@ side-owed {routes = routes} is_owed now r i leads keeps = by_test (is_owed && no
     by_test : (b : Bool) → (is_owed && not (is_full i)) ≡ b → KeepsSide routes (cond b (queued now r i) i)
     by_test true is = record {
       same = keeps.same;
+      history = keeps.history;
       few = keeps.few;
+      places = has-place i keeps.places (and_parts is_owed (not (is_full i)) is).1 now r;
       routed = all-behind (λ (w : Waiting). is_on_route i.routes (sought w.reply) ≡ true) i.replies (record { since = now; reply = r }) keeps.routed (leads (and_parts is_owed (not (is_full i)) is).0);
     }
     by_test false is = keeps
@@ -94,13 +127,19 @@ side-reported now (d ∷ ds) i keeps = side-reported now ds (reported now i d) (
 
 -- It leaves when it has gone out, or is dropped.
 
+length-remove-le : {X : Type 0} (xs : List X) (place : ℕ) → length (remove xs place) ≤ length xs
+length-remove-le [] zero = omega arith
+length-remove-le [] (suc place) = omega arith
+length-remove-le (x ∷ xs) zero = omega arith
+length-remove-le (x ∷ xs) (suc place) = omega (arith, length-remove-le xs place)
+
 side-left : {routes : List Route} (i : InterfaceView) (now : Moment) (place : ℕ) (way : Way) → KeepsSide routes i → KeepsSide routes (reply_left_by i now place way)
-side-left i now place (To mac) keeps = record { same = keeps.same; few = keeps.few; routed = all-left (λ (w : Waiting). is_on_route i.routes (sought w.reply) ≡ true) i.replies place keeps.routed }
+side-left i now place (To mac) keeps = record { same = keeps.same; history = keeps.history; few = keeps.few; places = omega (arith, keeps.places, length-remove-le i.replies place); routed = all-left (λ (w : Waiting). is_on_route i.routes (sought w.reply) ≡ true) i.replies place keeps.routed }
 side-left i now place (Ask hop) keeps = side-asked i now hop keeps
 side-left i now place NoWay keeps = keeps
 
 side-ticked : {routes : List Route} (i : InterfaceView) (now : Moment) → KeepsSide routes i → KeepsSide routes (interface_after_tick i now)
-side-ticked i now keeps = record { same = keeps.same; few = keeps.few; routed = all-filtered (λ (w : Waiting). is_on_route i.routes (sought w.reply) ≡ true) (stays i now) i.replies keeps.routed }
+side-ticked i now keeps = record { same = keeps.same; history = history-on i.cache (arp.Age now) keeps.history; few = keeps.few; places = omega (arith, keeps.places, length-filter-le (stays i now) i.replies); routed = all-filtered (λ (w : Waiting). is_on_route i.routes (sought w.reply) ≡ true) (stays i now) i.replies keeps.routed }
 
 -- What an event makes of it.
 
@@ -143,7 +182,7 @@ side-fragment (Some outcome) h now d answer new keeps met = side-to _ new met.1 
 
 side-heard : {routes : List Route} (m : Result Meaning DropCause) (h : HostView) (now : Moment) (isn : ℕ) (answer : Result (Unit {0}) DropCause) (new : HostView) → KeepsSideOf routes h → MeetsHeard m h now isn answer new → KeepsSideOf routes new
 side-heard {routes = routes} (Ok (Arp packet)) h now isn answer new keeps met =
-    let aware : KeepsSide routes (learnt now packet h.interface) = record { same = keeps.same; few = keeps.few; routed = keeps.routed } in
+    let aware : KeepsSide routes (learnt now packet h.interface) = record { same = keeps.same; history = history-on h.interface.cache (arp.Hear now packet h.interface.addr) keeps.history; few = keeps.few; places = keeps.places; routed = keeps.routed } in
     side-to _ new met.1 (side-owed (is_request_for h.interface.addr packet) now (reply.Arp (reply_to packet h.interface.mac)) (learnt now packet h.interface) (λ is. refl) aware)
 side-heard (Ok (Tcp r)) h now isn answer new keeps met = side-segment (segment_arrival h now isn r.source r.segment) h now r.source answer new keeps met
 side-heard (Ok (Icmp c)) h now isn answer new keeps met = side-message (told_by c.message) h now c answer new keeps met
@@ -167,5 +206,5 @@ side-on (Delivers now isn octets) old new makes keeps = side-heard (heard_by old
 side-on (Emits now) old new makes keeps = let moment : Moment = later_moment old.sockets now in side-to _ new makes (side-emitted old moment (emission old moment) keeps)
 
 pub run-side : (c : ConfigView) (events : List Event) (h : HostView) → Runs c events h → KeepsSide c.routes h.interface
-run-side c _ _ Begins = record { same = refl; few = omega arith; routed = tt }
+run-side c _ _ Begins = record { same = refl; history = record { events = []; is = refl }; few = omega arith; places = omega arith; routed = tt }
 run-side c _ _ (GoesOn before event old new ran sound small makes) = side-on event old new makes (run-side c before old ran)

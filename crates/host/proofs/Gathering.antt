@@ -89,7 +89,7 @@ quoted-zero P source fragments quote each e = by_first (find (λ (d : Datagram).
         let from = two.0 in
         record { zero_fragment = d; passes = from.passes; from = from.from; begins = eqb-true d.offset 0 two.1; is = sym same }
 
-gathered-quote : (P : Datagram → Type 0) (r : Reassembly) (quote : List ℕ) → IsGathered P r → r.quote ≡ Some quote → IsQuoted P r.key.source quote
+pub gathered-quote : (P : Datagram → Type 0) (r : Reassembly) (quote : List ℕ) → IsGathered P r → r.quote ≡ Some quote → IsQuoted P r.key.source quote
 gathered-quote P r quote g e =
     quoted-zero P r.key.source g.fragments quote g.each (sym (ap (λ (x : Reassembly). x.quote) g.is ∙ quoted_of g.since g.first g.fragments) ∙ e)
 

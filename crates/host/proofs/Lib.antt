@@ -25,3 +25,6 @@ pub mod HopEnds
 pub mod RunsDry
 pub mod Quiet
 pub mod Unopened
+pub mod Filled
+pub mod Within
+pub mod Moving

@@ -13,3 +13,5 @@ pub mod Plans
 pub mod ComesUp
 pub mod Duties
 pub mod Dry
+pub mod Limits
+pub mod Met

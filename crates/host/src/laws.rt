@@ -1,6 +1,6 @@
 //! Laws of the definitions that the contracts of this crate cite: each is the contract of a function that does nothing.
 
-ghost use Rattle.std.specs.Prelude.{◌≡◌, ◌≢◌, ℕ, ◌+◌, ◌<◌, ◌≤◌, ◌||◌, false, true, IsTrue, List, [], ◌∷◌, ◌++◌, Contains, find, slice_get, length, take, Option, Some, None, option_map, Result, Ok, Err};
+ghost use Rattle.std.specs.Prelude.{◌≡◌, ◌≢◌, ◌⊎◌, ℕ, ◌+◌, ◌<◌, ◌≤◌, ◌||◌, false, true, IsTrue, List, [], ◌∷◌, ◌++◌, Contains, find, slice_get, length, take, Option, Some, None, option_map, Result, Ok, Err};
 ghost use Rattle.std.specs.List.{list_any, AllByRecursion};
 ghost use Rattle.ether.specs.declared.mac.Mac.{Mac};
 ghost use Rattle.ether.specs.Frame.{Frame};
@@ -43,7 +43,7 @@ ghost use Rattle.sockets.specs.declared.entry.Entry.{Entry};
 ghost use Rattle.sockets.specs.declared.entry.SocketId.{SocketId};
 ghost use Rattle.sockets.specs.declared.role.Role.{Role};
 ghost use Rattle.sockets.specs.declared.role.Role.TheVariants.{Connected, Datagrams};
-ghost use Rattle.sockets.specs.Causes.{pending_error_in, TellsStill};
+ghost use Rattle.sockets.specs.Causes.{Follows, pending_error_in, TellsStill};
 ghost use Rattle.sockets.specs.Closing.{entry_of};
 ghost use Rattle.sockets.specs.Entries.{due_to, is_datagrams_at, sends};
 ghost use Rattle.sockets.specs.Offered.{IsReached};
@@ -54,6 +54,7 @@ ghost use Rattle.sockets.specs.Timing.{EachKeepsTime, AreNear};
 ghost use Rattle.sockets.specs.Leaving.{EachLeavesAWindow};
 ghost use Rattle.sockets.specs.SocketsView.{later_moment, role_of};
 ghost use Rattle.sockets.specs.Ticks.{least_deadline as timer_deadline};
+ghost use Rattle.sockets.specs.Traffic.{streams};
 ghost use Rattle.host.specs.ConfigView.{ConfigView, IsOfOne};
 ghost use Rattle.host.specs.HostView.{HostView, new_host, with_interface, with_sockets};
 ghost use Rattle.host.specs.Arrival.{IsDelivered, MeetsSegment, heard_by, segment_arrival};
@@ -61,7 +62,9 @@ ghost use Rattle.host.specs.Carried.{Carried, carried};
 ghost use Rattle.host.specs.Causes.{IsAbout};
 ghost use Rattle.host.specs.ComesUp.{IsDueSoon, IsQuiet, ComesUp, ConnectionComesUp, HasEnded, WaitsSince, address_of, is_on_route, most_wait};
 ghost use Rattle.host.specs.Emission.{Replies, Sends, Nothing, emission, emission_to, emission_len, after_emission, emission_octets, goes_out_from};
+ghost use Rattle.host.specs.Limits.{IsWithinLimits};
 ghost use Rattle.host.specs.Messages.{errors_of};
+ghost use Rattle.host.specs.Met.{IsLearntInVain, IsMetBy, IsNoEntry, IsOpenedAtMost, IsQuotedBy, StaysUnless};
 ghost use Rattle.host.specs.Places.{Place, ReplyOf, EntryOf, places, can_go_out};
 ghost use Rattle.host.specs.Runs.{Event, HasRun, IsNumbered, IsUpTo, IsSized, LeadOn, Makes, Runs, WasHeard};
 ghost use Rattle.host.specs.Sound.{IsSoundHost};
@@ -113,12 +116,34 @@ pub fn requests_hold_nothing_back()
 {}
 
 /// A frame that is dropped changes at most what is known of the neighbours (RFC 826), and that only where there was no room to answer its
-/// request.
+/// request: it is an ARP packet that asks for our address, 16 control replies wait, and its sender is learnt.
 pub fn dropped_frames_change_the_cache_alone()
     ensures alone { (h : HostView) (now : Moment) (isn : ℕ) (octets : List ℕ) (cause : DropCause) (new : HostView) → IsDelivered h now isn octets (Err cause) new
         → new ≡ with_interface h (record h.interface { cache = (let after = new.interface in after.cache) }) }
     ensures unchanged { (h : HostView) (now : Moment) (isn : ℕ) (octets : List ℕ) (cause : DropCause) (new : HostView) → IsDelivered h now isn octets (Err cause) new
         → cause ≢ NoRoom → new ≡ h }
+    ensures learnt { (h : HostView) (now : Moment) (isn : ℕ) (octets : List ℕ) (cause : DropCause) (new : HostView) → IsDelivered h now isn octets (Err cause) new
+        → (new ≡ h) ⊎ IsLearntInVain h (later_moment h.sockets now) octets new }
+{}
+
+/// Whatever octets come, they move one connection at most. A segment moves the one between its two ends alone (RFC 9293 section 3.10.7): every other entry of the table stays as it was, in order, that one
+/// may leave, and behind all others one may join, which a SYN opens at a listener. An ICMP message moves the connection alone whose SYN it quotes, in SYN-SENT, where it says for good that the SYN can't be
+/// delivered (RFC 1122 section 4.2.3.9). All else, whatever it is, leaves every TCP socket and every connection as it was, in order. (No two that aren't CLOSED lie between the same two ends,
+/// and no two have one id: `IsOrdered`, which `Host::sound` says.)
+pub fn segments_meet_one_connection()
+    ensures segment { (h : HostView) (now : Moment) (isn : ℕ) (octets : List ℕ) (r : ReceivedSegment) (answer : Result (Unit {0}) DropCause) (new : HostView) → heard_by h octets ≡ Ok (Tcp r) → IsDelivered h now isn octets answer new
+        → Follows (StaysUnless (IsMetBy h r)) (IsOpenedAtMost h r) h.sockets.entries new.sockets.entries }
+    ensures message { (h : HostView) (now : Moment) (isn : ℕ) (octets : List ℕ) (c : Control) (answer : Result (Unit {0}) DropCause) (new : HostView) → heard_by h octets ≡ Ok (Icmp c) → IsDelivered h now isn octets answer new
+        → Follows (StaysUnless (IsQuotedBy h c.message)) IsNoEntry h.sockets.entries new.sockets.entries }
+    ensures others { (h : HostView) (now : Moment) (isn : ℕ) (octets : List ℕ) (answer : Result (Unit {0}) DropCause) (new : HostView)
+        → ((r : ReceivedSegment) → heard_by h octets ≢ Ok (Tcp r)) → ((c : Control) → heard_by h octets ≢ Ok (Icmp c)) → IsDelivered h now isn octets answer new → streams new.sockets ≡ streams h.sockets }
+{}
+
+/// A host stays within its limits over every list of events, whatever is asked of it and whatever comes: 64 sockets and connections at most, each with no more octets than its buffers or its queues have
+/// room for; 16 control replies of 1,472 octets at most; 64 neighbours and 64 requests; and four datagrams that are put together, of 65,515 octets at most. But for a socket that is made and a connection
+/// that is opened no call takes memory, so no frame makes a host grow past that.
+pub fn hosts_stay_within_their_limits()
+    ensures { (c : ConfigView) (events : List Event) (h : HostView) → Runs c events h → IsSoundHost h → IsWithinLimits h }
 {}
 
 /// The deadline is the least: it has come exactly where that of the timers has come, or that of the control replies, or that of the pool, or one of
