@@ -30,20 +30,23 @@ use Rattle.sockets.specs.Datagrams.{sendto_answer, recvfrom_answer}
 use Rattle.sockets.specs.Order.{IsAllowed}
 use Rattle.sockets.specs.SocketsView.{SocketsView, room_of}
 use Rattle.sockets.specs.Timing as timing
+use Rattle.sockets.specs.Leaving as leaving
+use Rattle.sockets.specs.Leaving.{EachLeavesAWindow}
 use Rattle.sockets.specs.Timing.{AreNear, IsNearIn}
 use Rattle.sockets.proofs.Followed.{some_same}
+use Rattle.sockets.proofs.Leaving.{room_wide, fresh_leaves, socket_leaves}
 use Rattle.sockets.proofs.Near.{fresh_near, deadline_near}
 use Rattle.sockets.proofs.Telling.{socket_told, role_tells}
 use Rattle.host.specs.Emission.{after_emission, emission_octets}
 use Rattle.host.specs.HostView.{HostView}
-use Rattle.host.specs.Runs.{Event as HostEvent, Calls, Ticks, Delivers, Emits, IsCall, IsNumbered, IsUpTo, Makes, Runs, Begins, GoesOn}
+use Rattle.host.specs.Runs.{Event as HostEvent, Calls, Ticks, Delivers, Emits, IsCall, IsNumbered, IsUpTo, IsSized, Makes, Runs, Begins, GoesOn}
 use Rattle.host.specs.Sound.{IsSoundHost}
 use Rattle.host.specs.ConfigView.{ConfigView}
 use Rattle.routes.specs.declared.route.Route.{Route}
 use Rattle.host.specs.Runs as host_runs
 use Rattle.host.proofs.Causes.{run-stands}
 use Rattle.host.proofs.Messages.{request-there, cause-there}
-use Rattle.host.proofs.Tables.{event-near, event-tells, event-given, run-reached, run-ordered, run-over, run-timed}
+use Rattle.host.proofs.Tables.{event-near, event-leaves, event-tells, event-given, run-reached, run-ordered, run-over, run-timed}
 use Rattle.sides.specs.declared.side.Side.{Side}
 use Rattle.sides.specs.declared.side.Side.TheVariants.{A, B}
 use Rattle.sides.specs.Sides.{other_side}
@@ -61,6 +64,7 @@ use Rattle.wire_sim.specs.HostRuns.{WasDelivered, AreTraced, HasRun, EveryHostRu
 use Rattle.wire_sim.specs.Runs as world
 use Rattle.wire_sim.specs.Runs.{IsReached, begins, goes_on, IsStep, IsNumberedCall, IsOutcome, RunsTo}
 use Rattle.wire_sim.specs.Steps.{Answers, MeetsSocket, recv_len, MeetsReceived, MeetsReceivedFrom, MeetsCall, HostMeetsCall, with_host, station_after_tick, MeetsFrame, DeliversFrame, EmitsFrame, MeetsEmission, Steps}
+use Rattle.wire_sim.specs.Windows.{QuietReadersLeaveAWindow}
 use Rattle.wire_sim.specs.WorldView.{NetworkView, WorldView, station_of, host_of, table_of, clock_of}
 use Rattle.wire_sim.proofs.fairness.NotesAreTraced.{frames-step, got-still, got-last}
 use Rattle.host.proofs.Tables.{run-scale}
@@ -71,8 +75,12 @@ use Rattle.wire_sim.proofs.runs.RunsAreLawful.{own-again, own-with}
 
 -- What a call makes of a table, behind an interface: it stays, or takes one event that is allowed, and is a call.
 
+-- a call of a socket, and one that it makes has room for three segments
+abbrev IsSizedCall : List Route → table.Event → Type 0
+IsSizedCall routes e = IsCall routes e × leaving.IsSized e
+
 abbrev IsCalled : InterfaceView → SocketsView → SocketsView → Type 0
-IsCalled i h new = (new ≡ h) ⊎ ((e : table.Event) × IsAllowed h e × timing.IsNumbered e × ((latest : Moment) → timing.IsUpTo latest e) × (new ≡ table.after_event h e) × IsCall i.routes e)
+IsCalled i h new = (new ≡ h) ⊎ ((e : table.Event) × IsAllowed h e × timing.IsNumbered e × ((latest : Moment) → timing.IsUpTo latest e) × (new ≡ table.after_event h e) × IsSizedCall i.routes e)
 
 -- a call that changes nothing
 asked : {T : Type 0} (i : InterfaceView) (r : Result T Refusal) (told : T → Answer) (h : SocketsView) (answer : Answer) (new : SocketsView) → Answers r told h h answer new → IsCalled i h new
@@ -80,7 +88,7 @@ asked i (Ok value) told h answer new meets = inl meets.1
 asked i (Err refusal) told h answer new meets = inl meets.1
 
 -- a call that is allowed where it is answered
-answered : {T : Type 0} (i : InterfaceView) (r : Result T Refusal) (told : T → Answer) (h : SocketsView) (e : table.Event) (answer : Answer) (new : SocketsView) → timing.IsNumbered e → ((latest : Moment) → timing.IsUpTo latest e) → IsCall i.routes e → (is_ok r ≡ true → IsAllowed h e) → Answers r told (table.after_event h e) h answer new → IsCalled i h new
+answered : {T : Type 0} (i : InterfaceView) (r : Result T Refusal) (told : T → Answer) (h : SocketsView) (e : table.Event) (answer : Answer) (new : SocketsView) → timing.IsNumbered e → ((latest : Moment) → timing.IsUpTo latest e) → IsSizedCall i.routes e → (is_ok r ≡ true → IsAllowed h e) → Answers r told (table.after_event h e) h answer new → IsCalled i h new
 answered i (Ok value) told h e answer new small up own allowed meets = inr (e, allowed refl, small, up, meets.1, own)
 answered i (Err refusal) told h e answer new small up own allowed meets = inl meets.1
 
@@ -90,35 +98,35 @@ unrefused None is = refl
 unrefused (Some refusal) is = cc
 
 made : (i : InterfaceView) (kind : Kind) (h : SocketsView) (answer : Answer) (new : SocketsView) → MeetsSocket kind h answer new → IsCalled i h new
-made i Tcp h (reply.Socket id) new meets = inr (table.Makes (room_of h.scales), meets.0, tt, λ latest. tt, meets.2, tt)
-made i Udp h (reply.Socket id) new meets = inr (table.MakesDatagrams, meets.0, tt, λ latest. tt, meets.2, tt)
+made i Tcp h (reply.Socket id) new meets = inr (table.Makes (room_of h.scales), meets.0, tt, λ latest. tt, meets.2, (tt, room_wide h.scales))
+made i Udp h (reply.Socket id) new meets = inr (table.MakesDatagrams, meets.0, tt, λ latest. tt, meets.2, (tt, tt))
 made i kind h (reply.Refused EMFILE) new meets = inl meets.1
 made i kind h (reply.Refused ENOMEM) new meets = inl meets.1
 made i kind h _ new meets = absurd meets
 
 read : (i : InterfaceView) (h : SocketsView) (id : SocketId) (len : ℕ) (r : Result Received Refusal) → recv_answer h id len ≡ r → (answer : Answer) (new : SocketsView) → MeetsReceived h id len r answer new → IsCalled i h new
-read i h id len (Ok (received.Octets count)) is (reply.Octets octets) new meets = inr (table.Receives id len, ap is_ok is, tt, λ latest. tt, meets.1, tt)
-read i h id len (Ok received.EndOfStream) is reply.EndOfStream new meets = inr (table.Receives id len, ap is_ok is, tt, λ latest. tt, meets, tt)
+read i h id len (Ok (received.Octets count)) is (reply.Octets octets) new meets = inr (table.Receives id len, ap is_ok is, tt, λ latest. tt, meets.1, (tt, tt))
+read i h id len (Ok received.EndOfStream) is reply.EndOfStream new meets = inr (table.Receives id len, ap is_ok is, tt, λ latest. tt, meets, (tt, tt))
 read i h id len (Err refusal) is (reply.Refused told) new meets = inl meets.1
 read i h id len _ is _ new meets = absurd meets
 
 read_from : (i : InterfaceView) (h : SocketsView) (id : SocketId) (len : ℕ) (r : Result (ℕ × Endpoint) Refusal) → recvfrom_answer h id len ≡ r → (answer : Answer) (new : SocketsView) → MeetsReceivedFrom h id r answer new → IsCalled i h new
-read_from i h id len (Ok (count, from)) is (reply.Datagram octets told) new meets = inr (table.ReceivesFrom id len, ap is_ok is, tt, λ latest. tt, meets.2, tt)
+read_from i h id len (Ok (count, from)) is (reply.Datagram octets told) new meets = inr (table.ReceivesFrom id len, ap is_ok is, tt, λ latest. tt, meets.2, (tt, tt))
 read_from i h id len (Err refusal) is (reply.Refused told) new meets = inl meets.1
 read_from i h id len _ is _ new meets = absurd meets
 
 called : (i : InterfaceView) (c : Call) (h : SocketsView) (answer : Answer) (new : SocketsView) → IsNumberedCall c → MeetsCall (is_routed i) c h answer new → IsCalled i h new
 called i (call.Socket kind) h answer new small meets = made i kind h answer new meets
-called i (call.Bind id local) h answer new small meets = answered i _ _ h (table.Binds id local) answer new tt (λ latest. tt) tt (unrefused (bind_refusal h id local)) meets
-called i (call.Listen id backlog) h answer new small meets = answered i _ _ h (table.Listens id backlog) answer new tt (λ latest. tt) tt (unrefused (listen_refusal h id backlog)) meets
-called i (call.Accept id) h answer new small meets = answered i (accept_answer h id) _ h (table.Accepts id) answer new tt (λ latest. tt) tt (λ taken. taken) meets
-called i (call.Connect isn id peer) h answer new small meets = answered i _ _ h (table.Connects isn.0 id peer (is_routed i peer.addr)) answer new small (λ latest. tt) refl (unrefused (connect_refusal h id peer (is_routed i peer.addr))) meets
-called i (call.Send id octets) h answer new small meets = answered i (send_answer h id octets.items) _ h (table.Sends id octets.items) answer new tt (λ latest. tt) tt (λ taken. taken) meets
+called i (call.Bind id local) h answer new small meets = answered i _ _ h (table.Binds id local) answer new tt (λ latest. tt) (tt, tt) (unrefused (bind_refusal h id local)) meets
+called i (call.Listen id backlog) h answer new small meets = answered i _ _ h (table.Listens id backlog) answer new tt (λ latest. tt) (tt, tt) (unrefused (listen_refusal h id backlog)) meets
+called i (call.Accept id) h answer new small meets = answered i (accept_answer h id) _ h (table.Accepts id) answer new tt (λ latest. tt) (tt, tt) (λ taken. taken) meets
+called i (call.Connect isn id peer) h answer new small meets = answered i _ _ h (table.Connects isn.0 id peer (is_routed i peer.addr)) answer new small (λ latest. tt) (refl, tt) (unrefused (connect_refusal h id peer (is_routed i peer.addr))) meets
+called i (call.Send id octets) h answer new small meets = answered i (send_answer h id octets.items) _ h (table.Sends id octets.items) answer new tt (λ latest. tt) (tt, tt) (λ taken. taken) meets
 called i (call.Recv id len) h answer new small meets = read i h id (recv_len len) (recv_answer h id (recv_len len)) refl answer new meets
-called i (call.SendTo id peer octets) h answer new small meets = answered i (sendto_answer h id peer octets.items (is_routed i peer.addr)) _ h (table.SendsTo id peer octets.items (is_routed i peer.addr)) answer new tt (λ latest. tt) refl (λ taken. taken) meets
+called i (call.SendTo id peer octets) h answer new small meets = answered i (sendto_answer h id peer octets.items (is_routed i peer.addr)) _ h (table.SendsTo id peer octets.items (is_routed i peer.addr)) answer new tt (λ latest. tt) (refl, tt) (λ taken. taken) meets
 called i (call.RecvFrom id len) h answer new small meets = read_from i h id (recv_len len) (recvfrom_answer h id (recv_len len)) refl answer new meets
-called i (call.Shutdown id) h answer new small meets = answered i _ _ h (table.Shuts id) answer new tt (λ latest. tt) tt (unrefused (shutdown_refusal h id)) meets
-called i (call.Close id) h answer new small meets = answered i _ _ h (table.Closes id) answer new tt (λ latest. tt) tt (unrefused (close_refusal h id)) meets
+called i (call.Shutdown id) h answer new small meets = answered i _ _ h (table.Shuts id) answer new tt (λ latest. tt) (tt, tt) (unrefused (shutdown_refusal h id)) meets
+called i (call.Close id) h answer new small meets = answered i _ _ h (table.Closes id) answer new tt (λ latest. tt) (tt, tt) (unrefused (close_refusal h id)) meets
 called i (call.State id) h answer new small meets = asked i (state_answer h id) _ h answer new meets
 called i (call.SockName id) h answer new small meets = asked i (sockname_answer h id) _ h answer new meets
 called i (call.PeerName id) h answer new small meets = asked i (peername_answer h id) _ h answer new meets
@@ -137,9 +145,9 @@ pub record Brings (n : NetworkView) (side : Side) (happens : Event) (octets : Li
 abbrev pub AreBrought : NetworkView → Side → Event → HostEvent → Type 0
 AreBrought n side happens e = (now : Moment) (isn : ℕ) (octets : List ℕ) → e ≡ Delivers now isn octets → Brings n side happens octets
 
--- a call of a host is one of its table's events that a socket's call is
+-- a call of a host is one of its table's events that a socket's call is, and a socket that it makes has room for three segments
 abbrev pub IsOwnCall : List Route → HostEvent → Type 0
-IsOwnCall routes (Calls e) = IsCall routes e
+IsOwnCall routes (Calls e) = IsSizedCall routes e
 IsOwnCall routes (Ticks now) = Unit {0}
 IsOwnCall routes (Delivers now isn octets) = Unit {0}
 IsOwnCall routes (Emits now) = Unit {0}
@@ -311,6 +319,31 @@ tables-near limit _ (goes_on w v happens answer reached step) side =
     by_move : AreNear (clock_of v.network side) (table_of w.network side) → IsMoved w.network (clock_of v.network side) side happens (host_of w.network side) (host_of v.network side) → AreNear (clock_of v.network side) (table_of v.network side)
     by_move before (inl same) = subst (λ (h : HostView). AreNear (clock_of v.network side) h.sockets) (sym same) before
     by_move before (inr (e, numbered, makes, brings, up, own)) = event-near e (host_of w.network side) (host_of v.network side) (clock_of v.network side) (sound-at w v step side) numbered up makes before
+
+own-sized : (routes : List Route) (e : HostEvent) → IsOwnCall routes e → IsSized e
+own-sized routes (Calls e) own = own.1
+own-sized routes (Ticks now) own = tt
+own-sized routes (Delivers now isn octets) own = tt
+own-sized routes (Emits now) own = tt
+
+-- each connection leaves its peer a window
+pub tables-leave : (limit : ℕ) (w : WorldView) → IsReached limit w → (side : Side) → EachLeavesAWindow (table_of w.network side)
+tables-leave limit w (begins a b apart small) A = fresh_leaves a.addr a.scales
+tables-leave limit w (begins a b apart small) B = fresh_leaves b.addr b.scales
+tables-leave limit _ (goes_on w v happens answer reached step) side = by_move (tables-leave limit w reached side) (moved w v happens answer step side)
+  where
+    old : HostView
+    old = host_of w.network side
+
+    new : HostView
+    new = host_of v.network side
+
+    by_move : EachLeavesAWindow old.sockets → IsMoved w.network (clock_of v.network side) side happens old new → EachLeavesAWindow new.sockets
+    by_move before (inl same) = subst (λ (h : HostView). EachLeavesAWindow h.sockets) (sym same) before
+    by_move before (inr (e, numbered, makes, brings, up, own)) = event-leaves e old new (sound-at w v step side) numbered (own-sized _ e own) makes before
+
+pub quiet-leave : QuietReadersLeaveAWindow
+quiet-leave limit w reached side id c listener is opened none read = socket_leaves (table_of w.network side) id c listener (tables-leave limit w reached side) is opened none read
 
 pub tables-kept : EveryTableIsKept
 tables-kept limit w reached side =

@@ -5,7 +5,6 @@ use Rattle.std.specs.Global.{Vec}
 use Rattle.tcp_segment.specs.declared.seq.Seq.{Seq}
 use Rattle.clock.specs.declared.moment.Moment.{Moment}
 use Rattle.sockets.specs.declared.entry.SocketId.{SocketId}
-use Rattle.sockets.specs.declared.refusal.Refusal.{Refusal}
 use Rattle.sides.specs.declared.side.Side.{Side}
 use Rattle.sides.specs.Sides.{other_side}
 use Rattle.wire_sim.specs.declared.event.Call.TheVariants as call

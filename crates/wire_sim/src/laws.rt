@@ -3,6 +3,7 @@
 ghost use Rattle.wire_sim.specs.Runs.{EveryRunIsLawful, EveryRunIsTallied, EveryRunIsReached, EveryMomentIsLawful, FairIsUnrefused};
 ghost use Rattle.wire_sim.specs.Coverage.{EveryConnectionIsListed, EveryOpeningIsUnique, EveryOctetIsCovered};
 ghost use Rattle.wire_sim.specs.HostRuns.{EveryHostRuns, EveryTableIsKept, EveryDeadlineLiesNear, EveryErrorStays, EverySocketTellsOn, EveryMessageHasItsCause};
+ghost use Rattle.wire_sim.specs.Windows.{QuietReadersLeaveAWindow};
 ghost use Rattle.wire_sim.specs.Holding.{EveryOpeningIsBegun, EveryHoldingIsNoted};
 ghost use Rattle.wire_sim.specs.Notes.{EveryNoteIsTraced, EveryDelayIsTraced};
 ghost use Rattle.wire_sim.specs.Rounds.{EveryRoundIsARun};
@@ -73,6 +74,12 @@ pub fn every_clock_is_kept()
 /// So no deadline of the timers of a connection lies more than 240,000 ms past the moment that its host's clock shows, the time that TIME-WAIT lasts (RFC 9293 section 3.4.2), at whatever moments the host was ticked.
 pub fn every_deadline_lies_near()
     ensures { EveryDeadlineLiesNear }
+{}
+
+/// An open connection of which nothing is due, and that has nothing to be read, leaves its peer a window of a segment at least (RFC 9293 sections 3.8.6.2.2 and 3.8.6.3), also before it has spoken: whatever frame comes, what is heard of it has no more octets than a segment
+/// may have, and each buffer of a world has room for more than three.
+pub fn quiet_readers_leave_a_window()
+    ensures { QuietReadersLeaveAWindow }
 {}
 
 /// The error that a connection tells it tells for good, whatever happens in the world: whatever entry has its id then is one of a connection that tells it, and so does the socket that the id names.
