@@ -12,5 +12,6 @@ pub mod Gathering
 pub mod Filling
 pub mod Copying
 pub mod Turning
+pub mod Writing
 pub mod Storing
 pub mod Viewing

@@ -1,6 +1,7 @@
 //! Octets in a ring, by their places from the front.
 
 ghost use Rattle.std.specs.Prelude.{◌≡◌, ◌+◌, ◌≤◌, ◌==◌, ◌-◌, ◌++◌, [], min, length, take, drop, slice_range, IfOk};
+ghost use Rattle.std.specs.Vec.{vec_capacity};
 ghost use Rattle.inet_sum.specs.Sum.{sum_of};
 ghost use Rattle.stream_buf.specs.Ring.{buffer, turned, overlaid};
 ghost use Rattle.stream_buf.specs.Stored.{filled_to, laid_at};
@@ -12,22 +13,27 @@ use std::marker::Model;
 /// What stands at places for which nothing came.
 const FILLER: [u8; 512] = [0; 512];
 
-/// Octets that lie in a block from a place on, round its end. Whole parts of them are copied, and only the making takes memory.
+/// Octets that lie in a block from a place on, round its end. Whole parts of them are copied. Only the making takes memory, and it writes nothing there: a
+/// place is written first when an octet comes to it, or to one behind it.
 #[derive(Drop)]
 pub(crate) struct Ring {
+    // The places that were written, from the first one of the block on.
     block: Vec<u8>,
+    capacity: usize,
     start: usize,
     len: usize,
 }
 
 impl Model for Ring {
+    ghost use Rattle.std.specs.Prelude.{◌≤◌};
+    ghost use Rattle.std.specs.Vec.{vec_capacity};
     ghost use Rattle.stream_buf.specs.Ring.{Buffer, ring_view, IsRing};
 
     ghost Value = { Buffer };
 
-    ghost view = { λ r. ring_view r.block.items r.start r.len };
+    ghost view = { λ r. ring_view r.block.items r.capacity r.start r.len };
 
-    ghost invariant = { λ r. IsRing r.block.items r.start r.len };
+    ghost invariant = { λ r. IsRing r.block.items r.capacity r.start r.len × (r.capacity ≤ vec_capacity r.block) };
 }
 
 impl Ring {
@@ -35,9 +41,10 @@ impl Ring {
     pub(crate) fn with_capacity(alloc: Global, capacity: usize) -> Result<Ring, AllocError>
         ensures { IfOk result (λ ring. ring ≡ buffer [] capacity) }
     {
-        let block = Vec::from_elem(alloc, 0, capacity)?;
+        let block = Vec::with_capacity(alloc, capacity)?;
         Ok(Ring {
             block,
+            capacity,
             start: 0,
             len: 0,
         })
@@ -63,7 +70,7 @@ impl Ring {
         ensures capacity { result ≡ self.now.capacity }
         ensures within { length self.now.items ≤ result }
     {
-        self.block.len()
+        self.capacity
     }
 
     /// The octets, in two parts: those up to the end of the block, and those from its beginning on.
@@ -80,14 +87,8 @@ impl Ring {
         ensures count { result ≡ min (length octets.now) (self.old.capacity - length self.old.items) }
         ensures items { self.new ≡ buffer (self.old.items ++ take result octets.now) self.old.capacity }
     {
-        let count = octets.len().min(self.block.len() - self.len);
-        put(
-            self.block.as_mut_slice(),
-            self.start,
-            self.len,
-            &octets[..count],
-        );
-        self.len += count;
+        let count = octets.len().min(self.capacity - self.len);
+        self.overlay(self.len, &octets[..count]);
         count
     }
 
@@ -117,8 +118,11 @@ impl Ring {
         requires within { at + length octets.now ≤ self.old.capacity }
         ensures { self.new ≡ buffer (overlaid at octets.now self.old.items) self.old.capacity }
     {
+        let to_end = self.capacity - self.start;
+        let end = at + octets.len();
+        write_before(&mut self.block, self.start + end.min(to_end));
         put(self.block.as_mut_slice(), self.start, at, octets);
-        self.len = self.len.max(at + octets.len());
+        self.len = self.len.max(end);
     }
 
     /// Keeps the first `len` octets.
@@ -130,6 +134,26 @@ impl Ring {
 
     /// Drops the first `count` octets.
     pub(crate) fn drop_front(&mut self, count: usize)
+        requires { count ≤ length self.old.items }
+        ensures { self.new ≡ buffer (drop count self.old.items) self.old.capacity }
+    {
+        if count == self.len() {
+            self.clear();
+        } else {
+            self.move_on(count);
+        }
+    }
+
+    /// Drops all octets. The next ones take the first places again, so that a ring with few octets at a time uses few places.
+    fn clear(&mut self)
+        ensures { self.new ≡ buffer [] self.old.capacity }
+    {
+        self.start = 0;
+        self.len = 0;
+    }
+
+    /// Drops the first `count` octets: the others begin at a later place.
+    fn move_on(&mut self, count: usize)
         requires { count ≤ length self.old.items }
         ensures { self.new ≡ buffer (drop count self.old.items) self.old.capacity }
     {
@@ -151,6 +175,17 @@ impl Ring {
         let (front, back) = self.as_slices();
         copy_first(front, back, out);
         self.drop_front(out.len());
+    }
+}
+
+/// Puts filler at the places of a block before `end` that were not written. It takes no memory.
+fn write_before(block: &mut Vec<u8>, end: usize)
+    requires { end ≤ vec_capacity block.old }
+    ensures items { block.new.items ≡ filled_to end block.old.items }
+    ensures capacity { vec_capacity block.old ≤ vec_capacity block.new }
+{
+    if block.len() < end {
+        let _ = block.resize(end, 0);
     }
 }
 

@@ -2,8 +2,8 @@ use Rattle.std.proofs.Common.{◌≡◌, ℕ, ◌+◌, ◌-◌, ◌≤◌, List,
 use Rattle.std.proofs.lemmas.List.{length-take}
 use Rattle.stream_buf.specs.Ring.{Buffer, buffer, turned}
 use Rattle.stream_buf.proofs.Turning.{dropped_on, dropped_round}
-use Rattle.stream_buf.proofs.ring.Ring.drop_front.Goals as goal
-use Rattle.stream_buf.proofs.ring.Ring.drop_front.Goals.{then-count-to_end, else-count-to_end}
+use Rattle.stream_buf.proofs.ring.Ring.move_on.Goals as goal
+use Rattle.stream_buf.proofs.ring.Ring.move_on.Goals.{then-count-to_end, else-count-to_end}
 
 pub returns : goal.returns
 returns c =
@@ -11,8 +11,8 @@ returns c =
     let start : ℕ = c.self.inside.start in
     let len : ℕ = c.self.inside.len in
     let count : ℕ = c.args.count in
-    let there : start ≤ length block = c.self.invariant.there in
-    let within : len ≤ length block = c.self.invariant.fits in
+    let there : start ≤ length block = c.self.invariant.0.there in
+    let within : len ≤ length block = c.self.invariant.0.fits in
     let size : c.len.result ≡ length block = c.len.ensures ∙ c.self.inside.block.ok.0 in
     let seen = ap (λ (b : Buffer). length b.items) c.self.view_is in
     let less : count ≤ len = omega (arith, seen, length-take len (turned start block), c.requires) in
@@ -27,4 +27,4 @@ returns c =
           ∙ ap (λ (n : ℕ). take (len - count) (turned (count - (n - start)) block)) size
           ∙ dropped_round block start len count there within less past
     ] in
-    ap (λ (xs : List ℕ). buffer xs (length block)) items ∙ ap (λ (b : Buffer). buffer (drop count b.items) b.capacity) c.self.view_is
+    ap (λ (xs : List ℕ). buffer xs c.self.inside.capacity) items ∙ ap (λ (b : Buffer). buffer (drop count b.items) b.capacity) c.self.view_is
