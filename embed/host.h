@@ -27,12 +27,15 @@
  * THREADS. A handle is used by one thread at a time. It may be handed to another thread, under a lock, as any memory of malloc; no proof speaks of
  * threads. Handles share nothing, so each may have a thread of its own. Make no call in a signal handler, nor in the forked child of a process with threads.
  *
- * MEMORY. The library takes memory of malloc and realloc and gives it back by free: in host_new (some 610 kB), in host_socket and in a
- * host_deliver that opens a connection (131,070 octets for a connection, 134,142 for a UDP socket: its two buffers). No other call takes any. So a
- * host takes some 9.2 MB at the most. Of the stack host_new wants some 365 kB, since it makes the host there before it moves it to its place; every
- * other call wants less than 4 kB. Where memory is refused the call is refused (HOST_ENOMEM, HOST_DROP_NO_ROOM), and the program goes on. host_free
- * gives all of it back. Of the C library the calls use these three and memcpy, memmove, memset and memcmp, and no variable of their own
- * outlives a call.
+ * MEMORY. The library takes memory of malloc and realloc and gives it back by free: in host_new and host_new_with (some 610 kB), in host_socket
+ * and in a host_deliver that opens a connection (2,097,152 octets for a connection, 134,142 for a UDP socket: its two buffers). No other call takes
+ * any. So a host takes some 135 MB at the most. It writes to a page of a connection's buffers only as octets pass through that page: where the system
+ * gives memory page by page, an idle connection costs next to none. Where malloc gives memory that is there at once, as on a machine
+ * without virtual memory, have the option off (no_window_scale of struct host_config): then a connection takes 131,070 octets, and a host some 9.2 MB
+ * at the most; so does a connection whose peer's SYN is without the option, in host_deliver. Of the stack host_new wants some 365 kB, since it makes
+ * the host there before it moves it to its place; every other call wants less than 4 kB. Where memory is refused the call is refused (HOST_ENOMEM,
+ * HOST_DROP_NO_ROOM), and the program goes on. host_free gives all of it back. Of the C library the calls use these three and memcpy, memmove, memset
+ * and memcmp, and no variable of their own outlives a call.
  */
 #ifndef HOST_H
 #define HOST_H
@@ -131,6 +134,27 @@ struct host_route {
     uint8_t length;
 };
 
+/* How a host is set up: `size` is sizeof (struct host_config), `mac`, `addr`, `routes` and `count` are as host_new takes them (where `count` is 0
+ * `routes` may be NULL), and what isn't named is 0:
+ *
+ *     const struct host_config config = {.size = sizeof config, .addr = HOST_ADDR(10, 0, 0, 1), .mac = {2, 0, 0, 0, 0, 1}};
+ *
+ * A later header may have more members behind these. By its size a program of today is understood by a later library, and a later program by this one
+ * where it leaves them 0. */
+struct host_config {
+    size_t size;                     /* octets of the struct, as the program knows it */
+    const struct host_route *routes;
+    size_t count;
+    uint32_t addr;
+    uint8_t mac[6];
+    uint8_t no_window_scale;         /* 1: no window scale option (RFC 7323 section 2); a connection holds 65,535 octets each way, else 1,048,576 */
+    uint8_t zero[5];                 /* 0 */
+};
+
+/* So the library finds it. */
+typedef char host_config_has_its_form[sizeof(struct host_config) == 40 && offsetof(struct host_config, addr) == 24 &&
+                                              offsetof(struct host_config, no_window_scale) == 34 ? 1 : -1];
+
 /* ---- A host ---------------------------------------------------------------------------------------------------------------------------- */
 
 /* Makes a host at `addr`, whose interface has this MAC, with `count` routes, and puts it into `host`, which held none. It answers 0, and then
@@ -140,6 +164,20 @@ struct host_route {
  * (the low bit of its first octet is set), a prefix is longer than 32 bits or has bits set past its length, two routes have the same prefix,
  * or there are more than HOST_ROUTES. HOST_ENOMEM. */
 int64_t host_new(struct host *host, const uint8_t mac[6], uint32_t addr, const struct host_route *routes, size_t count);
+
+/* What host_new_with calls, and programs in other languages than C: the octets of a config, as many as its `size` says (else HOST_EINVAL), and its
+ * routes, which are read here alone. */
+int64_t host_new_from(struct host *host, const uint8_t *config, size_t size, const struct host_route *routes, size_t count);
+
+/* Makes a host as host_new does, by a config. host_new makes one whose options are 0.
+ *
+ * HOST_EINVAL, also where the config's size is less than 40, its no_window_scale is neither 0 nor 1, or an octet behind that one, up to its size,
+ * isn't 0. HOST_ENOMEM. */
+static inline int64_t host_new_with(struct host *host, const struct host_config *config)
+{
+    const struct host_route none = {0, 0, 0};
+    return host_new_from(host, (const uint8_t *)config, config->size, config->count == 0 ? &none : config->routes, config->count);
+}
 
 /* Ends a host, with all its sockets and connections, and gives its memory back. Nothing goes out: a peer learns of it as of a host that was
  * switched off. The handle is all zero then. Of a handle that holds no host: nothing. */

@@ -70,13 +70,25 @@ class _Route(ctypes.Structure):
     _fields_ = [("prefix", ctypes.c_uint32), ("gateway", ctypes.c_uint32), ("length", ctypes.c_uint8)]
 
 
+class _Config(ctypes.Structure):
+    _fields_ = [
+        ("size", ctypes.c_size_t),
+        ("routes", ctypes.POINTER(_Route)),
+        ("count", ctypes.c_size_t),
+        ("addr", ctypes.c_uint32),
+        ("mac", ctypes.c_uint8 * 6),
+        ("no_window_scale", ctypes.c_uint8),
+        ("zero", ctypes.c_uint8 * 5),
+    ]
+
+
 _HANDLE = ctypes.POINTER(_Handle)
 _ENDPOINT = ctypes.POINTER(_Endpoint)
 _U16, _U32, _U64, _SIZE, _OCTETS = ctypes.c_uint16, ctypes.c_uint32, ctypes.c_uint64, ctypes.c_size_t, ctypes.c_char_p
 
 # The arguments of each call behind the handle. Each answers an int64_t, but the two of _SILENT, which answer nothing.
 _CALLS = {
-    "host_new": [_OCTETS, _U32, ctypes.POINTER(_Route), _SIZE],
+    "host_new_from": [_OCTETS, _SIZE, ctypes.POINTER(_Route), _SIZE],
     "host_free": [],
     "host_socket": [_U32],
     "host_bind": [_U64, _U32, _U16],
@@ -156,11 +168,12 @@ def _answer(number):
 class Host:
     """A host at `addr` (`"10.0.0.1"`), whose interface has the MAC `mac` (`"02:00:00:00:00:01"`, or six octets).
 
-    `routes` has for each prefix (`"10.0.0.0/24"`) the gateway, or None where the prefix is on the link. A host is freed by `free`, at the
-    end of a `with`, or when nothing names it any more.
+    `routes` has for each prefix (`"10.0.0.0/24"`) the gateway, or None where the prefix is on the link. With `scale` the host uses the window
+    scale option, and a connection with a peer that does too holds 1,048,576 octets each way, else 65,535. A host is freed by `free`, at the end
+    of a `with`, or when nothing names it any more.
     """
 
-    def __init__(self, mac, addr, routes):
+    def __init__(self, mac, addr, routes, scale=True):
         self._handle = _Handle()
         if isinstance(mac, str):
             mac = bytes.fromhex(mac.replace(":", ""))
@@ -171,7 +184,8 @@ class Host:
             network = ipaddress.IPv4Network(prefix)
             row.prefix, row.length = int(network.network_address), network.prefixlen
             row.gateway = 0 if gateway is None else _addr(gateway)
-        self._call("host_new", bytes(mac), _addr(addr), rows, len(routes))
+        config = _Config(ctypes.sizeof(_Config), None, len(routes), _addr(addr), tuple(mac), not scale)
+        self._call("host_new_from", bytes(config), config.size, rows, len(routes))
 
     def _call(self, name, *arguments):
         return _answer(getattr(_LIBRARY, name)(self._handle, *arguments))

@@ -18,6 +18,7 @@ static const char help[] =
     "  --addr ADDR[/LENGTH]       its address, and the length of the link's prefix (24)\n"
     "  --gateway ADDR             where all goes that is not for the link (nowhere)\n"
     "  --mac MAC                  its MAC (02:00 and the four octets of the address)\n"
+    "  --no-scale                 no window scale option: a connection holds 65,535 octets each way, and not 1,048,576\n"
     "\n"
     "What it does, in place of the services:\n"
     "  --connect ADDR PORT        connects there: standard input goes to the peer, what comes of it to standard output\n"
@@ -141,11 +142,12 @@ static void read_forward(struct options *options, const char *port, const char *
     forward->to.port = read_port("--forward", strrchr(to, ':') + 1);
 }
 
-enum { TAP = 1, ADDR, GATEWAY, MAC, CONNECT, FORWARD, SOURCE, LOSE, DROP, REPEAT, DELAY, PCAP, OPENINGS, IDLE, PATIENCE, VERBOSE, HELP };
+enum { TAP = 1, ADDR, GATEWAY, MAC, NO_SCALE, CONNECT, FORWARD, SOURCE, LOSE, DROP, REPEAT, DELAY, PCAP, OPENINGS, IDLE, PATIENCE, VERBOSE, HELP };
 
 static const struct option words[] = {
     {"tap", required_argument, NULL, TAP},           {"addr", required_argument, NULL, ADDR},     {"gateway", required_argument, NULL, GATEWAY},
-    {"mac", required_argument, NULL, MAC},           {"connect", required_argument, NULL, CONNECT}, {"forward", required_argument, NULL, FORWARD},
+    {"mac", required_argument, NULL, MAC},           {"no-scale", no_argument, NULL, NO_SCALE},
+    {"connect", required_argument, NULL, CONNECT},   {"forward", required_argument, NULL, FORWARD},
     {"source", required_argument, NULL, SOURCE},     {"lose", required_argument, NULL, LOSE},
     {"drop", required_argument, NULL, DROP},         {"repeat", required_argument, NULL, REPEAT},
     {"delay", required_argument, NULL, DELAY},       {"pcap", required_argument, NULL, PCAP},     {"idle", required_argument, NULL, IDLE},
@@ -216,6 +218,9 @@ static void read_one(struct options *options, int which, int argc, char **argv)
         break;
     case MAC:
         read_mac(options, optarg);
+        break;
+    case NO_SCALE:
+        options->no_scale = true;
         break;
     case CONNECT:
         options->connects = true;

@@ -87,7 +87,10 @@ static bool open_host(struct tap *tap)
 {
     const struct options *options = &tap->options;
     const struct host_route routes[2] = {{options->addr & mask_of(options->length), 0, options->length}, {0, options->gateway, 0}};
-    const int64_t done = host_new(&tap->host, options->mac, options->addr, routes, options->gateway == 0 ? 1 : 2);
+    struct host_config config = {.size = sizeof config, .routes = routes, .count = options->gateway == 0 ? 1 : 2, .addr = options->addr};
+    memcpy(config.mac, options->mac, sizeof config.mac);
+    config.no_window_scale = options->no_scale;
+    const int64_t done = host_new_with(&tap->host, &config);
     if (done < 0) {
         fail(tap, "the host", host_refusal_name(done));
     }

@@ -73,7 +73,7 @@ struct forward {
 struct options {
     const char *device, *capture;
     uint8_t mac[6];
-    bool has_mac, verbose;
+    bool has_mac, no_scale, verbose;
     uint32_t addr, gateway;
     uint8_t length;
     struct faults in, out;

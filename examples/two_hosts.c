@@ -1,6 +1,6 @@
 /*
- * Two hosts in one program, joined in memory: a handshake, octets both ways, a datagram there and back, and a close. It checks what it
- * reads, and ends with status 0 where all of it was as it should be. `embed/build` makes it.
+ * Two hosts in one program, joined in memory: a handshake, octets both ways, a datagram there and back, and a close; once with the window
+ * scale option, and once without. It checks what it reads, and ends with status 0 where all of it was as it should be. `embed/build` makes it.
  */
 #include "host.h"
 
@@ -61,8 +61,29 @@ static void say(struct host *from, uint64_t from_id, struct host *to, uint64_t t
     CHECK(memcmp(buffer, text, (size_t)len) == 0);
 }
 
+/* Gives a connection more octets than it has room for, and reads those at its other end that it took. */
+static void fill(struct host *from, uint64_t from_id, struct host *to, uint64_t to_id, int64_t room)
+{
+    static uint8_t octets[1 << 21], buffer[1 << 21];
+    int64_t read = 0, len;
+    size_t i;
+
+    for (i = 0; i < sizeof octets; i++)
+        octets[i] = (uint8_t)(i % 251);
+    CHECK(host_send(from, from_id, octets, sizeof octets) == room);
+    CHECK(host_send(from, from_id, octets, 1) == HOST_EAGAIN);
+    while (read < room) {
+        turns();
+        now += 200; /* an ACK may wait for so long */
+        len = host_recv(to, to_id, buffer + read, sizeof buffer - (size_t)read);
+        CHECK(len > 0 || len == HOST_EAGAIN);
+        read += len > 0 ? len : 0;
+    }
+    CHECK(read == room && memcmp(buffer, octets, (size_t)room) == 0);
+}
+
 /* A connection from a to b: opened, used both ways, and closed by both ends in turn. */
-static void connection(void)
+static void connection(int64_t room)
 {
     const uint32_t peer = HOST_ADDR(10, 0, 0, 2);
     uint64_t listener = (uint64_t)host_socket(&b, HOST_KIND_TCP);
@@ -87,6 +108,7 @@ static void connection(void)
     CHECK(host_accept(&b, listener, &from) == HOST_EAGAIN);
     say(&a, caller, &b, (uint64_t)accepted, "hello");
     say(&b, (uint64_t)accepted, &a, caller, "welcome");
+    fill(&a, caller, &b, (uint64_t)accepted, room);
 
     CHECK(host_shutdown_write(&a, caller) == 0);
     turns();
@@ -126,24 +148,53 @@ static void datagrams(void)
     CHECK(host_recvfrom(&a, client, buffer, sizeof buffer, &from) == HOST_EAGAIN);
 }
 
+/* What a config must be. Those that aren't are refused. */
+static void configs(struct host_config config)
+{
+    struct {
+        struct host_config config;
+        uint64_t later; /* an option of a later header */
+    } larger = {config, 0};
+
+    config.no_window_scale = 2;
+    CHECK(host_new_with(&b, &config) == HOST_EINVAL);
+    config.no_window_scale = 0;
+    config.zero[4] = 1;
+    CHECK(host_new_with(&b, &config) == HOST_EINVAL);
+    config.zero[4] = 0;
+    config.size = sizeof config - 1;
+    CHECK(host_new_with(&b, &config) == HOST_EINVAL);
+    CHECK(host_new_from(&b, (const uint8_t *)&config, sizeof config, config.routes, config.count) == HOST_EINVAL);
+    larger.config.size = sizeof larger;
+    larger.later = 1;
+    CHECK(host_new_with(&b, &larger.config) == HOST_EINVAL);
+    larger.later = 0;
+    CHECK(host_new_with(&b, &larger.config) == 0);
+    CHECK(host_new_with(&b, &larger.config) == HOST_EINVAL);
+    host_free(&b);
+}
+
 int main(void)
 {
-    const uint8_t mac_a[6] = {2, 0, 0, 0, 0, 1}, mac_b[6] = {2, 0, 0, 0, 0, 2};
+    const uint8_t mac_a[6] = {2, 0, 0, 0, 0, 1};
     const struct host_route route = {HOST_ADDR(10, 0, 0, 0), 0, 24};
+    struct host_config config = {.size = sizeof config, .routes = &route, .count = 1, .addr = HOST_ADDR(10, 0, 0, 2), .mac = {2, 0, 0, 0, 0, 2}};
     int64_t refusal;
 
     refusal = host_new(&a, mac_a, HOST_ADDR(255, 0, 0, 1), &route, 1);
     CHECK(refusal == HOST_EINVAL && host_errno(refusal) == EINVAL && strcmp(host_refusal_name(refusal), "EINVAL") == 0);
-    CHECK(host_new(&a, mac_a, HOST_ADDR(10, 0, 0, 1), &route, 1) == 0);
-    CHECK(host_new(&b, mac_b, HOST_ADDR(10, 0, 0, 2), &route, 1) == 0);
+    configs(config);
 
-    connection();
-    datagrams();
-
-    host_free(&a);
-    host_free(&b);
+    for (; config.no_window_scale < 2; config.no_window_scale++) {
+        CHECK(host_new(&a, mac_a, HOST_ADDR(10, 0, 0, 1), &route, 1) == 0);
+        CHECK(host_new_with(&b, &config) == 0);
+        connection(config.no_window_scale ? 65535 : 1048576);
+        datagrams();
+        host_free(&a);
+        host_free(&b);
+    }
     host_free(&b);
     CHECK(a.at == NULL && b.at == NULL && host_socket(&a, HOST_KIND_TCP) == HOST_EBADF);
-    puts("two hosts: a connection, octets both ways, datagrams and a close");
+    puts("two hosts: a connection, octets both ways, datagrams and a close; with the window scale option, and without");
     return 0;
 }

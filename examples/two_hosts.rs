@@ -2,6 +2,7 @@
 //! reads, and ends with status 0 where all of it was as it should be. `embed/build` makes it, by rustc and `libhostc.a`.
 
 use std::fmt;
+use std::mem::size_of;
 
 /// The library's own functions, as `embed/host.h` has them: what each does and refuses stands there.
 mod c {
@@ -25,8 +26,20 @@ mod c {
         pub length: u8,
     }
 
+    /// Its octets are passed, so it has no padding.
+    #[repr(C)]
+    pub struct Config {
+        pub size: usize,
+        pub routes: *const Route,
+        pub count: usize,
+        pub addr: u32,
+        pub mac: [u8; 6],
+        pub no_window_scale: u8,
+        pub zero: [u8; 5],
+    }
+
     extern "C" {
-        pub fn host_new(host: *mut Host, mac: *const u8, addr: u32, routes: *const Route, count: usize) -> i64;
+        pub fn host_new_from(host: *mut Host, config: *const Config, size: usize, routes: *const Route, count: usize) -> i64;
         pub fn host_free(host: *mut Host);
         pub fn host_socket(host: *mut Host, kind: u32) -> i64;
         pub fn host_bind(host: *mut Host, id: u64, addr: u32, port: u16) -> i64;
@@ -75,10 +88,19 @@ fn answer(number: i64) -> Result<u64, Refused> {
 struct Host(c::Host);
 
 impl Host {
-    fn new(mac: [u8; 6], addr: [u8; 4], routes: &[c::Route]) -> Result<Host, Refused> {
+    /// With `scale` it uses the window scale option.
+    fn new(mac: [u8; 6], addr: [u8; 4], routes: &[c::Route], scale: bool) -> Result<Host, Refused> {
         let mut host = Host(c::Host { at: std::ptr::null_mut() });
-        let addr = u32::from_be_bytes(addr);
-        answer(unsafe { c::host_new(&mut host.0, mac.as_ptr(), addr, routes.as_ptr(), routes.len()) })?;
+        let config = c::Config {
+            size: size_of::<c::Config>(),
+            routes: routes.as_ptr(),
+            count: routes.len(),
+            addr: u32::from_be_bytes(addr),
+            mac,
+            no_window_scale: u8::from(!scale),
+            zero: [0; 5],
+        };
+        answer(unsafe { c::host_new_from(&mut host.0, &config, config.size, config.routes, config.count) })?;
         Ok(host)
     }
 
@@ -263,8 +285,8 @@ fn main() -> Result<(), Refused> {
         length: 24,
     }];
     let mut network = Network {
-        a: Host::new([2, 0, 0, 0, 0, 1], [10, 0, 0, 1], &routes)?,
-        b: Host::new([2, 0, 0, 0, 0, 2], [10, 0, 0, 2], &routes)?,
+        a: Host::new([2, 0, 0, 0, 0, 1], [10, 0, 0, 1], &routes, true)?,
+        b: Host::new([2, 0, 0, 0, 0, 2], [10, 0, 0, 2], &routes, true)?,
         now: 1000,
         isn: 100,
     };

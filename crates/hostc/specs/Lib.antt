@@ -2,4 +2,5 @@ pub mod Held
 pub mod Numbers
 pub mod Types
 pub mod Calls
+pub mod Config
 pub mod Setup

@@ -3,6 +3,7 @@
 #![tactic(auto)]
 
 mod calls;
+mod config;
 mod convert;
 mod datagrams;
 mod handle;
@@ -12,5 +13,6 @@ mod questions;
 mod setup;
 mod types;
 
+pub use config::Config;
 pub use handle::Handle;
 pub use types::{End, HostRoute};

@@ -1,18 +1,19 @@
 //! The making of a host, and its end.
 
-ghost use Rattle.std.specs.Prelude.{◌≡◌, ◌⊎◌, ◌↔◌, None, IfOk, IfErr, IsOk};
-ghost use Rattle.hostc.specs.Setup.{IsNew, IsTold, IsValidSetup, IsValidTable, Setup};
+ghost use Rattle.std.specs.Prelude.{◌≡◌, ◌⊎◌, ◌↔◌, true, None, IfOk, IfErr, IsOk};
+ghost use Rattle.hostc.specs.Setup.{IsNew, IsTold, IsValidSetup, IsValidTable, Setup, SetupBy};
 
+use crate::config::Config;
 use crate::convert::{addr_of, hop_of, refused};
 use crate::handle::Handle;
 use crate::types::HostRoute;
 use ether::Mac;
-use host::{Config, Host, Refusal};
+use host::{Host, Refusal};
 use ipv4::Prefix;
 use routes::Routes;
 use std::alloc::Global;
 
-/// Makes a host with this MAC, address and routes, and has the handle hold it. Answers 0.
+/// Makes a host with this MAC, address and routes, which uses the window scale option (RFC 7323 section 2), and has the handle hold it. Answers 0.
 ///
 /// EINVAL where the handle holds a host already, a route's prefix is none, two have one prefix, there are over 32 of them, the address is not
 /// unicast (RFC 1122 section 3.2.1.3) or the MAC is that of a group; ENOMEM. The handle stays as it was then.
@@ -24,13 +25,44 @@ pub extern "C" fn host_new(
     addr: u32,
     routes: &[HostRoute],
 ) -> i64
-    ensures { Setup (record { 0 = mac.now }) addr routes.now handle.old.host result handle.new.host }
+    ensures { Setup (record { mac = record { 0 = mac.now }; addr = addr; scales = true }) routes.now handle.old.host result handle.new.host }
+{
+    let config = Config {
+        mac: Mac(*mac),
+        addr,
+        scales: true,
+    };
+    set_up(alloc, handle, config, routes)
+}
+
+/// `host_new` by the octets of a `struct host_config`, and its routes: it uses the window scale option where the config's own is 0.
+///
+/// EINVAL also where the octets are no config: not as many as its size says, fewer than 40, an option that is neither 0 nor 1, or another octet
+/// than 0 behind the last option.
+#[unsafe(no_mangle)]
+pub extern "C" fn host_new_from(
+    alloc: Global,
+    handle: &mut Handle,
+    config: &[u8],
+    routes: &[HostRoute],
+) -> i64
+    ensures { SetupBy config.now routes.now handle.old.host result handle.new.host }
+{
+    match Config::read(config) {
+        Some(config) => set_up(alloc, handle, config, routes),
+        None => refused(Refusal::EINVAL),
+    }
+}
+
+/// Makes a host by this config and these routes, and has the handle hold it. Answers 0, EINVAL or ENOMEM.
+fn set_up(alloc: Global, handle: &mut Handle, config: Config, routes: &[HostRoute]) -> i64
+    ensures { Setup config routes.now handle.old.host result handle.new.host }
 {
     if let Some(host) = handle.take(alloc) {
         handle.put(alloc, host);
         return refused(Refusal::EINVAL);
     }
-    let host = match made(alloc, Mac(*mac), addr, routes) {
+    let host = match made(alloc, config, routes) {
         Ok(host) => host,
         Err(refusal) => return refused(refusal),
     };
@@ -46,14 +78,14 @@ pub extern "C" fn host_free(alloc: Global, handle: &mut Handle)
     let _ = handle.take(alloc);
 }
 
-/// A host with these routes, on the heap. EINVAL, ENOMEM.
-fn made(alloc: Global, mac: Mac, addr: u32, routes: &[HostRoute]) -> Result<Box<Host>, Refusal>
-    ensures ok { IfOk result (λ host. IsValidSetup mac addr routes.now × IsNew mac addr routes.now host.value) }
-    ensures refusal { IfErr result (λ refusal. ((refusal ≡ Refusal.EINVAL) × ¬ IsValidSetup mac addr routes.now) ⊎ ((refusal ≡ Refusal.ENOMEM) × IsValidSetup mac addr routes.now)) }
+/// A host by this config, with these routes, on the heap. EINVAL, ENOMEM.
+fn made(alloc: Global, config: Config, routes: &[HostRoute]) -> Result<Box<Host>, Refusal>
+    ensures ok { IfOk result (λ host. IsValidSetup config routes.now × IsNew config routes.now host.value) }
+    ensures refusal { IfErr result (λ refusal. ((refusal ≡ Refusal.EINVAL) × ¬ IsValidSetup config routes.now) ⊎ ((refusal ≡ Refusal.ENOMEM) × IsValidSetup config routes.now)) }
 {
     let table = table(routes)?;
-    let config = Config::new(mac, addr_of(addr), table)?;
-    let host = Host::new(alloc, config)?;
+    let set = host::Config::new(config.mac, addr_of(config.addr), table)?.with_scale(config.scales);
+    let host = Host::new(alloc, set)?;
     Box::new(alloc, host).map_err(|_| Refusal::ENOMEM)
 }
 
