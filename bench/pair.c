@@ -12,7 +12,6 @@
 
 enum {
     PERIOD = 251,                                  /* of the pattern: no power of two, nor a divisor of a segment's length */
-    WINDOW = BUFFER_SIZE / SEGMENT * SEGMENT,      /* the whole segments of one */
     TOTAL = 27400 * SEGMENT,                       /* octets of a run that is timed */
     ONE_IN = 100,                                  /* frames of data that are lost, where some are */
     RUNS = 9,
@@ -25,11 +24,11 @@ enum {
 /* What the application does, and how often: `writes` and `full` are loads 1 and 2 of docs/PERFORMANCE.md. */
 struct load {
     const char *name;
-    size_t write;        /* octets of one write */
+    size_t write;        /* octets of one write; it may take fewer */
     bool at_each_frame;  /* it writes and reads after each frame, not after each pass */
 };
 
-static const struct load loads[] = {{"writes", SEGMENT, false}, {"full", BUFFER_SIZE, true}};
+static const struct load loads[] = {{"writes", SEGMENT, false}, {"full", LARGE, true}};
 
 /* What one run did. */
 struct run {
@@ -38,7 +37,7 @@ struct run {
 };
 
 struct line lines[ENDS];
-static uint8_t pattern[BUFFER_SIZE + PERIOD], buffer[BUFFER_SIZE];
+static uint8_t pattern[LARGE + PERIOD], buffer[SMALL];
 
 static uint64_t octets, loss;                  /* of a run: how many, and one in how many frames of data is lost (0: none) */
 static bool checks;                            /* whether the octets that come are compared */
@@ -129,7 +128,7 @@ static size_t data_of(const uint8_t *frame)
     }
     const size_t data = number_at(frame + ETHERNET_SIZE + 2, 2) - IPV4_SIZE - (size_t)(tcp[12] >> 4) * 4;
     const uint32_t fresh = seq + (uint32_t)data - top;
-    if (fresh != 0 && fresh <= BUFFER_SIZE) {
+    if (fresh != 0 && fresh <= LARGE) {
         top += fresh;
         came_first += fresh;
     } else if (data != 0) {
@@ -152,9 +151,11 @@ static bool is_lost(const uint8_t *frame)
 
 static void write_octets(const struct stack *stack, const struct load *load)
 {
-    while (written < octets && written - read_so_far < (load->at_each_frame ? octets : WINDOW)) {
+    const uint64_t window = stack->room / SEGMENT * SEGMENT;
+    while (written < octets && written - read_so_far < (load->at_each_frame ? octets : window)) {
         const uint64_t left = octets - written;
-        const size_t wanted = left < load->write ? (size_t)left : load->write;
+        const size_t most = load->write < stack->room ? load->write : stack->room;
+        const size_t wanted = left < most ? (size_t)left : most;
         const size_t count = stack->send(pattern + written % PERIOD, wanted);
         written += count;
         if (count < wanted) {
@@ -163,13 +164,17 @@ static void write_octets(const struct stack *stack, const struct load *load)
     }
 }
 
+/* All that has come, in parts. */
 static void read_octets(const struct stack *stack)
 {
-    const size_t count = stack->recv(buffer, sizeof buffer);
-    if (checks && memcmp(buffer, pattern + read_so_far % PERIOD, count) != 0) {
-        fail("other octets were read than were written");
-    }
-    read_so_far += count;
+    size_t count;
+    do {
+        count = stack->recv(buffer, sizeof buffer);
+        if (checks && memcmp(buffer, pattern + read_so_far % PERIOD, count) != 0) {
+            fail("other octets were read than were written");
+        }
+        read_so_far += count;
+    } while (count == sizeof buffer);
 }
 
 static void work(const struct stack *stack, const struct load *load, enum end end)
@@ -265,8 +270,8 @@ static struct run reads(const struct stack *stack, uint64_t times)
 {
     struct run run = {0, 0, 0, 0, 0};
     open_pair(stack);
-    while (came_first < BUFFER_SIZE) {
-        written += stack->send(pattern + written % PERIOD, BUFFER_SIZE - written);
+    while (came_first < SMALL) {
+        written += stack->send(pattern + written % PERIOD, SMALL - written);
         stack->emit(NEAR);
         pass(stack, NULL);
     }
@@ -298,6 +303,7 @@ static void keep_least(struct run *least, struct run run)
 
 static const struct stack *const stacks[] = {
     &ours,
+    &ours_scaled,
 #ifdef WITH_LWIP
     &lwip,
 #endif
@@ -312,7 +318,7 @@ static void print_transfer(const struct stack *stack, const struct load *load, s
         printf(" (%+" PRId64 "; %" PRIu64 " lost, %" PRIu64 " resent)", (int64_t)(run.frames - lossless), run.lost, run.resent);
     }
     printf(", %" PRIu64 " ns a frame, %" PRIu64 " MB/s", run.nanoseconds / run.frames, octets * 1000 / run.nanoseconds);
-    if (stack == &ours) {
+    if (stack == &ours || stack == &ours_scaled) {
         printf(", memory taken %" PRIu64 " times", run.taken);
     }
     printf("\n");
@@ -348,10 +354,10 @@ static void time_reads(void)
     struct run least = {0, 0, 0, 0, 0};
     loss = 0;
     for (int time = 0; time < RUNS; time++) {
-        keep_least(&least, reads(&ours, BUFFER_SIZE));
+        keep_least(&least, reads(&ours, SMALL));
     }
     printf("%s, reads of one octet: %" PRIu64 " ns each, memory taken %" PRIu64 " times\n", ours.name,
-           least.nanoseconds / BUFFER_SIZE, least.taken);
+           least.nanoseconds / SMALL, least.taken);
 }
 
 static const struct stack *stack_of(const char *name)

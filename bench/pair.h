@@ -8,9 +8,10 @@
 
 enum {
     FRAME_SIZE = 1514,
-    LINE_SIZE = 256,     /* frames: more than a window of them, and all that acknowledge one */
+    LINE_SIZE = 1024,    /* frames: more than the largest window of them, and all that acknowledge one */
     SEGMENT = 1460,      /* octets of a full one */
-    BUFFER_SIZE = 65535, /* octets of a send buffer, a receive buffer and a window */
+    SMALL = 65535,       /* octets of a send buffer, a receive buffer and a window, where windows aren't scaled */
+    LARGE = 1048576,     /* and where they are */
     PORT = 80
 };
 
@@ -34,6 +35,8 @@ void line_push(enum end end, size_t len);
 /* Two hosts of one kind, with a connection that is open between them. */
 struct stack {
     const char *name;
+    /* Octets of a send buffer, a receive buffer and a window. */
+    size_t room;
     /* Makes both hosts, and begins to open the connection. */
     void (*begin)(void);
     /* Whether both ends are ESTABLISHED. */
@@ -52,7 +55,7 @@ struct stack {
     void (*wait)(void);
 };
 
-extern const struct stack ours;
+extern const struct stack ours, ours_scaled;
 #ifdef WITH_LWIP
 extern const struct stack lwip;
 #endif

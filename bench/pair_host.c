@@ -14,24 +14,35 @@ static uint64_t done(int64_t answer, const char *what)
     return (uint64_t)answer;
 }
 
-static void open_host(enum end end, uint8_t last)
+static void open_host(enum end end, uint8_t last, bool scale)
 {
-    const uint8_t mac[6] = {2, 0, 0, 0, 0, last};
     const struct host_route link = {HOST_ADDR(10, 0, 0, 0), 0, 24};
-    done(host_new(&hosts[end], mac, HOST_ADDR(10, 0, 0, last), &link, 1), "new");
+    const struct host_config config = {.size = sizeof config, .routes = &link, .count = 1, .addr = HOST_ADDR(10, 0, 0, last),
+                                       .mac = {2, 0, 0, 0, 0, last}, .no_window_scale = !scale};
+    done(host_new_with(&hosts[end], &config), "new");
 }
 
-static void begin(void)
+static void begin_with(bool scale)
 {
     moment = 1;
-    open_host(NEAR, 1);
-    open_host(FAR, 2);
+    open_host(NEAR, 1, scale);
+    open_host(FAR, 2, scale);
     listener = done(host_socket(&hosts[FAR], HOST_KIND_TCP), "socket");
     done(host_bind(&hosts[FAR], listener, HOST_ADDR_ANY, PORT), "bind");
     done(host_listen(&hosts[FAR], listener, 1), "listen");
     connection[NEAR] = done(host_socket(&hosts[NEAR], HOST_KIND_TCP), "socket");
     connection[FAR] = 0;
     done(host_connect(&hosts[NEAR], moment, 1, connection[NEAR], HOST_ADDR(10, 0, 0, 2), PORT), "connect");
+}
+
+static void begin(void)
+{
+    begin_with(false);
+}
+
+static void begin_scaled(void)
+{
+    begin_with(true);
 }
 
 static bool is_open(void)
@@ -96,4 +107,6 @@ static void wait_for_timer(void)
     host_tick(&hosts[FAR], moment);
 }
 
-const struct stack ours = {"this stack", begin, is_open, end_both, emit, deliver, send_octets, recv_octets, wait_for_timer};
+const struct stack ours = {"this stack", SMALL, begin, is_open, end_both, emit, deliver, send_octets, recv_octets, wait_for_timer};
+const struct stack ours_scaled = {"this stack, scaled", LARGE, begin_scaled, is_open, end_both, emit, deliver, send_octets, recv_octets,
+                                  wait_for_timer};

@@ -190,4 +190,4 @@ static void wait_for_timer(void)
     tcp_tmr();
 }
 
-const struct stack lwip = {"lwIP", begin, is_open, end_both, emit, deliver, send_octets, recv_octets, wait_for_timer};
+const struct stack lwip = {"lwIP", SMALL, begin, is_open, end_both, emit, deliver, send_octets, recv_octets, wait_for_timer};

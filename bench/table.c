@@ -74,7 +74,7 @@ static void exchange(uint64_t here, uint64_t there)
 int main(int argc, char **argv)
 {
     if (argc != 4) {
-        fail("exchange|tick|deadline IDLE TIMES");
+        fail("exchange|tick|deadline|socket IDLE TIMES");
     }
     uint64_t here, there, moment;
     connect_hosts(atoi(argv[2]), &here, &there);
@@ -83,6 +83,8 @@ int main(int argc, char **argv)
             exchange(here, there);
         } else if (strcmp(argv[1], "tick") == 0) {
             host_tick(&far_one, MOMENT);
+        } else if (strcmp(argv[1], "socket") == 0) {
+            host_close(&far_one, done(host_socket(&far_one, HOST_KIND_TCP), "socket"));
         } else {
             host_next_deadline(&far_one, &moment);
         }
