@@ -53,10 +53,10 @@ def carry(hosts, frames):
                 moved = True
 
 
-def play():
+def play(scale):
     """A connection with octets both ways, and a datagram in fragments. Returns the frames."""
     frames = []
-    made = [again(Host, f"02:00:00:00:00:0{last}", f"10.0.0.{last}", ROUTES) for last in (1, 2)]
+    made = [again(Host, f"02:00:00:00:00:0{last}", f"10.0.0.{last}", ROUTES, scale) for last in (1, 2)]
     with made[0] as a, made[1] as b:
         listener, caller = again(b.socket), again(a.socket)
         b.bind(listener, ("0.0.0.0", 80))
@@ -80,17 +80,26 @@ def play():
     return frames
 
 
-def main():
+def play_each(scale):
+    """Plays with each growth refused: how many those were."""
     heap.memory_refuse(0, 0)
-    frames, asked = play(), heap.memory_asked()
+    frames, asked = play(scale), heap.memory_asked()
     for number in range(1, asked + 1):
         heap.memory_refuse(number, number)
         try:
-            want(play() == frames and heap.memory_refused() == 1, "other frames go out")
+            want(play(scale) == frames and heap.memory_refused() == 1, "other frames go out")
         except (Wrong, OSError) as why:
-            print(f"module: growth {number} refused: {why}", file=sys.stderr)
-            return 1
-    print(f"module: {asked} growths, each refused once")
+            raise Wrong(f"growth {number} refused: {why}") from why
+    return asked
+
+
+def main():
+    try:
+        asked = [play_each(scale) for scale in (True, False)]
+    except Wrong as why:
+        print(f"module: {why}", file=sys.stderr)
+        return 1
+    print(f"module: {asked[0]} growths with the window scale option, {asked[1]} without, each refused once")
     return 0
 
 

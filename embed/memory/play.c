@@ -23,6 +23,7 @@ static struct host hosts[HOSTS], *const a = &hosts[0], *const b = &hosts[1];
 static uint64_t now;
 static uint64_t growth;    /* the one that this run refuses, or the first of them */
 static uint64_t patience;  /* how many calls are refused in this run */
+static bool scales;        /* whether its hosts use the window scale option */
 static uint64_t calls_refused, of_new;
 static const char *doing;
 
@@ -155,7 +156,10 @@ static const struct host_route routes[] = {{HOST_ADDR(10, 0, 0, 0), 0, 24}, {0, 
 
 static int64_t make(int which)
 {
-    const int64_t answer = host_new(&hosts[which], macs[which], addrs[which], routes, sizeof routes / sizeof routes[0]);
+    struct host_config config = {.size = sizeof config, .routes = routes, .count = sizeof routes / sizeof routes[0], .addr = addrs[which]};
+    memcpy(config.mac, macs[which], sizeof config.mac);
+    config.no_window_scale = !scales;
+    const int64_t answer = host_new_with(&hosts[which], &config);
     want(answer == 0 || hosts[which].at == NULL, "it is refused, and the handle isn't all zero");
     return answer;
 }
@@ -340,16 +344,26 @@ static void play(uint64_t first, uint64_t last, uint64_t calls)
     want(calls_refused == calls, "another number of calls is refused");
 }
 
-int main(void)
+/* All of it with the window scale option, or without. */
+static void play_each(bool with_scale)
 {
     enum { TIMES = 5 };
+    scales = with_scale;
+    kept = 0;
     play(0, 0, 0);
     const uint64_t asked = memory_asked(), asked_by_new = of_new;
     for (uint64_t n = 1; n <= asked; n++) {
         play(n, n, 1);
         play(n, UINT64_MAX, TIMES);
     }
-    printf("play: %" PRIu64 " growths, %" PRIu64 " of them in the two host_new: each refused alone, and with all behind it until a call was refused %d times\n",
-           asked, asked_by_new, TIMES);
+    printf("play: %s: %" PRIu64 " growths, %" PRIu64 " of them in the two that make a host: each refused alone, and with all behind it until a call was "
+           "refused %d times\n",
+           with_scale ? "windows scaled" : "not scaled", asked, asked_by_new, TIMES);
+}
+
+int main(void)
+{
+    play_each(true);
+    play_each(false);
     return 0;
 }
