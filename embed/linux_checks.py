@@ -4,6 +4,7 @@ linux_checks.py TAP DEVICE FOLDER WORD LONG: the program, its device, where capt
 whether the long checks are made and no others: long, or ''.
 """
 
+import contextlib
 import fcntl
 import os
 import random
@@ -147,12 +148,33 @@ def await_state(connection, wanted, seconds=10):
     raise Wrong("Linux's connection doesn't come to its end")
 
 
+def scaling_of(connection):
+    """TCP_INFO has in octet 5 the options of both SYNs, 4 for the window scale, and in octet 6 the peer's shift and its own. None where it isn't in force."""
+    info = connection.getsockopt(socket.IPPROTO_TCP, socket.TCP_INFO, 8)
+    return (info[6] & 15, info[6] >> 4) if info[5] & 4 else None
+
+
 def expect_error(error, call, *arguments):
     try:
         call(*arguments)
     except error:
         return
     raise Wrong(f"no {error.__name__}")
+
+
+@contextlib.contextmanager
+def linux_scales(value):
+    """In the block Linux offers and takes the window scale option (1), or doesn't (0). The file is the namespace's own."""
+    path = "/proc/sys/net/ipv4/tcp_window_scaling"
+    with open(path) as file:
+        before = file.read()
+    try:
+        with open(path, "w") as file:
+            file.write(str(value))
+        yield
+    finally:
+        with open(path, "w") as file:
+            file.write(before)
 
 
 # ---- Frames that this program makes
@@ -445,8 +467,60 @@ def to_host(size, *words, send=socket.socket.sendall):
     return "equal"
 
 
+def scaling(*words):
+    """What Linux knows of the option, of a connection that it opened and of one that the host did."""
+    with Tap(*words), connected(7) as client:
+        client.sendall(b"echo")
+        want(client.recv(4) == b"echo", "other octets come back")
+        opened = scaling_of(client)
+    with listener() as server, Tap("--connect", LINUX, server.getsockname()[1], *words, stdin=subprocess.DEVNULL, stdout=subprocess.DEVNULL) as tap:
+        with accepted(server) as connection:
+            took = scaling_of(connection)
+            want(read_to_end(connection) == b"", "octets of an empty input")
+        want(tap.result(10) == (0, ""), "the program ends otherwise")
+    return opened, took
+
+
+def scaled():
+    told = scaling()
+    own = scale_of_linux()
+    want(own and told == ((5, own), (5, own)), f"{told}, and Linux's SYN has {own}")
+    return f"shift 5 of the host, and {own} of Linux, whoever opens"
+
+
+def not_scaled():
+    want(scaling("--no-scale") == (None, None), "the option is in force")
+    return "no option in force, whoever opens"
+
+
+def not_scaled_by_linux(body, size):
+    with linux_scales(0):
+        want(scaling() == (None, None), "the option is in force")
+        return body(size)
+
+
 def to_host_in_turn(size, *words):
     return to_host(size, *words, send=send_in_turn)
+
+
+def to_host_late(size):
+    """Nobody takes what the program reads for a minute: the host's window closes, and Linux probes it."""
+    data = octets(size)
+    with listener() as server:
+        words = ["--patience", 200, "--connect", LINUX, server.getsockname()[1]]
+        with Tap(*words, stdin=subprocess.DEVNULL, stdout=subprocess.PIPE) as tap:
+            with accepted(server) as connection:
+                connection.settimeout(LONG)
+                sender = threading.Thread(target=lambda: (connection.sendall(data), connection.shutdown(socket.SHUT_WR)), daemon=True)
+                sender.start()
+                time.sleep(60)
+                want(sender.is_alive(), "Linux has sent all before anything is read")
+                came = tap.process.stdout.read()
+                sender.join()
+                want(read_to_end(connection) == b"", "octets of an empty input")
+            status = tap.result(20)
+    want(status == (0, "") and came == data, f"{len(came)} octets come, or others, or {status}")
+    return "equal"
 
 
 def read_from_host(size, *words):
@@ -467,6 +541,23 @@ def from_host(size, *words):
     status = read_from_host(size, *words)
     want(status == (0, ""), f"{status}")
     return "equal"
+
+
+def scale_of_linux():
+    """The shift of Linux's first SYN of the last capture; None where it has no such option (RFC 7323 section 2.2)."""
+    with open(captures[-1], "rb") as file:
+        file.read(24)
+        while head := file.read(16):
+            frame = file.read(struct.unpack("<I", head[8:12])[0])
+            tcp = 14 + 4 * (frame[14] & 15)
+            if frame[6:8] == b"\x02\x00" or frame[12:14] != b"\x08\x00" or frame[23] != 6 or not frame[tcp + 13] & 2:
+                continue
+            options = frame[tcp + 20:tcp + 4 * (frame[tcp + 12] >> 4)]
+            while options and options[0] != 0:
+                if options[0] == 3:
+                    return options[2]
+                options = options[1 if options[0] == 1 else options[1]:]
+    return None
 
 
 def segments_of(is_of_host):
@@ -509,13 +600,14 @@ def linux_alone(size, one_in):
     return again(filled, resent)
 
 
-def from_host_late(size):
-    """Linux's window closes, and the host probes it until Linux reads on."""
+def from_host_late(size, buffer):
+    """Linux's window closes, and the host probes it until Linux reads on. Its buffer has so many octets, or where that is 0 as many as Linux likes."""
     data = octets(size)
     with listener() as server, tempfile.TemporaryFile() as given:
         given.write(data)
         given.seek(0)
-        server.setsockopt(socket.SOL_SOCKET, socket.SO_RCVBUF, 65536)
+        if buffer:
+            server.setsockopt(socket.SOL_SOCKET, socket.SO_RCVBUF, buffer)
         words = ["--patience", 200, "--connect", LINUX, server.getsockname()[1]]
         with Tap(*words, stdin=given, stdout=subprocess.DEVNULL) as tap:
             with accepted(server) as connection:
@@ -643,7 +735,19 @@ CHECKS = [
     ("100 MB to the host, one frame in 100 lost at random", to_host_counted, (100 * MEGABYTE, "--drop", "100"), ""),
     ("100 MB from the host, one frame in 100 lost at random", from_host_counted, (100 * MEGABYTE, "--drop", "100"), ""),
     ("100 MB from Linux to Linux, one frame in 100 lost at random", linux_alone, (100 * MEGABYTE, 100), ""),
-    ("1 MB from the host, Linux doesn't read for a minute", from_host_late, (MEGABYTE,), ""),
+    ("1 MB from the host, Linux doesn't read for a minute", from_host_late, (MEGABYTE, 65536), ""),
+    ("100 MB from the host, Linux doesn't read for a minute", from_host_late, (100 * MEGABYTE, 0), ""),
+    ("100 MB to the host, which doesn't read for a minute", to_host_late, (100 * MEGABYTE,), ""),
+    ("window scale: what TCP_INFO has", scaled, (), ""),
+    ("window scale: --no-scale", not_scaled, (), ""),
+    ("window scale: 10 MB to the host, Linux without the option", not_scaled_by_linux, (to_host, 10 * MEGABYTE), ""),
+    ("window scale: 10 MB from the host, Linux without the option", not_scaled_by_linux, (from_host, 10 * MEGABYTE), ""),
+    *[
+        (f"{size} MB {way} the host, 20 ms late each way{', --no-scale' if words else ''}", body, (size * MEGABYTE, "--delay", 20, *words), "")
+        for words in ((), ("--no-scale",))
+        for size in (10, 100)
+        for way, body in (("to", to_host_counted), ("from", from_host_counted))
+    ],
     ("a page by curl through --forward", page, (), ""),
     ("--forward to a port without a listener", forward_refused, (), ""),
     ("--forward, the client resets", forward_reset, (), ""),
