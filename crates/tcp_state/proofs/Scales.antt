@@ -1,17 +1,21 @@
 -- Why windows are scaled exactly where both sides' SYNs have the option, and what that makes of sizes and units.
 use Rattle.std.proofs.Common.{◌≡◌, ℕ, ◌≤◌, ◌^◌, ◌&&◌, ◌↔◌, min, if◌then◌else◌, Bool, true, false, [], ◌∷◌, Option, Some, None, is_some, arith, refl, sym, ◌∙◌, ap, subst}
 use lib.Pow.{pow_mono, pow_pos}
+use Rattle.ipv4.specs.declared.addr.Endpoint.{Endpoint}
 use Rattle.clock.specs.declared.moment.Moment.{Moment}
 use Rattle.tcp_segment.specs.Options.{HeaderOption, last_scale}
 use Rattle.tcp_segment.specs.Segment.{Segment, scale_option_of}
 use Rattle.tcp_state.specs.declared.emission.Due.{Due}
 use Rattle.tcp_state.specs.declared.state.State.TheVariants.{SynSent}
 use Rattle.tcp_halves.specs.Stream.{size_in, own_unit, peer_unit}
+use Rattle.tcp_halves.specs.Halves.{Room}
 use Rattle.tcp_state.specs.View.{View, AreTerms, IsSound}
+use Rattle.tcp_state.specs.Arrival.{opened_passively}
 use Rattle.tcp_state.specs.Due.{flags_of}
 use Rattle.tcp_state.specs.Said.{segment_of}
 use Rattle.tcp_state.specs.Edges.{Hears, after_event}
 use Rattle.tcp_state.specs.Opening.{TellsShift, TakesSyn}
+use Rattle.tcp_halves.proofs.Choices.{and_false}
 use Rattle.tcp_state.proofs.PeerSizes.{scale_of_syn}
 
 -- our offer, and the peer's shift
@@ -34,6 +38,24 @@ told_in_syns v due = let f = flags_of v due in told f.syn v.scales
     told true true = refl
     told true false = refl
     told false scales = refl
+
+-- .. and none in a SYN-ACK to who told none
+
+untold : (v : View) (due : Due) → v.scales ≡ false → scale_option_of (segment_of v due) ≡ None
+untold v due unscaled =
+    let f = flags_of v due in
+    told_in_syns v due ∙ (ap (λ b. if f.syn && b then Some 5 else None) unscaled ∙ ap (λ b. if b then Some 5 else None) (and_false f.syn))
+
+offered_to_none : (offers : Bool) (told : Option ℕ) → told ≡ None → (offers && is_some told) ≡ false
+offered_to_none offers told none = ap (λ o. offers && is_some o) none ∙ and_false offers
+
+pub told_to_none : (room : Room) (local peer : Endpoint) (isn : ℕ) (syn : Segment) (now : Moment) (due : Due) → scale_option_of syn ≡ None
+    → scale_option_of (segment_of (opened_passively room local peer isn syn now) due) ≡ None
+told_to_none room local peer isn syn now due none = untold (opened_passively room local peer isn syn now) due (offered_to_none room.scales (scale_option_of syn) none)
+
+pub told_unasked : (v : View) (s : Segment) (now : Moment) (due : Due) → v.state ≡ SynSent → TakesSyn v s now → scale_option_of s ≡ None
+    → scale_option_of (segment_of (after_event v (Hears s now)) due) ≡ None
+told_unasked v s now due waits takes none = untold (after_event v (Hears s now)) due (scale_of_syn v s now waits takes ∙ offered_to_none v.scales (scale_option_of s) none)
 
 pub plain : (v : View) (due : Due) → (let f = flags_of v due in f.syn) ≡ false → (segment_of v due).options ≡ []
 plain v due no_syn = ap (λ b. if b then HeaderOption.MaximumSegmentSize 1460 ∷ (if v.scales then HeaderOption.NoOperation ∷ HeaderOption.WindowScale 5 ∷ [] else []) else []) no_syn

@@ -53,7 +53,7 @@ pub fn constants()
 {}
 
 /// Windows are scaled exactly where both sides' SYNs have the option (RFC 7323 section 2.2), whichever side opens: for a listener from the SYN on, for a caller from the SYN-ACK on, and where SYNs cross from the
-/// peer's SYN on, whether ours went out or not. No event changes it later. Our SYN has the option where its caller's host uses it, a SYN-ACK where windows are scaled, so that the SYN had it, and no other segment has any.
+/// peer's SYN on, whether ours went out or not. No event changes it later. Our SYN has the option where its caller's host uses it, a SYN-ACK where windows are scaled, and none where the SYN had none; no other segment has any.
 pub fn windows_are_scaled_where_both_sides_say_so()
     ensures offered { (room : Room) (local peer : Endpoint) (isn : ℕ) (now : Moment) → (opened_actively room local peer isn now).scales ≡ room.scales }
     ensures accepted { (room : Room) (local peer : Endpoint) (isn : ℕ) (syn : Segment) (now : Moment)
@@ -62,6 +62,10 @@ pub fn windows_are_scaled_where_both_sides_say_so()
         → ((after_event v (Event.Hears s now)).scales ≡ true) ↔ ((v.scales ≡ true) × TellsShift s) }
     ensures stays { (v : View) (e : Event) → (is_syn_sent v.state ≡ false) ⊎ (is_syn_sent (after_event v e).state ≡ true) → (after_event v e).scales ≡ v.scales }
     ensures told { (v : View) (due : Due) → scale_option_of (segment_of v due) ≡ (let f = flags_of v due in if f.syn && v.scales then Some SHIFT else None) }
+    ensures unasked { (room : Room) (local peer : Endpoint) (isn : ℕ) (syn : Segment) (now : Moment) (due : Due) → scale_option_of syn ≡ None
+        → scale_option_of (segment_of (opened_passively room local peer isn syn now) due) ≡ None }
+    ensures crossing { (v : View) (s : Segment) (now : Moment) (due : Due) → v.state ≡ State.SynSent → TakesSyn v s now → scale_option_of s ≡ None
+        → scale_option_of (segment_of (after_event v (Event.Hears s now)) due) ≡ None }
     ensures plain { (v : View) (due : Due) → (let f = flags_of v due in f.syn) ≡ false → (segment_of v due).options ≡ [] }
 {}
 

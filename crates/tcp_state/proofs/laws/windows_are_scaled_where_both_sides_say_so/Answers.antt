@@ -1,6 +1,6 @@
 use Rattle.std.proofs.Common.{refl}
 use Rattle.tcp_segment.specs.Segment.{scale_option_of}
-use Rattle.tcp_state.proofs.Scales.{where_both, heard_by_both, told_in_syns, plain}
+use Rattle.tcp_state.proofs.Scales.{where_both, heard_by_both, told_in_syns, told_to_none, told_unasked, plain}
 use Rattle.tcp_state.proofs.PeerSizes.{scale_stays}
 use Rattle.tcp_state.proofs.laws.windows_are_scaled_where_both_sides_say_so.Goals as goal
 
@@ -11,5 +11,7 @@ returns c = record {
   answered = heard_by_both;
   stays = scale_stays;
   told = told_in_syns;
+  unasked = told_to_none;
+  crossing = told_unasked;
   plain = plain;
 }
