@@ -1,8 +1,11 @@
 -- What a run of a script makes its sink take.
-use Rattle.std.proofs.Common.{◌≡◌, ℕ, List, [], ◌++◌, inl, inr, Option, Some, None, Result, Ok, Err, IfErr, OnOk, IfSome, ◌⊎◌, true, false, slice_get, option_to_list, refl, ap, sym, subst, ◌∙◌, append_assoc, append-nil}
+use Rattle.std.proofs.Common.{◌≡◌, ℕ, List, [], ◌++◌, inl, inr, Option, Some, None, Result, Ok, Err, Bool, IfErr, OnOk, IfSome, ◌⊎◌, true, false, slice_get, option_to_list, refl, ap, sym, subst, ◌∙◌, append_assoc, append-nil}
 use Rattle.std.specs.Result.{IsErrAnd}
 use Rattle.std.specs.Io.KnownBytes.{Appends, Keeps}
+use Rattle.sides.specs.declared.side.Side.{Side}
 use Rattle.sides.specs.declared.side.Side.TheVariants.{A, B}
+use Rattle.host.specs.ConfigView.{ConfigView}
+use Rattle.wire_sim.specs.Hosts.{IsSetUp}
 use Rattle.wire_sim.specs.WorldView.{WorldView, fresh_world}
 use Rattle.wire_sim.proofs.HostsAreSetUp.{set_up, is_set_up}
 use Rattle.script.specs.declared.lines.Command.{Command}
@@ -24,13 +27,19 @@ pub kept : (o : Option (List ℕ)) → Keeps o o
 kept None = tt
 kept (Some xs) = refl
 
+-- a host that is set up and uses the option, or doesn't, as is said
+pub set_up_with : (was scales : Bool) (side : Side) (old new : ConfigView) → IsSetUp was side old → new ≡ record old { scales = scales } →
+    IsSetUp scales side new
+set_up_with was scales side old new is changed =
+    rw changed (record { mac = is.mac; addr = is.addr; route = is.route; link = is.link; routes = is.routes; uses = refl })
+
 -- the world before the first command can be made
 first_of : Option ℕ → WorldView
-first_of limit = fresh_world (set_up A) (set_up B) (limit_by limit)
+first_of limit = fresh_world (set_up false A) (set_up false B) (limit_by limit)
 
 is_first : (limit : Option ℕ) → IsFirst limit (first_of limit)
 unfolding first_of
-is_first limit = record { a = set_up A; b = set_up B; a_is = is_set_up A; b_is = is_set_up B; fresh = refl }
+is_first limit = record { a = set_up false A; b = set_up false B; a_is = is_set_up false A; b_is = is_set_up false B; fresh = refl }
 
 -- memory ran out before anything was run in a world that was made
 pub nothing_run : (r : Result (Unit {0}) TextFault) (fault : TextFault) (limit : Option ℕ) (commands : List Command) (world : WorldView)

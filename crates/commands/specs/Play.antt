@@ -1,5 +1,5 @@
 -- What the commands of a script print, over the worlds that they lead to.
-use Rattle.std.specs.Prelude.{◌≡◌, ◌⊎◌, ◌<◌, ◌+◌, ◌^◌, ◌++◌, ℕ, List, [], ◌∷◌, Option, Some, None, Result, Ok, Err, codes, length, IsOk}
+use Rattle.std.specs.Prelude.{◌≡◌, ◌⊎◌, ◌<◌, ◌+◌, ◌^◌, ◌++◌, ℕ, List, [], ◌∷◌, Option, Some, None, Result, Ok, Err, false, codes, length, IsOk}
 use Rattle.std.specs.Fmt.{decimal}
 use Rattle.std.specs.Io.KnownBytes.{Appends}
 use Rattle.tcp_segment.specs.declared.seq.Seq.{Seq}
@@ -135,12 +135,12 @@ abbrev pub limit_by : Option ℕ → ℕ
 limit_by None = 2 ^ 30
 limit_by (Some limit) = limit
 
--- the two hosts as they are set up, and nothing happened
+-- the two hosts as they are set up, without the window scale option, and nothing happened
 pub record IsFirst (limit : Option ℕ) (world : WorldView) : Type 0 where
   pub a : ConfigView
   pub b : ConfigView
-  pub a_is : IsSetUp A a
-  pub b_is : IsSetUp B b
+  pub a_is : IsSetUp false A a
+  pub b_is : IsSetUp false B b
   pub fresh : world ≡ fresh_world a b (limit_by limit)
 
 -- what is printed of a limit

@@ -7,6 +7,7 @@ ghost use Rattle.script.specs.Script.{commands_of, first_bad_line, limit_of};
 ghost use Rattle.devices.specs.Streams.{counted};
 ghost use Rattle.commands.specs.Sim.{read_fails, write_fails_in, is_before_run, run_in_all, capture_in_all, first_fault, IsDue, IsFaultDue};
 ghost use Rattle.script.specs.Text.{style_of};
+ghost use Rattle.wire_sim.specs.Hosts.{IsSetUp};
 ghost use Rattle.wire_sim.specs.WorldRoom.{HasRoomFor, HasRoom};
 ghost use Rattle.commands.specs.Room.{TakesUp};
 ghost use Rattle.commands.specs.Play.{ComesTo, text_of_outcome, line_of_outcome, Emits, Delivers, Carries, Does, Prints, pass_text, pass_line, round_text, round_line, IsPlayed, IsCutShort, IsFirst, limit_line, TakesRun, TakesPrinted, TakesPrintedBy, TakesBoth};
@@ -16,7 +17,7 @@ use crate::input::whole_script;
 use crate::output::{add_line, finish, is_write_fault};
 use crate::recording::record;
 use devices::{Sink, Source};
-use host::SocketId;
+use host::{Config, SocketId};
 use script::{Action, Command, Script, Style, event, show, show_unfair};
 use std::alloc::{AllocError, Global};
 use tcp_segment::Seq;
@@ -172,12 +173,19 @@ fn new_world(alloc: Global, limit: Option<u64>) -> Result<World, TextFault>
     ensures world { IfOk result (λ world. IsFirst limit world.seen) }
     ensures faults { IfErr result (λ fault. fault ≡ TextFault.NoMemory) }
 {
-    let (a, b) = (config(Side::A), config(Side::B));
+    let (a, b) = (set_up(Side::A), set_up(Side::B));
     let made = match limit {
         Some(limit) => World::with_limit(alloc, a, b, limit),
         None => World::new(alloc, a, b),
     };
     made.map_err(|_| TextFault::NoMemory)
+}
+
+/// How a side's host is set up: without the window scale option.
+fn set_up(side: Side) -> Config
+    ensures { IsSetUp false side result }
+{
+    config(side).with_scale(false)
 }
 
 /// Runs one command and answers the line that it prints.

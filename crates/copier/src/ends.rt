@@ -1,6 +1,6 @@
 //! The two hosts of a copy, and the one connection between them.
 
-ghost use Rattle.std.specs.Prelude.{◌≡◌, ◌≤◌, ◌+◌, ◌<◌, ◌^◌, false, [], length, take, min, None, Some, Ok, is_some, IfOk, IfErr, OnOk, OnErr, IfSome, IfNone};
+ghost use Rattle.std.specs.Prelude.{◌≡◌, ◌≤◌, ◌+◌, ◌<◌, ◌^◌, true, false, [], length, take, min, None, Some, Ok, is_some, IfOk, IfErr, OnOk, OnErr, IfSome, IfNone};
 ghost use Rattle.devices.specs.Streams.{counted};
 ghost use Rattle.devices.specs.Time.{IsToldTime};
 ghost use Rattle.copier.specs.Faults.{link_fails, IsOfHosts};
@@ -384,7 +384,7 @@ fn later(clock: Moment, moment: Moment) -> Moment
 
 /// The host of a side.
 fn host(alloc: Global, side: Side) -> Result<Host, CopyFault>
-    ensures host { IfOk result (λ host. (config : _) × IsSetUp side config × (host ≡ new_host config)) }
+    ensures host { IfOk result (λ host. (config : _) × IsSetUp true side config × (host ≡ new_host config)) }
     ensures fault { IfErr result IsOfHosts }
 {
     match Host::new(alloc, config(side)) {

@@ -1,6 +1,6 @@
 //! How a host is set up.
 
-ghost use Rattle.std.specs.Prelude.{◌≡◌, ◌↔◌, true, false, IfOk, IfErr, IsOk, length};
+ghost use Rattle.std.specs.Prelude.{◌≡◌, ◌↔◌, true, IfOk, IfErr, IsOk, length};
 ghost use Rattle.host.specs.ConfigView.{IsOfOne};
 
 use ether::{Mac, is_whole_mac};
@@ -37,7 +37,7 @@ impl Config {
     /// section 3.2.1.3), or the MAC is that of a group, with the low bit of its first octet set.
     pub fn new(mac: Mac, addr: Addr, routes: Routes) -> Result<Config, Refusal>
         ensures valid { IsOk result ↔ (IsUnicast addr × IsOfOne mac) }
-        ensures value { IfOk result (λ config. config ≡ record { mac = mac; addr = addr; routes = routes; scales = false }) }
+        ensures value { IfOk result (λ config. config ≡ record { mac = mac; addr = addr; routes = routes; scales = true }) }
         ensures refusal { IfErr result (λ refusal. refusal ≡ Refusal.EINVAL) }
     {
         if addr.is_unicast() && is_of_one(mac) {
@@ -45,7 +45,7 @@ impl Config {
                 mac,
                 addr,
                 routes,
-                scales: false,
+                scales: true,
             })
         } else {
             Err(Refusal::EINVAL)
@@ -53,7 +53,7 @@ impl Config {
     }
 
     /// The same set-up of a host that uses the window scale option (RFC 7323 section 2), so that a connection with a peer that uses it holds
-    /// 1,048,576 octets each way, or doesn't. One that `new` makes doesn't.
+    /// 1,048,576 octets each way, or of one that doesn't. One that `new` makes does.
     pub fn with_scale(self, scales: bool) -> Config
         ensures { result ≡ record self { scales = scales } }
     {

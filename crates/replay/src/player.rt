@@ -2,7 +2,7 @@
 
 use crate::failure::Failure;
 use crate::rows::{Line, Row};
-use host::{DropCause, Refusal};
+use host::{Config, DropCause, Refusal};
 use script::{Action, Command, Item, Style, event, show, show_unfair};
 use std::alloc::{AllocError, Global};
 use wire_sim::{Answer, Event, Side, Unfair, World, config};
@@ -129,8 +129,13 @@ impl Player {
 
 /// A world of the two hosts of a script.
 fn new_world(alloc: Global) -> Result<Box<World>, Failure> {
-    let world = World::new(alloc, config(Side::A), config(Side::B))?;
+    let world = World::new(alloc, set_up(Side::A), set_up(Side::B))?;
     Box::new(alloc, world).map_err(|_| Failure::NoMemory)
+}
+
+/// How a side's host is set up: without the window scale option, so that a connection has two buffers of 65,535 octets.
+fn set_up(side: Side) -> Config {
+    config(side).with_scale(false)
 }
 
 /// The events of a row.

@@ -19,6 +19,7 @@ mod octets;
 mod opening;
 mod queues;
 mod resets;
+mod scale;
 mod segments;
 mod simultaneous;
 mod stations;

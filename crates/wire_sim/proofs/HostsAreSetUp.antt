@@ -1,5 +1,5 @@
 -- The two hosts can be set up: 10.0.0.0/24 is a prefix.
-use Rattle.std.proofs.Common.{false, [], ◌∷◌, refl, rules, arith}
+use Rattle.std.proofs.Common.{Bool, [], ◌∷◌, refl, rules, arith}
 use Rattle.ipv4.specs.declared.addr.Addr.{Addr}
 use Rattle.ipv4.specs.Prefixes.{IsPrefix, number}
 use Rattle.ipv4.proofs.Prefixes.{unmasked}
@@ -19,9 +19,9 @@ abbrev link_route : Route
 link_route = record { prefix = record { addr = link_addr; length = 24; form = link_is_prefix }; hop = Direct }
 
 -- how a side's host is set up
-pub set_up : Side → ConfigView
-set_up side = record { mac = mac_of side; addr = address_of side; routes = link_route ∷ []; scales = false }
+pub set_up : Bool → Side → ConfigView
+set_up scales side = record { mac = mac_of side; addr = address_of side; routes = link_route ∷ []; scales = scales }
 
-pub is_set_up : (side : Side) → IsSetUp side (set_up side)
+pub is_set_up : (scales : Bool) (side : Side) → IsSetUp scales side (set_up scales side)
 unfolding set_up
-is_set_up side = record { mac = refl; addr = refl; route = link_route; link = record { first = refl; length = refl; hop = refl }; routes = refl; scales = refl }
+is_set_up scales side = record { mac = refl; addr = refl; route = link_route; link = record { first = refl; length = refl; hop = refl }; routes = refl; uses = refl }

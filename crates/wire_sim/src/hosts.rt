@@ -1,6 +1,6 @@
 //! The two hosts of a script and of a copy, and how each is set up.
 
-ghost use Rattle.std.specs.Prelude.{◌≡◌, [], ◌∷◌};
+ghost use Rattle.std.specs.Prelude.{◌≡◌, true, [], ◌∷◌};
 ghost use Rattle.routes.specs.declared.route.Route.{Route};
 ghost use Rattle.wire_sim.specs.Hosts.{address_of, mac_of, IsLinkRoute, IsSetUp};
 
@@ -40,9 +40,9 @@ fn link() -> Routes
     routes
 }
 
-/// How a side's host is set up: its MAC, its address, and the one route.
+/// How a side's host is set up: its MAC, its address, and the one route. It uses the window scale option.
 pub fn config(side: Side) -> Config
-    ensures { IsSetUp side result }
+    ensures { IsSetUp true side result }
 {
     Config::new(mac(side), address(side), link()).unwrap()
 }

@@ -61,12 +61,12 @@ const LISTENER_CLOSED: &[Step] = &[
 pub(super) const SCENARIOS: &[Scenario] = &[
     Scenario {
         name: "both sides close",
-        ways: FRESH,
+        hosts: FRESH,
         parts: &[LISTENING, CONNECTED, CLOSED],
     },
     Scenario {
         name: "a closed listener aborts what waits",
-        ways: FRESH,
+        hosts: FRESH,
         parts: &[LISTENING, CONNECTED, LISTENER_CLOSED],
     },
 ];

@@ -174,52 +174,52 @@ const FOR_THEIR_PORT: &[Step] = &[
 pub(super) const SCENARIOS: &[Scenario] = &[
     Scenario {
         name: "datagrams are numbered",
-        ways: FRESH,
+        hosts: FRESH,
         parts: &[NEIGHBOURS, WAITS, SENT],
     },
     Scenario {
         name: "a checksum may be missing",
-        ways: FRESH,
+        hosts: FRESH,
         parts: &[NEIGHBOURS, WAITS, HEARD],
     },
     Scenario {
         name: "a sum of 0 is sent as ffff",
-        ways: FRESH,
+        hosts: FRESH,
         parts: &[NEIGHBOURS, WAITS, ZERO_SUM],
     },
     Scenario {
         name: "nobody waits",
-        ways: FRESH,
+        hosts: FRESH,
         parts: &[NEIGHBOURS, NOBODY],
     },
     Scenario {
         name: "nobody waits and no way leads back",
-        ways: FRESH,
+        hosts: FRESH,
         parts: &[NEIGHBOURS, NO_WAY_BACK],
     },
     Scenario {
         name: "an error needs room",
-        ways: FRESH,
+        hosts: FRESH,
         parts: &[NEIGHBOURS, SIXTEEN_ASK, NO_REPLY_HAS_ROOM],
     },
     Scenario {
         name: "peers are other hosts",
-        ways: FRESH,
+        hosts: FRESH,
         parts: &[REFUSED],
     },
     Scenario {
         name: "a datagram waits",
-        ways: FRESH,
+        hosts: FRESH,
         parts: &[HOP_IS_UNKNOWN, GOES],
     },
     Scenario {
         name: "a datagram waits for three seconds at most",
-        ways: FRESH,
+        hosts: FRESH,
         parts: &[HOP_IS_UNKNOWN, IS_DROPPED],
     },
     Scenario {
         name: "datagrams are for their port",
-        ways: FRESH,
+        hosts: FRESH,
         parts: &[NEIGHBOURS, WAITS, FOR_THEIR_PORT],
     },
 ];

@@ -142,6 +142,6 @@ const HEARD: &[Step] = &[
 
 pub(super) const SCENARIOS: &[Scenario] = &[Scenario {
     name: "frames are dropped",
-    ways: FRESH,
+    hosts: FRESH,
     parts: &[HEARD],
 }];

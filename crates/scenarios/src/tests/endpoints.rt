@@ -116,22 +116,22 @@ const RESET: &[Step] = &[
 pub(super) const SCENARIOS: &[Scenario] = &[
     Scenario {
         name: "TCP sockets are where they are bound",
-        ways: FRESH,
+        hosts: FRESH,
         parts: &[STREAM, UNBOUND, BOUND, MORE_DATAGRAMS, ALSO_BOUND],
     },
     Scenario {
         name: "UDP sockets are where they are bound",
-        ways: FRESH,
+        hosts: FRESH,
         parts: &[DATAGRAMS, UNBOUND, BOUND, ANOTHER_STREAM, ALSO_BOUND],
     },
     Scenario {
         name: "datagrams give a socket a port and no peer",
-        ways: FRESH,
+        hosts: FRESH,
         parts: &[DATAGRAMS, SENT],
     },
     Scenario {
         name: "connections have two ends",
-        ways: FRESH,
+        hosts: FRESH,
         parts: &[LISTENING, CALLED, ACCEPTED, RESET],
     },
 ];

@@ -10,12 +10,12 @@ use tcp_segment::{Flags, Head, Seq, TcpView};
 use tcp_state::Fate::{self, Stays};
 use tcp_state::{Buffers, CAPACITY, Connection, Due, MOST_SEGMENT, Received, Refusal, State};
 
-const CALLER: Endpoint = Endpoint {
+pub(super) const CALLER: Endpoint = Endpoint {
     addr: Addr([10, 0, 0, 1]),
     port: 49_152,
 };
 
-const LISTENER: Endpoint = Endpoint {
+pub(super) const LISTENER: Endpoint = Endpoint {
     addr: Addr([10, 0, 0, 2]),
     port: 80,
 };
@@ -103,15 +103,15 @@ pub(super) struct Scenario {
 
 /// One end, and the segment that it sent last.
 #[derive(Drop)]
-struct End {
-    connection: Connection,
+pub(super) struct End {
+    pub(super) connection: Connection,
     frame: [u8; MOST_SEGMENT],
     len: usize,
 }
 
 impl End {
     /// An end that has sent nothing.
-    fn new(connection: Connection) -> End {
+    pub(super) fn new(connection: Connection) -> End {
         End {
             connection,
             frame: [0; MOST_SEGMENT],
@@ -120,7 +120,7 @@ impl End {
     }
 
     /// Its segment that is due goes out: how many octets it has.
-    fn emit(&mut self, now: u64) -> Option<usize> {
+    pub(super) fn emit(&mut self, now: u64) -> Option<usize> {
         let due = self.connection.due()?;
         let len = self.connection.emit(due, Moment(now), &mut self.frame);
         self.len = len;
@@ -128,18 +128,18 @@ impl End {
     }
 
     /// Takes a segment from the other end, if the octets are one.
-    fn hear(&mut self, now: u64, segment: &[u8]) -> Option<Fate> {
+    pub(super) fn hear(&mut self, now: u64, segment: &[u8]) -> Option<Fate> {
         let (peer, local) = (self.connection.peer(), self.connection.local());
         let view = TcpView::parse(peer.addr, local.addr, segment).ok()?;
         Some(self.connection.segment(Moment(now), &view))
     }
 
     /// Takes a segment that the other end did not send.
-    fn hear_forged(
+    pub(super) fn hear_forged(
         &mut self,
-        number: u32,
-        acknowledgement: u32,
+        (number, acknowledgement): (u32, u32),
         flags: Flags,
+        window: u16,
         count: usize,
     ) -> Option<Fate> {
         let (peer, local) = (self.connection.peer(), self.connection.local());
@@ -149,7 +149,7 @@ impl End {
             number: Seq(number),
             acknowledgement: Seq(acknowledgement),
             flags,
-            window: 0,
+            window,
             scales: false,
         };
         let mut frame = [0; MOST_SEGMENT];
@@ -196,7 +196,7 @@ fn is_answered(end: &mut End, other: &mut End, act: Act) -> bool {
             end.emit(now).is_some() && other.hear(now, end.sent()) == Some(want)
         }
         Act::Hear(number, acknowledgement, flags, count, want) => {
-            end.hear_forged(number, acknowledgement, flags, count) == Some(want)
+            end.hear_forged((number, acknowledgement), flags, 0, count) == Some(want)
         }
         Act::Sent(number, acknowledgement, flags, window) => {
             end.header() == Some((number, acknowledgement, flags, window))

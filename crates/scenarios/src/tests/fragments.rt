@@ -159,47 +159,47 @@ const ENDS: &[Step] = &[
 pub(super) const SCENARIOS: &[Scenario] = &[
     Scenario {
         name: "A then B",
-        ways: FRESH,
+        hosts: FRESH,
         parts: &[NEIGHBOURS, WAITS, A_THEN_B],
     },
     Scenario {
         name: "B then A",
-        ways: FRESH,
+        hosts: FRESH,
         parts: &[NEIGHBOURS, WAITS, B_THEN_A],
     },
     Scenario {
         name: "nobody waits for fragments",
-        ways: FRESH,
+        hosts: FRESH,
         parts: &[NEIGHBOURS, NOBODY],
     },
     Scenario {
         name: "the time is over",
-        ways: FRESH,
+        hosts: FRESH,
         parts: &[NEIGHBOURS, TIME_IS_OVER],
     },
     Scenario {
         name: "the first is missing",
-        ways: FRESH,
+        hosts: FRESH,
         parts: &[NEIGHBOURS, FIRST_IS_MISSING],
     },
     Scenario {
         name: "an error waits for its hop",
-        ways: FRESH,
+        hosts: FRESH,
         parts: &[EXCEEDED_WAITS],
     },
     Scenario {
         name: "fragments need no room for replies",
-        ways: FRESH,
+        hosts: FRESH,
         parts: &[NEIGHBOURS, SIXTEEN_ASK, NO_REPLY_HAS_ROOM],
     },
     Scenario {
         name: "a fifth datagram has no place",
-        ways: FRESH,
+        hosts: FRESH,
         parts: &[NEIGHBOURS, FIVE],
     },
     Scenario {
         name: "contradictions give a datagram up",
-        ways: FRESH,
+        hosts: FRESH,
         parts: &[ENDS],
     },
 ];

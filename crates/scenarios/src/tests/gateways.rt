@@ -72,22 +72,22 @@ const NO_WAY_BACK: &[Step] = &[
 pub(super) const SCENARIOS: &[Scenario] = &[
     Scenario {
         name: "each hop is asked for",
-        ways: GATEWAYS,
+        hosts: GATEWAYS,
         parts: &[DIRECT_AND_NEAR, OFF_BY_THE_OTHER],
     },
     Scenario {
         name: "without the last route nothing is begun",
-        ways: NEAR_GATEWAY,
+        hosts: NEAR_GATEWAY,
         parts: &[DIRECT_AND_NEAR, OFF_BY_NOTHING],
     },
     Scenario {
         name: "an echo goes by the gateway",
-        ways: ROUTED,
+        hosts: ROUTED,
         parts: &[ECHO_BY_THE_GATEWAY],
     },
     Scenario {
         name: "what has no way back is taken",
-        ways: FRESH,
+        hosts: FRESH,
         parts: &[NEIGHBOURS, NO_WAY_BACK],
     },
 ];

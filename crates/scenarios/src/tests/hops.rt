@@ -215,62 +215,62 @@ const SELF: &[Step] = &[
 pub(super) const SCENARIOS: &[Scenario] = &[
     Scenario {
         name: "a SYN waits for its hop",
-        ways: FRESH,
+        hosts: FRESH,
         parts: &[LISTENING, SYN_WAITS],
     },
     Scenario {
         name: "a SYN waits for its hop for 483 seconds at most",
-        ways: FRESH,
+        hosts: FRESH,
         parts: &[LISTENING, SYN_IS_GIVEN_UP],
     },
     Scenario {
         name: "silent hosts leave a listener no place for three seconds",
-        ways: FRESH,
+        hosts: FRESH,
         parts: &[FLOOD, FLOOD_IS_OVER],
     },
     Scenario {
         name: "a FIN waits for its hop for 483 seconds at most",
-        ways: FRESH,
+        hosts: FRESH,
         parts: &[LISTENING, CONNECTED, FIN_IS_GIVEN_UP],
     },
     Scenario {
         name: "a gateway is the hop",
-        ways: ROUTED,
+        hosts: ROUTED,
         parts: &[BY_THE_GATEWAY],
     },
     Scenario {
         name: "without a route nothing is begun",
-        ways: FRESH,
+        hosts: FRESH,
         parts: &[NO_ROUTE],
     },
     Scenario {
         name: "a host doesn't speak to itself",
-        ways: ROUTED,
+        hosts: ROUTED,
         parts: &[SELF],
     },
     Scenario {
         name: "a reset waits",
-        ways: FRESH,
+        hosts: FRESH,
         parts: &[RESET_WAITS, RESET_GOES],
     },
     Scenario {
         name: "a reset waits for three seconds at most",
-        ways: FRESH,
+        hosts: FRESH,
         parts: &[RESET_WAITS, RESET_IS_DROPPED],
     },
     Scenario {
         name: "what waits is passed over",
-        ways: FRESH,
+        hosts: FRESH,
         parts: &[NEIGHBOURS, PASSED_OVER],
     },
     Scenario {
         name: "a third host connects",
-        ways: FRESH,
+        hosts: FRESH,
         parts: &[LISTENING, THIRD_HOST],
     },
     Scenario {
         name: "a packet is learnt where a reply has no room",
-        ways: FRESH,
+        hosts: FRESH,
         parts: &[SIXTEEN_WAIT, LEARNT_WITHOUT_ROOM],
     },
 ];

@@ -226,57 +226,57 @@ const ENDED: &[Step] = &[
 pub(super) const SCENARIOS: &[Scenario] = &[
     Scenario {
         name: "messages are answered in order",
-        ways: FRESH,
+        hosts: FRESH,
         parts: &[NEIGHBOURS, ANSWERED],
     },
     Scenario {
         name: "an echo waits",
-        ways: FRESH,
+        hosts: FRESH,
         parts: &[ECHO_WAITS, ECHO_GOES],
     },
     Scenario {
         name: "an echo waits for three seconds at most",
-        ways: FRESH,
+        hosts: FRESH,
         parts: &[ECHO_WAITS, ECHO_IS_DROPPED],
     },
     Scenario {
         name: "sixteen replies have room",
-        ways: FRESH,
+        hosts: FRESH,
         parts: &[NEIGHBOURS, SIXTEEN_ASK, SEVENTEENTH],
     },
     Scenario {
         name: "an error ends an opening",
-        ways: FRESH,
+        hosts: FRESH,
         parts: &[LISTENING, BEFORE_THE_SYN, CUT_SHORT, REFUSED],
     },
     Scenario {
         name: "an error ends nothing that is open",
-        ways: FRESH,
+        hosts: FRESH,
         parts: &[LISTENING, ESTABLISHED],
     },
     Scenario {
         name: "other errors end no opening",
-        ways: FRESH,
+        hosts: FRESH,
         parts: &[CALLING, HINTS],
     },
     Scenario {
         name: "no port ends an opening",
-        ways: FRESH,
+        hosts: FRESH,
         parts: &[CALLING, NO_PORT, ENDED],
     },
     Scenario {
         name: "no protocol ends an opening",
-        ways: FRESH,
+        hosts: FRESH,
         parts: &[CALLING, NO_PROTOCOL, ENDED],
     },
     Scenario {
         name: "no fragments end an opening",
-        ways: FRESH,
+        hosts: FRESH,
         parts: &[CALLING, NO_FRAGMENTS, ENDED],
     },
     Scenario {
         name: "a quote without a sum ends an opening",
-        ways: FRESH,
+        hosts: FRESH,
         parts: &[CALLING, NO_SUM, ENDED],
     },
 ];

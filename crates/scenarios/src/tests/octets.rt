@@ -37,6 +37,27 @@ pub(super) const HELLO: &[u8] = b"\x02\0\0\0\0\x02\x02\0\0\0\0\x01\x08\0\
     \xc0\0\0\x50\0\0\0\0\0\0\0\x08\x50\x18\xff\xff\x97\x9a\0\0\x68\x65\x6c\x6c\x6f\
     \0";
 
+/// The SYN of a host that uses the window scale option (RFC 7323 section 2.2), the SYN-ACK with the number 7, and what acknowledges that: its window is told
+/// in units of 32.
+pub(super) const SCALED_SYN: &[u8] = b"\x02\0\0\0\0\x02\x02\0\0\0\0\x01\x08\0\
+    \x45\0\0\x30\0\0\x40\0\x40\x06\x26\xc6\x0a\0\0\x01\x0a\0\0\x02\
+    \xc0\0\0\x50\xff\xff\xff\xff\0\0\0\0\x70\x02\xff\xff\xaf\xc7\0\0\x02\x04\x05\xb4\x01\x03\x03\x05";
+
+pub(super) const SCALED_SYN_ACK: &[u8] = b"\x02\0\0\0\0\x01\x02\0\0\0\0\x02\x08\0\
+    \x45\0\0\x30\0\0\x40\0\x40\x06\x26\xc6\x0a\0\0\x02\x0a\0\0\x01\
+    \0\x50\xc0\0\0\0\0\x07\0\0\0\0\x70\x12\xff\xff\xaf\xb0\0\0\x02\x04\x05\xb4\x01\x03\x03\x05";
+
+pub(super) const SCALED_ACK: &[u8] = b"\x02\0\0\0\0\x02\x02\0\0\0\0\x01\x08\0\
+    \x45\0\0\x28\0\0\x40\0\x40\x06\x26\xce\x0a\0\0\x01\x0a\0\0\x02\
+    \xc0\0\0\x50\0\0\0\0\0\0\0\x08\x50\x10\x80\0\x5b\x79\0\0\
+    \0\0\0\0\0\0";
+
+/// A's octets after that.
+pub(super) const SCALED_HELLO: &[u8] = b"\x02\0\0\0\0\x02\x02\0\0\0\0\x01\x08\0\
+    \x45\0\0\x2d\0\0\x40\0\x40\x06\x26\xc9\x0a\0\0\x01\x0a\0\0\x02\
+    \xc0\0\0\x50\0\0\0\0\0\0\0\x08\x50\x18\x80\0\x17\x9a\0\0\x68\x65\x6c\x6c\x6f\
+    \0";
+
 /// The SYN without its option, and its header as long as before.
 pub(super) const CUT_SYN: &[u8] = b"\x02\0\0\0\0\x02\x02\0\0\0\0\x01\x08\0\
     \x45\0\0\x28\0\0\x40\0\x40\x06\x26\xce\x0a\0\0\x01\x0a\0\0\x02\

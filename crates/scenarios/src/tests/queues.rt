@@ -76,12 +76,12 @@ const EACH_IN_ITS_TIME: &[Step] = &[
 pub(super) const SCENARIOS: &[Scenario] = &[
     Scenario {
         name: "a datagram waits for its own hop",
-        ways: FRESH,
+        hosts: FRESH,
         parts: &[BOTH_WAIT, SECOND_GOES, FIRST_IS_DROPPED],
     },
     Scenario {
         name: "datagrams wait each for its time",
-        ways: FRESH,
+        hosts: FRESH,
         parts: &[EACH_IN_ITS_TIME],
     },
 ];

@@ -67,22 +67,22 @@ const UNHEARD: &[Step] = &[
 pub(super) const SCENARIOS: &[Scenario] = &[
     Scenario {
         name: "segments are those of the standard",
-        ways: FRESH,
+        hosts: FRESH,
         parts: &[LISTENING, STANDARD],
     },
     Scenario {
         name: "segments come behind options",
-        ways: FRESH,
+        hosts: FRESH,
         parts: &[LISTENING, BEHIND_OPTIONS],
     },
     Scenario {
         name: "damaged segments are dropped",
-        ways: FRESH,
+        hosts: FRESH,
         parts: &[NEIGHBOURS, DAMAGED],
     },
     Scenario {
         name: "strays are answered by resets",
-        ways: FRESH,
+        hosts: FRESH,
         parts: &[NEIGHBOURS, REFUSED, HEARD, UNHEARD],
     },
 ];

@@ -2,7 +2,8 @@
 
 use super::octets::{REPLIED_BACK, REPLY};
 use super::{
-    calls, datagrams, drops, endpoints, fragments, gateways, hops, messages, queues, segments,
+    calls, datagrams, drops, endpoints, fragments, gateways, hops, messages, queues, scale,
+    segments,
 };
 use clock::Moment;
 use ether::Mac;
@@ -84,6 +85,8 @@ pub(super) enum Act {
     Connect(u32, SocketId, Endpoint, Result<(), Refusal>),
     /// Writes octets: how many are taken.
     Send(SocketId, &'static [u8], Result<usize, Refusal>),
+    /// Writes octets until no more are taken: so many are.
+    Fill(SocketId, usize),
     /// Reads four octets at most.
     Recv(SocketId, Result<Received, Refusal>),
     /// Sends octets to an endpoint as a datagram: how many are taken.
@@ -122,53 +125,89 @@ pub(super) enum Act {
     Deadline(Option<Moment>),
 }
 
+/// Any buffer is full before so many kibibytes are written.
+const MOST_WRITES: usize = 2_048;
+
 /// What is done at a host.
 pub(super) type Step = (Side, Act);
 
 /// Where a host's routes lead.
 type Ways = &'static [(Addr, u8, Hop)];
 
-/// The ways of A and of B.
-type BothWays = (Ways, Ways);
+/// How the hosts are set up: the ways of A and of B, and whether each uses the window scale option.
+#[derive(Clone, Copy)]
+pub(super) struct Hosts {
+    ways: (Ways, Ways),
+    scales: (bool, bool),
+}
 
 /// To the link alone, 10.0.0.0/24.
 const LINK: Ways = &[(Addr([10, 0, 0, 0]), 24, Hop::Direct)];
 
-/// No other host is known beside those on the link.
-pub(super) const FRESH: BothWays = (LINK, LINK);
+/// No other host is known beside those on the link, and neither uses the option.
+pub(super) const FRESH: Hosts = Hosts {
+    ways: (LINK, LINK),
+    scales: (false, false),
+};
+
+/// Both use it.
+pub(super) const SCALED: Hosts = Hosts {
+    scales: (true, true),
+    ..FRESH
+};
+
+/// One of the two does.
+pub(super) const SCALED_AT_A: Hosts = Hosts {
+    scales: (true, false),
+    ..FRESH
+};
+
+pub(super) const SCALED_AT_B: Hosts = Hosts {
+    scales: (false, true),
+    ..FRESH
+};
 
 /// A knows a gateway for all that isn't on its link.
-pub(super) const ROUTED: BothWays = (
-    &[
-        (Addr([10, 0, 0, 0]), 24, Hop::Direct),
-        (Addr([0, 0, 0, 0]), 0, Hop::Gateway(GATEWAY)),
-    ],
-    LINK,
-);
+pub(super) const ROUTED: Hosts = Hosts {
+    ways: (
+        &[
+            (Addr([10, 0, 0, 0]), 24, Hop::Direct),
+            (Addr([0, 0, 0, 0]), 0, Hop::Gateway(GATEWAY)),
+        ],
+        LINK,
+    ),
+    ..FRESH
+};
 
 /// One gateway leads B to 10.0.0.0/8, but for 10.1.0.0/16, which is on the link.
-pub(super) const NEAR_GATEWAY: BothWays = (
-    LINK,
-    &[
-        (Addr([10, 0, 0, 0]), 8, Hop::Gateway(NEIGHBOURING)),
-        (Addr([10, 1, 0, 0]), 16, Hop::Direct),
-    ],
-);
+pub(super) const NEAR_GATEWAY: Hosts = Hosts {
+    ways: (
+        LINK,
+        &[
+            (Addr([10, 0, 0, 0]), 8, Hop::Gateway(NEIGHBOURING)),
+            (Addr([10, 1, 0, 0]), 16, Hop::Direct),
+        ],
+    ),
+    ..FRESH
+};
 
 /// The same, where another gateway leads to all else.
-pub(super) const GATEWAYS: BothWays = (
-    LINK,
-    &[
-        (Addr([10, 0, 0, 0]), 8, Hop::Gateway(NEIGHBOURING)),
-        (Addr([10, 1, 0, 0]), 16, Hop::Direct),
-        (Addr([0, 0, 0, 0]), 0, Hop::Gateway(A)),
-    ],
-);
+pub(super) const GATEWAYS: Hosts = Hosts {
+    ways: (
+        LINK,
+        &[
+            (Addr([10, 0, 0, 0]), 8, Hop::Gateway(NEIGHBOURING)),
+            (Addr([10, 1, 0, 0]), 16, Hop::Direct),
+            (Addr([0, 0, 0, 0]), 0, Hop::Gateway(A)),
+        ],
+    ),
+    ..FRESH
+};
 
-/// Two hosts with no sockets that heard nothing, what leads them anywhere, and what is done at them, part after part.
+/// Two hosts with no sockets that heard nothing, how they are set up, and what is done at them, part after part.
 pub(super) struct Scenario {
     pub(super) name: &'static str,
-    pub(super) ways: BothWays,
+    pub(super) hosts: Hosts,
     pub(super) parts: &'static [&'static [Step]],
 }
 
@@ -264,6 +303,18 @@ impl Station {
 
     fn sends(&mut self, id: SocketId, octets: &[u8], want: Result<usize, Refusal>) -> bool {
         self.host.send(id, octets) == want
+    }
+
+    /// Writes octets until no more are taken: so many are.
+    fn fills(&mut self, id: SocketId, want: usize) -> bool {
+        let mut count: usize = 0;
+        for _ in 0..MOST_WRITES {
+            match self.host.send(id, &[0; 1_024]) {
+                Ok(taken) => count = count.saturating_add(taken),
+                Err(refusal) => return refusal == Refusal::EAGAIN && count == want,
+            }
+        }
+        false
     }
 
     fn reads(&mut self, id: SocketId, want: Result<Received, Refusal>) -> bool {
@@ -380,6 +431,7 @@ fn is_answered(station: &mut Station, other: &mut Station, act: Act) -> bool {
         Act::Accept(id, accepted, peer) => station.accepts(id, accepted, peer),
         Act::Connect(isn, id, peer, want) => station.connects(isn, id, peer, want),
         Act::Send(id, octets, want) => station.sends(id, octets, want),
+        Act::Fill(id, want) => station.fills(id, want),
         Act::Recv(id, want) => station.reads(id, want),
         Act::SendTo(id, peer, octets, want) => station.sends_to(id, peer, octets, want),
         Act::RecvFrom(id, octets, want) => station.receives(id, octets, want),
@@ -417,9 +469,10 @@ pub(super) const LISTENING: &[Step] = &[
 
 /// Plays a scenario with two hosts of its own.
 fn plays(rt: &impl Abort, alloc: Global, scenario: &Scenario) {
-    let (ways_of_a, ways_of_b) = scenario.ways;
-    let mut a = Station::new(rt, alloc, routed(rt, Side::A, ways_of_a));
-    let mut b = Station::new(rt, alloc, routed(rt, Side::B, ways_of_b));
+    let Hosts { ways, scales } = scenario.hosts;
+    let a = routed(rt, Side::A, ways.0).with_scale(scales.0);
+    let b = routed(rt, Side::B, ways.1).with_scale(scales.1);
+    let (mut a, mut b) = (Station::new(rt, alloc, a), Station::new(rt, alloc, b));
     for (part, steps) in scenario.parts.iter().enumerate() {
         for (step, (side, act)) in steps.iter().enumerate() {
             let is_answered = match side {
@@ -439,9 +492,10 @@ fn play_all(rt: &impl Abort, alloc: Global, scenarios: &[Scenario]) {
 }
 
 /// Scenarios of TCP sockets, of datagrams and fragments, and of what waits for a hop or is told by a message.
-const OF_CONNECTIONS: [&[Scenario]; 3] = [
+const OF_CONNECTIONS: [&[Scenario]; 4] = [
     calls::SCENARIOS,
     endpoints::SCENARIOS,
+    scale::SCENARIOS,
     segments::SCENARIOS,
 ];
 
