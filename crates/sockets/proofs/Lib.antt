@@ -9,7 +9,6 @@ pub mod Arrivals
 pub mod Foreseen
 pub mod Emitting
 pub mod Queues
-pub mod Made
 pub mod Traffic
 pub mod Drawn
 pub mod Told
@@ -66,3 +65,4 @@ pub mod HopOver
 pub mod Closings
 pub mod Strays
 pub mod Calling
+pub mod NoMemory

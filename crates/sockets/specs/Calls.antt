@@ -70,12 +70,7 @@ after_datagram_socket h = record h {
   entries = h.entries ++ new_datagram_socket (record { 0 = h.last_id + 1 }) ∷ [];
 }
 
--- an entry with a new socket of this kind; the buffers of one of TCP are those of a table that scales windows or doesn't
-abbrev pub IsNewSocket : Bool → Kind → SocketId → Entry → Type 0
-IsNewSocket scales Tcp id e = e ≡ new_socket id (room_of scales)
-IsNewSocket scales Udp id e = e ≡ new_datagram_socket id
-
--- the table after a socket of this kind was made
+-- the table after a socket of this kind was made; the buffers of one of TCP are those of a table that scales windows or doesn't
 abbrev pub IsMade : Kind → SocketsView → SocketsView → Type 0
 IsMade Tcp old new = new ≡ after_socket old (room_of old.scales)
 IsMade Udp old new = new ≡ after_datagram_socket old

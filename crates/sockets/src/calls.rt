@@ -1,10 +1,10 @@
 //! The socket calls (POSIX.1-2017), each with its refusals in the order in which they are tested.
 
-ghost use Rattle.std.specs.Prelude.{◌≡◌, ◌^◌, ◌<◌, ◌≤◌, ◌↔◌, length, IfOk, IfErr, OnOk, OnErr, IfSome, IsTrue, Ok, Err, ◌⊎◌, ◌+◌, find, position, Some, None};
+ghost use Rattle.std.specs.Prelude.{◌≡◌, ◌^◌, ◌<◌, ◌≤◌, ◌↔◌, length, IfOk, IfErr, OnOk, OnErr, IfSome, IsTrue, MatchResult, Ok, Err, ◌⊎◌, ◌+◌, ◌++◌, [], ◌∷◌, find, position, Some, None};
 ghost use Rattle.tcp_halves.specs.declared.buffers.Buffers.{Buffers};
 ghost use Rattle.std.specs.Result.{result_err};
 ghost use Rattle.std.specs.Option.{ok_or};
-ghost use Rattle.sockets.specs.Calls.{open_answer, IsNewSocket};
+ghost use Rattle.sockets.specs.Calls.{open_answer};
 ghost use Rattle.sockets.specs.SocketsView.{room_of};
 
 use crate::entry::{Entry, Kind, SocketId};
@@ -12,7 +12,8 @@ use crate::refusal::Refusal;
 use crate::role::Role;
 use crate::sockets::Sockets;
 use crate::state::SocketState;
-use crate::{index, ports, table};
+use crate::table::{self, ENTRIES};
+use crate::{index, ports};
 use ipv4::{Addr, Endpoint, Pair};
 use std::alloc::{AllocError, Global};
 use tcp_segment::Seq;
@@ -29,8 +30,10 @@ pub const MOST_BACKLOG: usize = 8;
 impl Sockets {
     ghost use Rattle.sockets.specs.SocketsView.{SocketsView, later_moment};
     ghost use Rattle.sockets.specs.Entries.{is_socket, is_waiting_id};
+    ghost use Rattle.sockets.specs.Index.{filed};
     ghost use Rattle.sockets.specs.Ports.{is_bindable};
-    ghost use Rattle.sockets.specs.Calls.{bind_refusal, after_bind, port_at, port_bound, last_port_bound, sockname_answer, peername_answer, listen_refusal, after_listen, state_answer, is_table_full, IsMade, is_next_at, accept_answer, after_accept, send_answer, after_send, recv_answer, recv_front, after_recv, connect_refusal, after_connect, reach_refusal, port_for, last_port_after, pair_connected, shutdown_refusal, after_shutdown};
+    ghost use Rattle.udp_socket.specs.SocketView.{new_socket as new_udp_socket};
+    ghost use Rattle.sockets.specs.Calls.{after_socket, after_datagram_socket, bind_refusal, after_bind, port_at, port_bound, last_port_bound, sockname_answer, peername_answer, listen_refusal, after_listen, state_answer, is_table_full, IsMade, is_next_at, accept_answer, after_accept, send_answer, after_send, recv_answer, recv_front, after_recv, connect_refusal, after_connect, reach_refusal, port_for, last_port_after, pair_connected, shutdown_refusal, after_shutdown};
 
     /// Makes a socket, with the room for one connection, or with the two queues of a UDP socket. EMFILE where the table is full or the last id
     /// is given, ENOMEM.
@@ -40,16 +43,69 @@ impl Sockets {
         ensures ok { IfOk result (λ id. (id.0 ≡ self.old.last_id + 1) × IsMade kind self.old self.new) }
         ensures err { OnErr result (self.new ≡ self.old) }
     {
-        if self.entries.is_full() {
+        if self.entries.is_full() || self.last_id == u64::MAX {
             return Err(Refusal::EMFILE);
         }
-        let Some(id) = self.last_id.checked_add(1) else {
-            return Err(Refusal::EMFILE);
+        match kind {
+            Kind::Tcp => {
+                let buffers = new_buffers(self.alloc, self.scales);
+                self.stream_with(buffers)
+            }
+            Kind::Udp => {
+                let socket = UdpSocket::new(self.alloc);
+                self.datagrams_with(socket)
+            }
+        }
+    }
+
+    /// Makes a TCP socket in these buffers. ENOMEM exactly where memory was refused them.
+    fn stream_with(&mut self, buffers: Result<Buffers, AllocError>) -> Result<SocketId, Refusal>
+        requires place { length self.old.entries < ENTRIES }
+        requires id { self.old.last_id < u64.MAX }
+        ensures answer { MatchResult buffers (λ given. result ≡ Ok (record { 0 = self.old.last_id + 1 })) (λ refused. result ≡ Err Refusal.ENOMEM) }
+        ensures table { MatchResult buffers (λ given. self.new ≡ after_socket self.old given) (λ refused. self.new ≡ self.old) }
+    {
+        let Ok(buffers) = buffers else {
+            return Err(Refusal::ENOMEM);
         };
-        let entry = new_socket(self.alloc, self.scales, kind, SocketId(id))?;
-        self.last_id = id;
+        let id = self.next_id();
+        self.add(Entry::socket(id, buffers));
+        Ok(id)
+    }
+
+    /// Makes a UDP socket of this one, whose two queues it owns. ENOMEM exactly where memory was refused it.
+    fn datagrams_with(&mut self, socket: Result<UdpSocket, AllocError>) -> Result<SocketId, Refusal>
+        requires place { length self.old.entries < ENTRIES }
+        requires id { self.old.last_id < u64.MAX }
+        requires empty { IfOk socket (λ given. given ≡ new_udp_socket) }
+        ensures answer { MatchResult socket (λ given. result ≡ Ok (record { 0 = self.old.last_id + 1 })) (λ refused. result ≡ Err Refusal.ENOMEM) }
+        ensures table { MatchResult socket (λ given. self.new ≡ after_datagram_socket self.old) (λ refused. self.new ≡ self.old) }
+    {
+        let Ok(socket) = socket else {
+            return Err(Refusal::ENOMEM);
+        };
+        let id = self.next_id();
+        self.add(Entry::datagrams(id, socket));
+        Ok(id)
+    }
+
+    /// The id that the next entry has.
+    fn next_id(&self) -> SocketId
+        requires { self.now.last_id < u64.MAX }
+        ensures { result ≡ record { 0 = self.now.last_id + 1 } }
+    {
+        SocketId(self.last_id + 1)
+    }
+
+    /// Puts an entry that has no connection at the end of the table, under the next id.
+    fn add(&mut self, entry: Entry)
+        requires place { length self.old.entries < ENTRIES }
+        requires id { entry.id.0 ≡ self.old.last_id + 1 }
+        requires unfiled { filed entry ≡ None }
+        ensures { self.new ≡ record self.old { last_id = entry.id.0; entries = self.old.entries ++ entry ∷ [] } }
+    {
+        self.last_id = entry.id.0;
         self.entries.push(entry);
-        Ok(SocketId(id))
     }
 
     /// Binds a socket to a local endpoint, at our address or 0.0.0.0, which stands for it. In place of port 0 it is given a dynamic port
@@ -368,23 +424,6 @@ fn may_open(role: &Role) -> Result<Option<Endpoint>, Refusal>
             (Some(error), _) => Err(Refusal::from(error)),
             (None, State::SynSent | State::SynReceived) => Err(Refusal::EALREADY),
             (None, _) => Err(Refusal::EISCONN),
-        },
-    }
-}
-
-/// An entry with a new socket of this kind. ENOMEM.
-fn new_socket(alloc: Global, scales: bool, kind: Kind, id: SocketId) -> Result<Entry, Refusal>
-    ensures ok { IfOk result (λ entry. IsNewSocket scales kind id entry) }
-    ensures err { IfErr result (λ e. e ≡ Refusal.ENOMEM) }
-{
-    match kind {
-        Kind::Tcp => match new_buffers(alloc, scales) {
-            Ok(buffers) => Ok(Entry::socket(id, buffers)),
-            Err(_) => Err(Refusal::ENOMEM),
-        },
-        Kind::Udp => match UdpSocket::new(alloc) {
-            Ok(socket) => Ok(Entry::datagrams(id, socket)),
-            Err(_) => Err(Refusal::ENOMEM),
         },
     }
 }

@@ -11,6 +11,7 @@ mod emission;
 mod entry;
 mod index;
 pub mod laws;
+pub mod memory;
 pub mod offered_laws;
 mod ports;
 mod refusal;
