@@ -6,9 +6,10 @@
 #include <stdlib.h>
 #include <string.h>
 
-enum { PORT = 80, MOMENT = 1 };
+enum { PORT = 80, ACK_WAITS = 200 /* milliseconds */ };
 
 static struct host near_one, far_one;
+static uint64_t now = 1;
 static uint8_t frame[HOST_FRAME_SIZE];
 
 static void fail(const char *what)
@@ -28,8 +29,8 @@ static uint64_t done(int64_t answer, const char *what)
 /* All frames that are due go from one host to the other. */
 static void pass(struct host *from, struct host *to)
 {
-    for (int64_t len; (len = host_next_frame(from, MOMENT, frame)) > 0;) {
-        done(host_deliver(to, MOMENT, 7, frame, (size_t)len), "deliver");
+    for (int64_t len; (len = host_next_frame(from, now, frame)) > 0;) {
+        done(host_deliver(to, now, 7, frame, (size_t)len), "deliver");
     }
 }
 
@@ -53,7 +54,7 @@ static void connect_hosts(int idle, uint64_t *here, uint64_t *there)
     done(host_bind(&far_one, listener, HOST_ADDR_ANY, PORT), "bind");
     done(host_listen(&far_one, listener, 1), "listen");
     *here = done(host_socket(&near_one, HOST_KIND_TCP), "socket");
-    done(host_connect(&near_one, MOMENT, 1, *here, HOST_ADDR(10, 0, 0, 2), PORT), "connect");
+    done(host_connect(&near_one, now, 1, *here, HOST_ADDR(10, 0, 0, 2), PORT), "connect");
     for (int i = 0; i < 4; i++) {
         pass(&near_one, &far_one);
         pass(&far_one, &near_one);
@@ -61,13 +62,15 @@ static void connect_hosts(int idle, uint64_t *here, uint64_t *there)
     *there = done(host_accept(&far_one, listener, &peer), "accept");
 }
 
-/* One octet goes over, is read and is acknowledged: what the second host does for it is what the idle entries make dearer. */
+/* One octet goes over, is read and, at a tick, is acknowledged: what the second host does for it is what the idle entries make dearer. */
 static void exchange(uint64_t here, uint64_t there)
 {
     uint8_t octet = 'x';
     done(host_send(&near_one, here, &octet, 1), "send");
     pass(&near_one, &far_one);
     done(host_recv(&far_one, there, &octet, 1), "recv");
+    now += ACK_WAITS;
+    host_tick(&far_one, now);
     pass(&far_one, &near_one);
 }
 
@@ -82,7 +85,7 @@ int main(int argc, char **argv)
         if (strcmp(argv[1], "exchange") == 0) {
             exchange(here, there);
         } else if (strcmp(argv[1], "tick") == 0) {
-            host_tick(&far_one, MOMENT);
+            host_tick(&far_one, now);
         } else if (strcmp(argv[1], "socket") == 0) {
             host_close(&far_one, done(host_socket(&far_one, HOST_KIND_TCP), "socket"));
         } else {
