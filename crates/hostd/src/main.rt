@@ -2,6 +2,9 @@
 //! or what the frames of a capture say; or copies a file over two hosts.
 #![tactic(auto)]
 
+mod descriptors;
+mod file;
+
 use clap::error::ErrorKind;
 use command_line::line;
 use command_line::request::Line;
@@ -11,24 +14,28 @@ use commands::{captured, frame, laddered, sim};
 use copier::CopyFault;
 use copy_command::copying::{Broken, Counting, TURNS, copy_captured};
 use copy_command::progress::Progress;
+use descriptors::stand_in;
 use devices::{Reading, Sink, Source, Writing};
+use file::StoredFile;
 use ladder::Numbering;
 use recorder::RecordedLink;
 use std::alloc::Global;
 use std::fs::{File, OpenFile};
 use std::io::BufWriter;
+use std::net::UdpSocket;
 use std::os::unix::fs::MetadataExt;
 use std::process::ExitCode;
 use std::{env, fmt, fs, io};
 use udp_link::{Losses, PeerSocket, SocketLink, pair};
 
 /// A new file, whose octets are handed on many at a time.
-type FileSink = Writing<BufWriter<File>>;
+type FileSink = Writing<BufWriter<StoredFile>>;
 
 /// The status after a usage fault, and after help.
 const USAGE: u8 = 2;
 
 fn main(rt: HostRuntime) -> ExitCode {
+    let _standing_in = stand_in(&rt);
     match words(&rt) {
         Ok(words) => run(&rt, words.as_slice()),
         Err(error) if error.kind() == io::ErrorKind::InvalidData => {
@@ -158,7 +165,7 @@ fn create(rt: &HostRuntime, path: &str) -> Result<FileSink, TextFault> {
     let Ok(file) = fs::create(rt, path) else {
         return Err(TextFault::Write);
     };
-    match BufWriter::new(rt.alloc(), file) {
+    match BufWriter::new(rt.alloc(), StoredFile(file)) {
         Ok(buffered) => Ok(Writing::new(buffered)),
         Err(_) => Err(TextFault::NoMemory),
     }
@@ -199,7 +206,7 @@ fn copy_file(
     } else {
         None
     };
-    let dst = Counting::new(Writing::new(dst), progress);
+    let dst = Counting::new(Writing::new(StoredFile(dst)), progress);
     copy(
         rt,
         Reading::new(src),
@@ -259,8 +266,8 @@ fn length(file: &File) -> Option<u64> {
 fn copy(
     rt: &HostRuntime,
     mut src: Reading<File>,
-    mut dst: Counting<Writing<File>, Writing<io::Stderr>>,
-    mut link: SocketLink<PeerSocket>,
+    mut dst: Counting<Writing<StoredFile>, Writing<io::Stderr>>,
+    mut link: SocketLink<PeerSocket<UdpSocket>>,
     capture: Option<FileSink>,
 ) -> ExitCode {
     let alloc = rt.alloc();
