@@ -11,6 +11,7 @@ mod ends;
 mod fragments;
 mod gateways;
 mod hops;
+mod interrupts;
 mod links;
 mod losses;
 mod messages;

@@ -71,38 +71,88 @@ fn frames_are_repeated_and_held_back(rt: HostRuntime) {
     copies(&rt, rt.alloc(), 30_000, &MIXED);
 }
 
-/// How often each of the devices of a copy of 10,000 octets is called at least. The source is read four times, the last time at its end; the sink is written
-/// to and flushed. Without a turn nothing is moved.
-const FAULTS: [(CopyFault, u64); 4] = [
+/// How often each of the devices of a copy of 10,000 octets is called. The source is read four times, the last time at its end; the sink is written to five
+/// times and flushed; frames go into the link and come out of it, and it is asked once more each time that they end.
+const CALLS: [(CopyFault, u64); 3] = [
     (CopyFault::Read, 4),
-    (CopyFault::Write, 3),
-    (CopyFault::Link, 40),
-    (CopyFault::Stalled, 1),
+    (CopyFault::Write, 6),
+    (CopyFault::Link, 52),
 ];
 
-/// A copy of 10,000 octets ends with a fault, where it is a device's at this call of it.
-fn ends_with(rt: &impl Abort, alloc: Global, fault: CopyFault, call: u64) {
-    let (read, write, carry, turns) = match fault {
-        CopyFault::Read => (call, 0, 0, TURNS),
-        CopyFault::Write => (0, call, 0, TURNS),
-        CopyFault::Link => (0, 0, call, TURNS),
-        _ => (0, 0, 0, 0),
+/// What came of a copy of 10,000 octets: its answer, how often source, sink and link failed, and whether what was written begins the source.
+type Outcome = (Result<u64, CopyFault>, [u64; 3], bool);
+
+/// A copy of 10,000 octets whose device fails at this call of it, where a fault is its.
+fn copied_with(rt: &impl Abort, alloc: Global, fault: CopyFault, call: u64) -> Outcome {
+    let (read, write, carry) = match fault {
+        CopyFault::Read => (call, 0, 0),
+        CopyFault::Write => (0, call, 0),
+        _ => (0, 0, call),
     };
     let octets = octets(rt, alloc, 10_000);
     let mut src = MemorySource::new(octets.as_slice()).failing_at(read);
     let mut dst = MemorySink::new(alloc).failing_at(write);
     let mut link = MemoryLink::new(alloc, &[]).failing_at(carry);
-    let copied = copy(alloc, &mut src, &mut dst, &mut link, turns);
-    assert!(rt; copied == Err(fault), "call {call}");
-    assert!(rt; octets.as_slice().starts_with(dst.taken()));
-    assert!(rt; turns > 0 || dst.taken().is_empty() && link.passages().is_empty());
+    let copied = copy(alloc, &mut src, &mut dst, &mut link, TURNS);
+    let failures = [src.failures(), dst.failures(), link.failures()];
+    (copied, failures, octets.as_slice().starts_with(dst.taken()))
 }
 
 #[test]
 fn devices_that_fail_are_reported(rt: HostRuntime) {
-    for (fault, calls) in FAULTS {
+    for (fault, calls) in CALLS {
+        let failures = match fault {
+            CopyFault::Read => [1, 0, 0],
+            CopyFault::Write => [0, 1, 0],
+            _ => [0, 0, 1],
+        };
         for call in 1..=calls {
-            ends_with(&rt, rt.alloc(), fault, call);
+            let came = copied_with(&rt, rt.alloc(), fault, call);
+            assert!(rt;
+                came == (Err(fault), failures, true),
+                "{fault}, call {call}"
+            );
         }
+        let came = copied_with(&rt, rt.alloc(), fault, calls + 1);
+        assert!(rt; came == (Ok(10_000), [0, 0, 0], true), "{fault}, no call");
+    }
+}
+
+/// How many octets a call of a source or a sink moves at most.
+const PIECES: [usize; 4] = [1, 2, 7, 4_096];
+
+#[test]
+fn short_reads_and_writes_are_no_failures(rt: HostRuntime) {
+    let alloc = rt.alloc();
+    let octets = octets(&rt, alloc, 10_000);
+    for most in PIECES {
+        let mut src = MemorySource::new(octets.as_slice()).in_pieces(most.max(1));
+        let mut dst = MemorySink::new(alloc).in_pieces(most);
+        let mut link = MemoryLink::new(alloc, &[]);
+        let copied = copy(alloc, &mut src, &mut dst, &mut link, TURNS);
+        assert!(rt;
+            copied == Ok(10_000) && dst.taken() == octets.as_slice(),
+            "{most}"
+        );
+        assert!(rt; src.failures() == 0 && dst.failures() == 0 && link.failures() == 0);
+    }
+}
+
+/// A sink that takes nothing of some octets fails, and a copy without a turn moves nothing.
+#[test]
+fn nothing_moves(rt: HostRuntime) {
+    let alloc = rt.alloc();
+    let octets = octets(&rt, alloc, 10_000);
+    for (most, turns, fault, failures) in [
+        (0, TURNS, CopyFault::Write, 1),
+        (1, 0, CopyFault::Stalled, 0),
+    ] {
+        let mut src = MemorySource::new(octets.as_slice());
+        let mut dst = MemorySink::new(alloc).in_pieces(most);
+        let mut link = MemoryLink::new(alloc, &[]);
+        let copied = copy(alloc, &mut src, &mut dst, &mut link, turns);
+        assert!(rt; copied == Err(fault) && dst.taken().is_empty());
+        assert!(rt; (src.failures(), dst.failures(), link.failures()) == (0, failures, 0));
+        assert!(rt; turns > 0 || link.passages().is_empty());
     }
 }

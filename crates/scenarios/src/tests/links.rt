@@ -39,7 +39,12 @@ fn numbers_decide_what_becomes_of_frames(rt: HostRuntime) {
 }
 
 /// A frame comes to a side, or none.
-fn comes(rt: &impl Abort, link: &mut SocketLink<PeerSocket>, to: Side, want: Option<&[u8]>) {
+fn comes(
+    rt: &impl Abort,
+    link: &mut SocketLink<PeerSocket<UdpSocket>>,
+    to: Side,
+    want: Option<&[u8]>,
+) {
     let mut frame = [0; 1514];
     let given = match link.recv(to, &mut frame) {
         Ok(Some(len)) => frame.get(..len),
