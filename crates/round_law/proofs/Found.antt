@@ -17,7 +17,7 @@ use Rattle.sockets.specs.SocketsView.{role_of}
 use Rattle.sockets.specs.Steps.{connected}
 use Rattle.sockets.proofs.Led.{reached_ordered}
 use Rattle.host.specs.HostView.{HostView}
-use Rattle.host.specs.Places.{ReplyOf, EntryOf, places_of}
+use Rattle.host.specs.Places.{ReplyOf, EntryOf, places_of, places}
 use Rattle.round_law.specs.Alone.{IsSilent, IsAlone}
 use Rattle.round_law.specs.Progress.{IsQuiet}
 use Rattle.round_law.proofs.Retained.{Fails, found_behind, all_front, all_back, all_of}
@@ -89,6 +89,15 @@ silent_by id (e ∷ xs) apart others none =
 found_role : (o : Option Entry) (role : Role) → option_map (λ (e : Entry). e.role) o ≡ Some role → (e : Entry) × (o ≡ Some e) × (e.role ≡ role)
 found_role None role is = cc
 found_role (Some e) role is = let same : e.role ≡ role = cc in (e, refl, same)
+
+-- where nothing is due at a host, a socket has nothing to send
+pub nothing_to_send : (h : HostView) (id : SocketId) (role : Role) → places h ≡ [] → role_of h.sockets id ≡ Some role → dues_of role ≡ []
+nothing_to_send h id role none named =
+    let found = found_role (find (is_socket id) h.sockets.entries) role named in
+    let parts = splits (is_socket id) h.sockets.entries found.0 found.1 in
+    let Due : Entry → Type 0 = λ e. dues_of e.role ≡ [] in
+    let due = none_of_two (map ReplyOf h.interface.replies) (flat_map places_of h.sockets.entries) none in
+    ap dues_of (sym found.2) ∙ (all_back Due parts.before (found.0 ∷ parts.behind) (subst (λ (l : List Entry). AllByRecursion Due l) parts.is (none_due h.sockets.entries due.1))).0
 
 pub alone_there : (h : HostView) (id : SocketId) (c : View) (mac : Mac) → IsQuiet h id c mac → IsAlone h id c
 alone_there h id c mac quiet =

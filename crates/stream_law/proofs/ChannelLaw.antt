@@ -26,7 +26,7 @@ keeps-step cap limit small _ _ (reads_end c none seen) h = keeps-reads_end cap c
 keeps-step cap limit small _ _ (sending_stops c s is) h = keeps-sending_stops cap c h
 keeps-step cap limit small _ _ (receiving_stops c) h = keeps-receiving_stops cap c h
 
-holds : (cap limit : ℕ) → Near cap limit → (c : Channel) → Runs cap limit c → Holds cap c
+pub holds : (cap limit : ℕ) → Near cap limit → (c : Channel) → Runs cap limit c → Holds cap c
 holds cap limit small _ starts = holds-fresh cap
 holds cap limit small _ (steps c d run step) = keeps-step cap limit small c d step (holds cap limit small c run)
 

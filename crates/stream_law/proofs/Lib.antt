@@ -18,3 +18,4 @@ pub mod PairingMoves
 pub mod PairingEmission
 pub mod PairingArrival
 pub mod PairingLaw
+pub mod SomeLimit

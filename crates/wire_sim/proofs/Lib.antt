@@ -13,6 +13,7 @@ pub mod datagrams
 pub mod passage
 pub mod two_ends
 pub mod rounds
+pub mod progress
 pub mod hops
 pub mod RunGiven
 pub mod HostsAreSetUp

@@ -11,6 +11,8 @@ pub mod Runs
 pub mod RoomyRuns
 pub mod Rounds
 pub mod Exchanges
+pub mod Windows
+pub mod Progress
 pub mod Datagrams
 pub mod Coverage
 pub mod Holding
@@ -22,4 +24,3 @@ pub mod Passage
 pub mod Neighbours
 pub mod Handshakes
 pub mod Duties
-pub mod Windows

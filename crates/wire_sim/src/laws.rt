@@ -8,6 +8,7 @@ ghost use Rattle.wire_sim.specs.Holding.{EveryOpeningIsBegun, EveryHoldingIsNote
 ghost use Rattle.wire_sim.specs.Notes.{EveryNoteIsTraced, EveryDelayIsTraced};
 ghost use Rattle.wire_sim.specs.Rounds.{EveryRoundIsARun};
 ghost use Rattle.wire_sim.specs.Exchanges.{EveryClockIsKept, EveryHostIsKept, EveryRoundIsAnExchange, EveryReaderReads};
+ghost use Rattle.wire_sim.specs.Progress.{EveryRoundMovesData};
 ghost use Rattle.wire_sim.specs.RoomyRuns.{EveryRoomyRunIsARun, EveryStepLeavesRoom, EveryRunLeavesRoom, EveryBareRunHasRoom};
 ghost use Rattle.wire_sim.specs.Datagrams.{EveryRunKeepsDatagrams, EveryDatagramIsTraced};
 ghost use Rattle.wire_sim.specs.Neighbours.{EveryNeighbourIsTheOtherHost, EveryKnownHopIsTheOtherHost, EveryOpenConnectionLeadsToTheOther};
@@ -49,6 +50,12 @@ pub fn every_round_is_an_exchange()
 /// Where a reader's socket has octets to be read, of a connection that is past its opening and not CLOSED, the reads of a round read some (RFC 9293 section 3.10.3).
 pub fn every_reader_reads()
     ensures { EveryReaderReads }
+{}
+
+/// A round moves data (RFC 9293 sections 3.4, 3.8.1, 3.8.6 and 3.10): from a world in which nothing is due at either host, two sockets are each other's ends and the only live connections, and less was read than was written, more is read than before,
+/// or the writer holds fewer octets; and neither connection ends. So no host is safe by silence: what is written gets on with each round that loses nothing.
+pub fn every_round_moves_data()
+    ensures { EveryRoundMovesData }
 {}
 
 /// Each host of a world is one that a list of its own events leads to, from a new one of its MAC, its address and its routes: calls that are not refused, ticks, deliveries

@@ -97,7 +97,7 @@ not-before {X} t xs ys = go xs
 -- The openings of a world that was reached.
 
 -- an opening that is found by its socket is found by its pair and epoch
-both-ways : (side : Side) (os : List Opening) (id : SocketId) (o : Opening) → IsLedger os → find (is_opening_at side id) os ≡ Some o → find (is_opening_of side o.pair o.epoch) os ≡ Some o
+pub both-ways : (side : Side) (os : List Opening) (id : SocketId) (o : Opening) → IsLedger os → find (is_opening_at side id) os ≡ Some o → find (is_opening_of side o.pair o.epoch) os ≡ Some o
 both-ways side os id o ledger found =
     let at = and_parts (same_side o.side side) (o.id.0 == id.0) (find-passes (is_opening_at side id) os o found) in
     found-sole (is_opening_at side id) (is_opening_of side o.pair o.epoch) os o found

@@ -10,7 +10,7 @@ use Rattle.host.specs.HostView.{HostView}
 use Rattle.host.specs.Sound.{IsSoundHost}
 use Rattle.host.specs.Ticks.{after_tick}
 use Rattle.round_law.specs.Exchange as law
-use Rattle.round_law.specs.Exchange.{IsOut, AreOut, AreBrought, IsCarried, after_minute, isn_of_exchange}
+use Rattle.round_law.specs.Exchange.{IsOut, AreOut, AreBrought, IsCarried, IsExchange, after_minute, isn_of_exchange}
 use Rattle.sides.specs.declared.side.Side.{Side}
 use Rattle.sides.specs.declared.side.Side.TheVariants.{A, B}
 use Rattle.sides.specs.Sides.{other_side}
@@ -21,7 +21,7 @@ use Rattle.wire_sim.specs.declared.event.Event.TheVariants as event
 use Rattle.wire_sim.specs.declared.world.bag.Frame.{Frame}
 use Rattle.wire_sim.specs.declared.world.station.Station.{Station}
 use Rattle.wire_sim.specs.Exchanges.{EveryRoundIsAnExchange, hosts_from}
-use Rattle.wire_sim.specs.Rounds.{isn_of_round, minute_past, most_frames, PassesMinute, Sends, Emits, IsBrought, Brings, Carries, Receives, none, one_more, Reads}
+use Rattle.wire_sim.specs.Rounds.{isn_of_round, minute_past, most_frames, PassesMinute, Sends, Emits, IsBrought, Brings, Carries, Receives, none, one_more, Reads, IsRound}
 use Rattle.wire_sim.specs.Runs.{IsReached, goes_on, IsStep}
 use Rattle.wire_sim.specs.Steps.{with_host, station_after_tick, EmitsFrame, EmitsNothing, MeetsFrame, DeliversFrame}
 use Rattle.wire_sim.specs.WorldView.{NetworkView, WorldView, station_of, host_of, table_of, clock_of}
@@ -301,9 +301,9 @@ carries limit side w v some run sound c =
 
 -- The whole round.
 
-pub rounds-exchange : EveryRoundIsAnExchange
-rounds-exchange limit writer reader_id count old new some run round =
-    (round.answered, second.reached, record { between = hosts_from writer round.brought; bringing = bringing; answering = answering }, round.reading)
+pub round-exchange : (limit : ℕ) (writer : Side) (reader_id : SocketId) (count : ℕ) (old new : WorldView) → 0 < limit → IsReached limit old → (round : IsRound writer reader_id count old new)
+    → IsReached limit round.answered × IsExchange (hosts_from writer old) (hosts_from writer round.answered)
+round-exchange limit writer reader_id count old new some run round = (second.reached, record { between = hosts_from writer round.brought; bringing = bringing; answering = answering })
   where
     reader : Side
     reader = other_side writer
@@ -341,3 +341,8 @@ rounds-exchange limit writer reader_id count old new some run round =
     answering : IsCarried (host_of round.brought.network reader) (host_of round.brought.network writer) (host_of round.answered.network reader) (host_of round.answered.network writer)
     answering =
         subst (λ (s : Side). IsCarried (host_of round.brought.network reader) (host_of round.brought.network s) (host_of round.answered.network reader) (host_of round.answered.network s)) (sym (other-twice writer)) second.carried
+
+pub rounds-exchange : EveryRoundIsAnExchange
+rounds-exchange limit writer reader_id count old new some run round =
+    let both = round-exchange limit writer reader_id count old new some run round in
+    (round.answered, both.0, both.1, round.reading)

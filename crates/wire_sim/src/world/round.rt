@@ -24,7 +24,10 @@ const ISN: Seq = Seq(0);
 
 impl World {
     ghost use Rattle.sides.specs.Sides.{other_side};
+    ghost use Rattle.sockets.specs.declared.entry.SocketId.{SocketId};
+    ghost use Rattle.tcp_state.specs.View.{View};
     ghost use Rattle.wire_sim.specs.Datagrams.{DatagramLaw};
+    ghost use Rattle.wire_sim.specs.Progress.{MayMove, HasMoved};
     ghost use Rattle.wire_sim.specs.Rounds.{most_frames, PassesMinute, Sends, Emits, IsBrought, Brings, Carries, Receives, Reads, IsRound, BeginsToCarry, IsBegun};
     ghost use Rattle.wire_sim.specs.Runs.{unfair, IsReached};
     ghost use Rattle.wire_sim.specs.Trace.{StreamLaw};
@@ -42,6 +45,7 @@ impl World {
         ensures reached { IsReached self.new.seen.network.limit self.new.seen }
         ensures lawful { StreamLaw self.new.seen.trace self.new.seen.network.openings }
         ensures datagrams { (run : IsReached self.new.seen.network.limit self.new.seen) → DatagramLaw self.new.seen.network.limit self.new.seen run }
+        ensures moves { OnOk result ((writer_id : SocketId) (v d : View) → MayMove writer writer_id reader_id v d self.old.seen → HasMoved writer writer_id reader_id v d self.old.seen self.new.seen) }
     {
         let reader = writer.other();
         self.pass_minute(writer)?;
@@ -56,6 +60,7 @@ impl World {
         ensures passed { OnOk result (PassesMinute side self.old.seen self.new.seen) }
         ensures refused { IfErr result (λ refusal. refusal ≡ Unfair.NoMemory) }
         ensures kept { OnErr result (self.new.seen ≡ self.old.seen) }
+        ensures before { IsReached self.old.seen.network.limit self.old.seen }
         ensures reached { IsReached self.new.seen.network.limit self.new.seen }
     {
         let now = self.clock(side);
@@ -66,7 +71,8 @@ impl World {
 
     /// What the clock of a side's host shows.
     fn clock(&self, side: Side) -> Moment
-        ensures { result ≡ clock_of self.now.seen.network side }
+        ensures shows { result ≡ clock_of self.now.seen.network side }
+        ensures reached { IsReached self.now.seen.network.limit self.now.seen }
     {
         self.network.clock(side)
     }

@@ -1,9 +1,10 @@
 -- A round by its stages, and where memory ran out those that were done.
 use Rattle.std.proofs.Common.{ℕ, Result, Ok, Err, refl, sym, subst}
-use Rattle.std.specs.Result.{OnErr}
+use Rattle.std.specs.Result.{IfOk, OnOk, OnErr}
 use Rattle.std.proofs.lemmas.Result.{IfOk-weaker}
 use Rattle.wire_sim.specs.Rounds.{IsBegun, at_minute_of_writer, at_minute_of_reader, at_bringing, at_answering, at_reading}
 use Rattle.wire_sim.proofs.datagrams.RunsKeepDatagrams.{runs-keep}
+use Rattle.wire_sim.proofs.progress.RoundsMove.{rounds-move}
 use Rattle.wire_sim.proofs.rounds.RoundsAreRuns.{on_err}
 use Rattle.wire_sim.proofs.runs.FieldsAreReached.{lawful}
 use Rattle.wire_sim.proofs.world.World.round.Goals as goal
@@ -12,6 +13,11 @@ use Rattle.wire_sim.proofs.world.World.round.Goals as goal
 on_err-weaker : {T E : Type 0} (r : Result T E) (P Q : Type 0) → (P → Q) → OnErr r P → OnErr r Q
 on_err-weaker (Ok x) P Q more holds = tt
 on_err-weaker (Err e) P Q more holds = more holds
+
+-- .. and of the value where it succeeded
+on_ok-of : {T E : Type 0} (r : Result T E) (P : T → Type 0) (Q : Type 0) → ((x : T) → P x → Q) → IfOk r P → OnOk r Q
+on_ok-of (Ok x) P Q more holds = more x holds
+on_ok-of (Err e) P Q more holds = tt
 
 pub returns-in_err-pass_minute-clause-begun : goal.returns-in_err-pass_minute-clause-begun
 returns-in_err-pass_minute-clause-begun c =
@@ -46,6 +52,10 @@ returns-clause-rounds c =
       answering = rw c.other-reader.ensures at c.in_ok-carry-2.ensures.carried;
       reading = rw c.other-reader.ensures at reading;
     }) c.read_all.ensures.read
+
+pub returns-clause-moves : goal.returns-clause-moves
+returns-clause-moves c =
+    on_ok-of c.read_all.result _ _ (λ count round writer_id v d may. rounds-move _ c.args.writer writer_id c.args.reader_id count v d c.args.self.now.seen _ c.pass_minute.ensures.before may round) (returns-clause-rounds c)
 
 pub returns-clause-begun : goal.returns-clause-begun
 returns-clause-begun c =

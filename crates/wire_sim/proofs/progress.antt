@@ -1,0 +1,5 @@
+pub mod EndsMeet
+pub mod PoolsAreOthers
+pub mod QuietHosts
+pub mod ReadsTold
+pub mod RoundsMove
