@@ -1,5 +1,5 @@
 -- Each receive that answers octets answers at least one, and leaves as many fewer to be read.
-use Rattle.std.proofs.Common.{◌≡◌, ◌+◌, ◌-◌, ◌<◌, ◌≤◌, ◌==◌, ◌||◌, ◌&&◌, ◌⊎◌, inl, inr, min, not, ℕ, Bool, true, false, cond, if◌then◌else◌, List, [], ◌∷◌, length, take, drop, Option, Some, None, is_some, option_map, Result, Ok, Err, arith, refl, sym, ◌∙◌, ap, subst}
+use Rattle.std.proofs.Common.{◌≡◌, ◌+◌, ◌-◌, ◌<◌, ◌≤◌, ◌==◌, ◌||◌, ◌&&◌, min, not, ℕ, Bool, true, false, cond, if◌then◌else◌, List, length, take, drop, Option, Some, None, is_some, option_map, Result, Ok, Err, arith, refl, sym, ◌∙◌, ap, subst}
 use Rattle.std.specs.List.{find}
 use Rattle.std.specs.Global.{Vec}
 use Rattle.std.proofs.lemmas.List.{length-drop, length-take}
@@ -17,7 +17,7 @@ use Rattle.sockets.specs.declared.entry.Entry.{Entry}
 use Rattle.sockets.specs.declared.role.Role.{Role}
 use Rattle.sockets.specs.declared.role.Role.TheVariants.{Idle, Listener, Connected, Datagrams}
 use Rattle.sockets.specs.declared.refusal.Refusal.{Refusal}
-use Rattle.sockets.specs.Calls.{of_socket, recv_answer, after_recv}
+use Rattle.sockets.specs.Calls.{of_socket, recv_answer}
 use Rattle.sockets.specs.Entries.{in_connection, has_socket, is_socket, role_after_recv}
 use Rattle.sockets.specs.SocketsView.{SocketsView, role_of}
 use Rattle.sockets.specs.Sound.{IsSoundRole}
@@ -32,8 +32,8 @@ use Rattle.wire_sim.specs.declared.event.Answer.{Answer}
 use Rattle.wire_sim.specs.declared.event.Answer.TheVariants as reply
 use Rattle.wire_sim.specs.Runs.{IsStep}
 use Rattle.wire_sim.specs.Rounds.{read_at_once, Receives, none, one_more, Reads, EndsReading}
-use Rattle.wire_sim.specs.Steps.{recv_len, readable_on, MeetsReceived}
-use Rattle.wire_sim.specs.WorldView.{WorldView, SameAnswer, octets_in, host_of, table_of}
+use Rattle.wire_sim.specs.Steps.{recv_len, MeetsReceived}
+use Rattle.wire_sim.specs.WorldView.{WorldView, SameAnswer, octets_in, table_of}
 use Rattle.wire_sim.proofs.lists.FoundAfterChange.{All-find, find-passes}
 use Rattle.wire_sim.proofs.tables.CallsOnTable.{reads-on, octets_told, received-connected, readable_on-connected}
 

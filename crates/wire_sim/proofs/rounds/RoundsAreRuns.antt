@@ -1,5 +1,5 @@
 -- A round is a list of events given in turn.
-use Rattle.std.proofs.Common.{◌≡◌, ◌≤◌, ℕ, inl, inr, List, [], ◌∷◌, ◌++◌, length, Some, Result, Ok, Err, arith, refl, sym, ◌∙◌, ap, subst}
+use Rattle.std.proofs.Common.{◌≡◌, ℕ, inl, inr, List, [], ◌∷◌, ◌++◌, Some, Result, Ok, Err, refl, subst}
 use Rattle.std.specs.Result.{IfOk, IfErr, OnErr}
 use Rattle.sockets.specs.declared.entry.SocketId.{SocketId}
 use Rattle.sides.specs.declared.side.Side.{Side}
@@ -11,7 +11,7 @@ use Rattle.wire_sim.specs.declared.event.Answer.{Answer}
 use Rattle.wire_sim.specs.declared.event.Answer.TheVariants as answer
 use Rattle.wire_sim.specs.declared.event.Unfair.{Unfair}
 use Rattle.wire_sim.specs.declared.event.Unfair.TheVariants.{NoMemory}
-use Rattle.wire_sim.specs.Runs.{unfair, IsStep, IsOutcome, RunsTo}
+use Rattle.wire_sim.specs.Runs.{unfair, IsStep, RunsTo}
 use Rattle.wire_sim.specs.Rounds.{isn_of_round, read_at_once, minute_past, most_frames, PassesMinute, Sends, Emits, IsBrought, Brings, Carries, Receives, none, one_more, Reads, IsRound, BeginsToCarry, emitting, bringing, IsBegun, at_minute_of_writer, at_minute_of_reader, at_bringing, at_answering, at_reading, IsRoundOutcome, EveryRoundIsARun}
 use Rattle.wire_sim.specs.WorldView.{WorldView, clock_of}
 use Rattle.wire_sim.proofs.RunGiven.{same_event}
