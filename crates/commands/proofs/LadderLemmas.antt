@@ -1,5 +1,5 @@
 -- What a run of a script with a ladder records, step by step.
-use Rattle.std.proofs.Common.{◌≡◌, ℕ, ◌+◌, ◌<◌, ◌⊎◌, inl, inr, List, [], ◌∷◌, ◌++◌, length, map, take, drop, get_or, option_to_list, Option, Some, None, Result, Ok, Err, append_assoc, append-nil, refl, ap, sym, subst, ◌∙◌}
+use Rattle.std.proofs.Common.{◌≡◌, ℕ, ◌+◌, ◌<◌, ◌⊎◌, inl, inr, List, [], ◌∷◌, ◌++◌, length, map, take, drop, get_or, option_to_list, Option, Some, None, Result, Ok, Err, false, append_assoc, append-nil, refl, ap, sym, subst, ◌∙◌}
 use Rattle.std.specs.List.{flat_map}
 use Rattle.std.proofs.Math.ListN.{set}
 use Rattle.std.proofs.lemmas.List.{map-append, take_more, take_more_set, drop_more, take-append-drop}
@@ -12,8 +12,9 @@ use Rattle.wire_sim.specs.declared.event.Answer.{Answer}
 use Rattle.wire_sim.specs.declared.event.Happening.{Happening}
 use Rattle.wire_sim.specs.declared.event.Unfair.{Unfair}
 use Rattle.wire_sim.specs.WorldView.{WorldView}
+use Rattle.script.specs.declared.lines.Setting.{Setting}
 use Rattle.script.specs.declared.lines.Command.{Command}
-use Rattle.script.specs.declared.lines.Item.TheVariants.{Do, Limit}
+use Rattle.script.specs.declared.lines.Item.TheVariants.{Do, Limit, NoScale}
 use Rattle.script.specs.Script.{item_of}
 use Rattle.ladder.specs.declared.passage.Passage.{Passage}
 use Rattle.ladder.specs.declared.passage.Passage.TheVariants.{Sent}
@@ -27,7 +28,7 @@ use Rattle.sides.specs.declared.side.Side.TheVariants.{A, B}
 use Rattle.script.specs.declared.action.Action.{Action}
 use Rattle.script.specs.declared.lines.Command.TheVariants.{At, Round, Pass}
 use Rattle.script.specs.Words.{lines_of}
-use Rattle.script.specs.Script.{command_in, limit_of, limit_said}
+use Rattle.script.specs.Script.{command_in, is_noscale, limit_said, setting_of}
 use Rattle.script.specs.declared.lines.Item.{Item}
 use Rattle.std.specs.Result.{OnErr}
 use Rattle.script.specs.Events.{IsEventOf}
@@ -39,7 +40,7 @@ use Rattle.commands.specs.declared.fault.TextFault.TheVariants.{Line, TooLong, N
 use Rattle.commands.specs.declared.sim.Ends.{Ends}
 use Rattle.commands.specs.Play.{ComesTo, Carries, Delivers, Does, IsFirst, pass_text, text_of_outcome}
 use Rattle.commands.specs.Recording.{TakesCapture}
-use Rattle.commands.specs.Laddered.{CarriesEach, HasBrought, none, one_more, HasRun, starts, goes_on, HasDone, nothing, limits, does, recorded, IsCut, IsLeftAt, TakesBothOf, TakesLadder, TakesLadderOf, Tells, carried_by, ladder_in, passages_in}
+use Rattle.commands.specs.Laddered.{CarriesEach, HasBrought, none, one_more, HasRun, starts, goes_on, HasDone, nothing, unscales, limits, does, recorded, IsCut, IsLeftAt, TakesBothOf, TakesLadder, TakesLadderOf, Tells, carried_by, ladder_in, passages_in}
 use Rattle.commands.proofs.PlayLemmas.{delivered_last}
 
 -- one frame more is brought, and what it came to is noted behind what the others came to
@@ -184,7 +185,7 @@ took (Err fault) numbering lines w v old new ladder happened ran is all front = 
 
 -- the same of a script's octets
 taken_by : (octets : List ℕ) (r : Result (Unit {0}) TextFault) (numbering : Numbering) (first v : WorldView) (old new : Option (List ℕ)) →
-    IsFirst (limit_of octets) first → TakesLadder r numbering (lines_of octets) first v old new → TakesLadderOf octets r numbering old new
+    IsFirst (setting_of octets) first → TakesLadder r numbering (lines_of octets) first v old new → TakesLadderOf octets r numbering old new
 taken_by octets (Ok done) numbering first v old new is_first took = (v, (first, is_first, took))
 taken_by octets (Err (Line n)) numbering first v old new is_first took = absurd took
 taken_by octets (Err TooLong) numbering first v old new is_first took = absurd took
@@ -195,23 +196,23 @@ taken_by octets (Err Read) numbering first v old new is_first took = absurd took
 taken_by octets (Err Write) numbering first v old new is_first took = (v, (first, is_first, took))
 taken_by octets (Err NoMemory) numbering first v old new is_first took = took.1
 
--- the limit that the world has is the one that the script says
-pub ladder_by : (told : Option (List ℕ)) (octets : List ℕ) (r : Result (Unit {0}) TextFault) (numbering : Numbering) (limit : Option ℕ) (first v : WorldView)
-    (old new : Option (List ℕ)) → IfSome told (λ t. octets ≡ t) → limit ≡ limit_of octets → IsFirst limit first →
+-- the setting that the world has is the one that the script says
+pub ladder_by : (told : Option (List ℕ)) (octets : List ℕ) (r : Result (Unit {0}) TextFault) (numbering : Numbering) (setting : Setting) (first v : WorldView)
+    (old new : Option (List ℕ)) → IfSome told (λ t. octets ≡ t) → setting ≡ setting_of octets → IsFirst setting first →
     TakesLadder r numbering (lines_of octets) first v old new → IfSome told (λ t. TakesLadderOf t r numbering old new)
-ladder_by None octets r numbering limit first v old new all limited is_first took = tt
-ladder_by (Some t) octets r numbering limit first v old new all limited is_first took =
+ladder_by None octets r numbering setting first v old new all said is_first took = tt
+ladder_by (Some t) octets r numbering setting first v old new all said is_first took =
     subst (λ x. TakesLadderOf x r numbering old new) all
-    (taken_by octets r numbering first v old new (subst (λ n. IsFirst n first) limited is_first) took)
+    (taken_by octets r numbering first v old new (subst (λ x. IsFirst x first) said is_first) took)
 
-pub both_by : (told : Option (List ℕ)) (octets : List ℕ) (ends : Ends) (numbering : Numbering) (limit : Option ℕ) (first v : WorldView)
-    (old new old_capture new_capture : Option (List ℕ)) → IfSome told (λ t. octets ≡ t) → limit ≡ limit_of octets →
-    IsFirst limit first → TakesLadder ends.run numbering (lines_of octets) first v old new → TakesCapture ends.capture v old_capture new_capture →
+pub both_by : (told : Option (List ℕ)) (octets : List ℕ) (ends : Ends) (numbering : Numbering) (setting : Setting) (first v : WorldView)
+    (old new old_capture new_capture : Option (List ℕ)) → IfSome told (λ t. octets ≡ t) → setting ≡ setting_of octets →
+    IsFirst setting first → TakesLadder ends.run numbering (lines_of octets) first v old new → TakesCapture ends.capture v old_capture new_capture →
     IfSome told (λ t. TakesBothOf t ends numbering old new old_capture new_capture)
-both_by None octets ends numbering limit first v old new old_capture new_capture all limited is_first took captured = tt
-both_by (Some t) octets ends numbering limit first v old new old_capture new_capture all limited is_first took captured =
+both_by None octets ends numbering setting first v old new old_capture new_capture all said is_first took captured = tt
+both_by (Some t) octets ends numbering setting first v old new old_capture new_capture all said is_first took captured =
     subst (λ x. TakesBothOf x ends numbering old new old_capture new_capture) all
-    (v, (first, subst (λ n. IsFirst n first) limited is_first, took), captured)
+    (v, (first, subst (λ x. IsFirst x first) said is_first, took), captured)
 
 -- a line that says a command was done
 pub done_said : {T E : Type 0} (r : Result T E) (line : List ℕ) (command : Command) (w v : WorldView) (before after : List Happened) → item_of line ≡ Some (Do command) →
@@ -232,8 +233,14 @@ pub done_limit : {T E : Type 0} (r : Result T E) (line : List ℕ) (n : ℕ) (w 
 done_limit (Ok x) line n w before after says noted = (recorded line [] (codes "ok"), limits n w says, noted)
 done_limit (Err e) line n w before after says noted = tt
 
+-- a line that says `noscale`
+pub done_noscale : {T E : Type 0} (r : Result T E) (line : List ℕ) (w : WorldView) (before after : List Happened) → item_of line ≡ Some NoScale →
+    OnOk r (after ≡ before ++ recorded line [] (codes "ok")) → OnOk r ((more : List Happened) × HasDone line more w w × (after ≡ before ++ more))
+done_noscale (Ok x) line w before after says noted = (recorded line [] (codes "ok"), unscales w says, noted)
+done_noscale (Err e) line w before after says noted = tt
+
 -- a line that says nothing
-pub done_nothing : (line : List ℕ) (item : Option Item) (w : WorldView) (happened : List Happened) → item_of line ≡ item → command_in item ≡ None → limit_said item ≡ None →
-    (more : List Happened) × HasDone line more w w × (happened ≡ happened ++ more)
-done_nothing line item w happened is silent unlimited =
-    ([], nothing w (ap command_in is ∙ silent) (ap limit_said is ∙ unlimited), sym (append-nil happened))
+pub done_nothing : (line : List ℕ) (item : Option Item) (w : WorldView) (happened : List Happened) → item_of line ≡ item → command_in item ≡ None →
+    is_noscale item ≡ false → limit_said item ≡ None → (more : List Happened) × HasDone line more w w × (happened ≡ happened ++ more)
+done_nothing line item w happened is silent scaled unlimited =
+    ([], nothing w (ap command_in is ∙ silent) (ap is_noscale is ∙ scaled) (ap limit_said is ∙ unlimited), sym (append-nil happened))

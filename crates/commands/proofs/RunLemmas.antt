@@ -8,16 +8,17 @@ use Rattle.host.specs.ConfigView.{ConfigView}
 use Rattle.wire_sim.specs.Hosts.{IsSetUp}
 use Rattle.wire_sim.specs.WorldView.{WorldView, fresh_world}
 use Rattle.wire_sim.proofs.HostsAreSetUp.{set_up, is_set_up}
+use Rattle.script.specs.declared.lines.Setting.{Setting}
 use Rattle.script.specs.declared.lines.Command.{Command}
 use Rattle.commands.specs.declared.fault.TextFault.{TextFault}
 use Rattle.commands.specs.declared.fault.TextFault.TheVariants.{Line, TooLong, NotHex, Header, Record, Read, Write, NoMemory}
 use Rattle.std.specs.Option.{IsSomeAnd}
 use Rattle.script.specs.Words.{lines_of}
-use Rattle.script.specs.Script.{limit_of, commands_of}
+use Rattle.script.specs.Script.{limits_of, scales_in, setting_of, commands_of}
 use Rattle.commands.specs.Sim.{write_fails_in, is_before_run, run_in_all}
 use Rattle.devices.specs.Streams.{TakesFront}
 use Rattle.commands.specs.Moved.{TakesAllBut}
-use Rattle.commands.specs.Play.{HasPrinted, starts, IsPlayed, IsCutShort, IsLeft, IsFirst, limit_by, limit_line, IsPrintedTo, IsTold, TakesRun, TakesPrinted, TakesPrintedBy, TakesBoth}
+use Rattle.commands.specs.Play.{HasPrinted, starts, IsPlayed, IsCutShort, IsLeft, IsFirst, limit_by, setting_lines, IsPrintedTo, IsTold, TakesRun, TakesPrinted, TakesPrintedBy, TakesBoth}
 use Rattle.commands.specs.Recording.{TakesCapture}
 use Rattle.commands.specs.declared.sim.Ends.{Ends}
 use Rattle.commands.proofs.PlayLemmas.{stayed}
@@ -34,36 +35,43 @@ set_up_with was scales side old new is changed =
     rw changed (record { mac = is.mac; addr = is.addr; route = is.route; link = is.link; routes = is.routes; uses = refl })
 
 -- the world before the first command can be made
-first_of : Option ℕ → WorldView
-first_of limit = fresh_world (set_up false A) (set_up false B) (limit_by limit)
+first_of : Setting → WorldView
+first_of setting = fresh_world (set_up setting.scales A) (set_up setting.scales B) (limit_by setting.limit)
 
-is_first : (limit : Option ℕ) → IsFirst limit (first_of limit)
+is_first : (setting : Setting) → IsFirst setting (first_of setting)
 unfolding first_of
-is_first limit = record { a = set_up false A; b = set_up false B; a_is = is_set_up false A; b_is = is_set_up false B; fresh = refl }
+is_first setting =
+    record {
+      a = set_up setting.scales A;
+      b = set_up setting.scales B;
+      a_is = is_set_up setting.scales A;
+      b_is = is_set_up setting.scales B;
+      fresh = refl;
+    }
 
 -- memory ran out before anything was run in a world that was made
-pub nothing_run : (r : Result (Unit {0}) TextFault) (fault : TextFault) (limit : Option ℕ) (commands : List Command) (world : WorldView)
-    (old : Option (List ℕ)) → IsErrAnd r (λ e. e ≡ fault) → fault ≡ NoMemory → IsFirst limit world → TakesRun r limit commands world old old
-nothing_run (Ok done) fault limit commands world old is memory first = absurd is
-nothing_run (Err e) fault limit commands world old is memory first =
+pub nothing_run : (r : Result (Unit {0}) TextFault) (fault : TextFault) (setting : Setting) (commands : List Command) (world : WorldView)
+    (old : Option (List ℕ)) → IsErrAnd r (λ e. e ≡ fault) → fault ≡ NoMemory → IsFirst setting world → TakesRun r setting commands world old old
+nothing_run (Ok done) fault setting commands world old is memory first = absurd is
+nothing_run (Err e) fault setting commands world old is memory first =
     rw (is, memory)
-    ([], commands, limit_line limit ++ [], world, refl, ([], world, first, starts, refl), inr (Keeps-appends old old (kept old)), stayed commands world)
+    ([], commands, setting_lines setting ++ [], world, refl, ([], world, first, starts, refl), inr (Keeps-appends old old (kept old)), stayed commands world)
 
 -- what a run prints, whatever world it leads to
-pub as_printed : (r : Result (Unit {0}) TextFault) (limit : Option ℕ) (commands : List Command) (after : WorldView) (old new : Option (List ℕ)) →
-    TakesRun r limit commands after old new → TakesPrinted r limit commands old new
-as_printed (Ok done) limit commands after old new run =
-    let to : IsPrintedTo limit commands run.0 after = run.1 in
+pub as_printed : (r : Result (Unit {0}) TextFault) (setting : Setting) (commands : List Command) (after : WorldView) (old new : Option (List ℕ)) →
+    TakesRun r setting commands after old new → TakesPrinted r setting commands old new
+as_printed (Ok done) setting commands after old new run =
+    let to : IsPrintedTo setting commands run.0 after = run.1 in
     (run.0, (to.0, to.1, after, to.2, to.3, to.4), run.2)
-as_printed (Err fault) limit commands after old new run =
-    let to : IsPrintedTo limit run.0 run.2 run.3 = run.5 in
+as_printed (Err fault) setting commands after old new run =
+    let to : IsPrintedTo setting run.0 run.2 run.3 = run.5 in
     (run.0, run.1, run.2, run.4, (to.0, to.1, run.3, to.2, to.3, to.4), run.6)
 
--- what was printed from the first world on, behind the limit's line
-printed_from : (limit : Option ℕ) (world w : WorldView) (commands : List Command) (before text : List ℕ) → IsFirst limit world →
-    before ≡ limit_line limit → HasPrinted world commands text w → IsPrintedTo limit commands (before ++ text) w
-printed_from limit world w commands before text first limited printed =
-    (text, world, first, printed, ap (λ b. b ++ text) limited)
+-- what was printed from the first world on, behind what the setting prints
+printed_from : (setting : Setting) (world w : WorldView) (commands : List Command) (before text : List ℕ) → IsFirst setting world →
+    before ≡ setting_lines setting → HasPrinted world commands text w → IsPrintedTo setting commands (before ++ text) w
+printed_from setting world w commands before text first as_set printed =
+    (text, world, first, printed, ap (λ b. b ++ text) as_set)
 
 -- what waited went too
 pub all_taken : (old mid new : Option (List ℕ)) (octets waiting : List ℕ) → TakesAllBut old mid octets waiting → Appends mid new waiting → Appends old new octets
@@ -103,55 +111,55 @@ told_as Write old new printed other all = absurd (other refl)
 told_as NoMemory old new printed other all = inl all
 
 -- the sink failed within the run
-pub told_cut : (r : Result (Unit {0}) TextFault) (limit : Option ℕ) (commands : List Command) (world after : WorldView) (old new : Option (List ℕ))
-    (before waiting : List ℕ) → IsFirst limit world → before ≡ limit_line limit → r ≡ Err Write →
-    IfErr r (λ fault. IsCutShort fault world after commands old new before waiting) → TakesRun r limit commands after old new
-told_cut r limit commands world after old new before waiting first limited is cut = rw is (tell (rw is at cut))
+pub told_cut : (r : Result (Unit {0}) TextFault) (setting : Setting) (commands : List Command) (world after : WorldView) (old new : Option (List ℕ))
+    (before waiting : List ℕ) → IsFirst setting world → before ≡ setting_lines setting → r ≡ Err Write →
+    IfErr r (λ fault. IsCutShort fault world after commands old new before waiting) → TakesRun r setting commands after old new
+told_cut r setting commands world after old new before waiting first as_set is cut = rw is (tell (rw is at cut))
   where
-    tell : IsCutShort Write world after commands old new before waiting → TakesRun (Err Write) limit commands after old new
-    tell c = (c.0, c.1, before ++ c.2, c.3, c.4, printed_from limit world c.3 c.0 before c.2 first limited c.5, c.6, c.7)
+    tell : IsCutShort Write world after commands old new before waiting → TakesRun (Err Write) setting commands after old new
+    tell c = (c.0, c.1, before ++ c.2, c.3, c.4, printed_from setting world c.3 c.0 before c.2 first as_set c.5, c.6, c.7)
 
 -- the run ended otherwise, and the sink took what waited
-pub told_all : (r : Result (Unit {0}) TextFault) (limit : Option ℕ) (commands : List Command) (world after : WorldView) (old mid new : Option (List ℕ))
-    (before waiting : List ℕ) → IsFirst limit world → before ≡ limit_line limit → (r ≡ Err Write → ⊥) →
+pub told_all : (r : Result (Unit {0}) TextFault) (setting : Setting) (commands : List Command) (world after : WorldView) (old mid new : Option (List ℕ))
+    (before waiting : List ℕ) → IsFirst setting world → before ≡ setting_lines setting → (r ≡ Err Write → ⊥) →
     OnOk r (IsPlayed world after commands old mid before waiting) → IfErr r (λ fault. IsCutShort fault world after commands old mid before waiting) →
-    Appends mid new waiting → TakesRun r limit commands after old new
-told_all (Ok done) limit commands world after old mid new before waiting first limited other played cut more = (
+    Appends mid new waiting → TakesRun r setting commands after old new
+told_all (Ok done) setting commands world after old mid new before waiting first as_set other played cut more = (
   before ++ played.0,
-  printed_from limit world after commands before played.0 first limited played.1,
+  printed_from setting world after commands before played.0 first as_set played.1,
   all_taken old mid new (before ++ played.0) waiting played.2 more,
 )
-told_all (Err fault) limit commands world after old mid new before waiting first limited other played cut more =
+told_all (Err fault) setting commands world after old mid new before waiting first as_set other played cut more =
     let no_sink : fault ≡ Write → ⊥ = λ sink. other (ap Err sink) in (
       cut.0,
       cut.1,
       before ++ cut.2,
       cut.3,
       cut.4,
-      printed_from limit world cut.3 cut.0 before cut.2 first limited cut.5,
+      printed_from setting world cut.3 cut.0 before cut.2 first as_set cut.5,
       told_as fault old new (before ++ cut.2) no_sink
           (all_taken old mid new (before ++ cut.2) waiting (left_but fault old mid (before ++ cut.2) waiting no_sink cut.6) more),
       cut.7,
     )
 
 -- the run ended otherwise, and then the sink failed
-pub told_front : (r told : Result (Unit {0}) TextFault) (fault : TextFault) (limit : Option ℕ) (commands : List Command) (world after : WorldView)
-    (old mid new : Option (List ℕ)) (before waiting : List ℕ) → IsFirst limit world → before ≡ limit_line limit → (r ≡ Err Write → ⊥) →
+pub told_front : (r told : Result (Unit {0}) TextFault) (fault : TextFault) (setting : Setting) (commands : List Command) (world after : WorldView)
+    (old mid new : Option (List ℕ)) (before waiting : List ℕ) → IsFirst setting world → before ≡ setting_lines setting → (r ≡ Err Write → ⊥) →
     OnOk r (IsPlayed world after commands old mid before waiting) → IfErr r (λ e. IsCutShort e world after commands old mid before waiting) →
-    IsErrAnd told (λ e. e ≡ fault) → (fault ≡ Write) × TakesFront mid new waiting → TakesRun told limit commands after old new
-told_front r (Ok done) fault limit commands world after old mid new before waiting first limited other played cut is front = absurd is
-told_front (Ok done) (Err e) fault limit commands world after old mid new before waiting first limited other played cut is front =
+    IsErrAnd told (λ e. e ≡ fault) → (fault ≡ Write) × TakesFront mid new waiting → TakesRun told setting commands after old new
+told_front r (Ok done) fault setting commands world after old mid new before waiting first as_set other played cut is front = absurd is
+told_front (Ok done) (Err e) fault setting commands world after old mid new before waiting first as_set other played cut is front =
     rw (is, front.0) (
       commands,
       [],
       before ++ played.0,
       after,
       sym (append-nil commands),
-      printed_from limit world after commands before played.0 first limited played.1,
+      printed_from setting world after commands before played.0 first as_set played.1,
       front_taken old mid new (before ++ played.0) waiting played.2 front.1,
       refl,
     )
-told_front (Err earlier) (Err e) fault limit commands world after old mid new before waiting first limited other played cut is front =
+told_front (Err earlier) (Err e) fault setting commands world after old mid new before waiting first as_set other played cut is front =
     let no_sink : earlier ≡ Write → ⊥ = λ sink. other (ap Err sink) in
     rw (is, front.0) (
       cut.0,
@@ -159,7 +167,7 @@ told_front (Err earlier) (Err e) fault limit commands world after old mid new be
       before ++ cut.2,
       cut.3,
       cut.4,
-      printed_from limit world cut.3 cut.0 before cut.2 first limited cut.5,
+      printed_from setting world cut.3 cut.0 before cut.2 first as_set cut.5,
       front_taken old mid new (before ++ cut.2) waiting (left_but earlier old mid (before ++ cut.2) waiting no_sink cut.6) front.1,
       cut.7,
     )
@@ -180,12 +188,12 @@ pub is_no_write : (r : Result (Unit {0}) TextFault) → write_fails_in r ≡ fal
 is_no_write r test is = let same : true ≡ false = sym (ap write_fails_in is) ∙ test in cc
 
 -- nothing was run
-none_told : (fault : TextFault) (limit : Option ℕ) (commands : List Command) (old : Option (List ℕ)) → (fault ≡ Write → ⊥) →
-    TakesPrinted (Err fault) limit commands old old
-none_told fault limit commands old other =
-    ([], commands, limit_line limit ++ [], refl, ([], first_of limit, first_of limit, is_first limit, starts, refl), none fault other)
+none_told : (fault : TextFault) (setting : Setting) (commands : List Command) (old : Option (List ℕ)) → (fault ≡ Write → ⊥) →
+    TakesPrinted (Err fault) setting commands old old
+none_told fault setting commands old other =
+    ([], commands, setting_lines setting ++ [], refl, ([], first_of setting, first_of setting, is_first setting, starts, refl), none fault other)
   where
-    none : (f : TextFault) → (f ≡ Write → ⊥) → IsTold f old old (limit_line limit ++ [])
+    none : (f : TextFault) → (f ≡ Write → ⊥) → IsTold f old old (setting_lines setting ++ [])
     none (Line n) o = inr (Keeps-appends old old (kept old))
     none TooLong o = inr (Keeps-appends old old (kept old))
     none NotHex o = inr (Keeps-appends old old (kept old))
@@ -199,7 +207,7 @@ pub none_told_by : (told : Option (List ℕ)) (r : Result (Unit {0}) TextFault) 
     IsErrAnd r (λ e. e ≡ fault) → (fault ≡ Write → ⊥) → IfSome told (λ octets. TakesPrintedBy octets r old old)
 none_told_by None r fault old is other = tt
 none_told_by (Some octets) (Ok done) fault old is other = absurd is
-none_told_by (Some octets) (Err e) fault old is other = rw is (none_told fault (limit_of octets) (commands_of (lines_of octets)) old other)
+none_told_by (Some octets) (Err e) fault old is other = rw is (none_told fault (setting_of octets) (commands_of (lines_of octets)) old other)
 
 pub none_told_all : (told : Option (List ℕ)) (r : Result Ends TextFault) (fault : TextFault) (old : Option (List ℕ)) →
     IsErrAnd r (λ e. e ≡ fault) → (fault ≡ Write → ⊥) → IfSome told (λ octets. TakesPrintedBy octets (run_in_all r) old old)
@@ -217,28 +225,36 @@ no_write_in_line fault None (inr bad) is = absurd bad
 no_write_in_line fault (Some n) (inr bad) is = cc
 
 -- the limit of a script is the one that its lines say
-pub limit_said_once : (limit : Option ℕ) → limit ≡ slice_get (option_to_list limit) 0
+limit_said_once : (limit : Option ℕ) → limit ≡ slice_get (option_to_list limit) 0
 limit_said_once None = refl
 limit_said_once (Some n) = refl
 
+-- so the setting is the one that its octets say
+pub setting_said : (setting : Setting) (octets : List ℕ) → setting.scales ≡ scales_in (lines_of octets) →
+    option_to_list setting.limit ≡ limits_of (lines_of octets) → setting ≡ setting_of octets
+setting_said setting octets scaled limits =
+    let with_scale : Bool → Setting = λ b. record { scales = b; limit = setting.limit } in
+    let with_limit : Option ℕ → Setting = λ l. record { scales = scales_in (lines_of octets); limit = l } in
+    ap with_scale scaled ∙ ap with_limit (limit_said_once setting.limit ∙ ap (λ l. slice_get l 0) limits)
+
 -- a run of a script's commands is what its octets ask for
-pub told_by : (told : Option (List ℕ)) (octets : List ℕ) (r : Result (Unit {0}) TextFault) (limit : Option ℕ) (commands : List Command)
+pub told_by : (told : Option (List ℕ)) (octets : List ℕ) (r : Result (Unit {0}) TextFault) (setting : Setting) (commands : List Command)
     (old new : Option (List ℕ)) → IfSome told (λ t. octets ≡ t) → commands ≡ commands_of (lines_of octets) →
-    limit ≡ limit_of octets → TakesPrinted r limit commands old new → IfSome told (λ t. TakesPrintedBy t r old new)
-told_by None octets r limit commands old new all said limited taken = tt
-told_by (Some t) octets r limit commands old new all said limited taken =
+    setting ≡ setting_of octets → TakesPrinted r setting commands old new → IfSome told (λ t. TakesPrintedBy t r old new)
+told_by None octets r setting commands old new all said as_set taken = tt
+told_by (Some t) octets r setting commands old new all said as_set taken =
     subst (λ x. TakesPrintedBy x r old new) all
-    (subst (λ x. TakesPrinted r x (commands_of (lines_of octets)) old new) limited (subst (λ x. TakesPrinted r limit x old new) said taken))
+    (subst (λ x. TakesPrinted r x (commands_of (lines_of octets)) old new) as_set (subst (λ x. TakesPrinted r setting x old new) said taken))
 
 -- and in which world it ended
-pub run_by : (told : Option (List ℕ)) (octets : List ℕ) (ends : Ends) (limit : Option ℕ) (commands : List Command) (w : WorldView)
+pub run_by : (told : Option (List ℕ)) (octets : List ℕ) (ends : Ends) (setting : Setting) (commands : List Command) (w : WorldView)
     (old new old_capture new_capture : Option (List ℕ)) → IfSome told (λ t. octets ≡ t) → commands ≡ commands_of (lines_of octets) →
-    limit ≡ limit_of octets → TakesRun ends.run limit commands w old new →
+    setting ≡ setting_of octets → TakesRun ends.run setting commands w old new →
     TakesCapture ends.capture w old_capture new_capture → IfSome told (λ t. TakesBoth t ends old new old_capture new_capture)
-run_by None octets ends limit commands w old new old_capture new_capture all said limited taken captured = tt
-run_by (Some t) octets ends limit commands w old new old_capture new_capture all said limited taken captured =
+run_by None octets ends setting commands w old new old_capture new_capture all said as_set taken captured = tt
+run_by (Some t) octets ends setting commands w old new old_capture new_capture all said as_set taken captured =
     subst (λ x. TakesBoth x ends old new old_capture new_capture) all (
       w,
-      subst (λ x. TakesRun ends.run x (commands_of (lines_of octets)) w old new) limited (subst (λ x. TakesRun ends.run limit x w old new) said taken),
+      subst (λ x. TakesRun ends.run x (commands_of (lines_of octets)) w old new) as_set (subst (λ x. TakesRun ends.run setting x w old new) said taken),
       captured,
     )

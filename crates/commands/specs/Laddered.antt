@@ -1,5 +1,5 @@
 -- What a run of a script with a ladder records, and what it makes a sink take.
-use Rattle.std.specs.Prelude.{◌≡◌, ◌⊎◌, ℕ, List, [], ◌∷◌, ◌++◌, codes, length, map, drop, option_to_list, Option, Some, None, Result, Ok, Err}
+use Rattle.std.specs.Prelude.{◌≡◌, ◌⊎◌, ℕ, List, [], ◌∷◌, ◌++◌, codes, length, map, drop, option_to_list, Option, Some, None, Result, Ok, Err, false}
 use Rattle.std.specs.List.{flat_map}
 use Rattle.std.specs.Io.KnownBytes.{Appends}
 use Rattle.tcp_segment.specs.declared.seq.Seq.{Seq}
@@ -15,9 +15,9 @@ use Rattle.wire_sim.specs.Rounds.{IsRoundOutcome}
 use Rattle.wire_sim.specs.WorldView.{WorldView}
 use Rattle.script.specs.declared.lines.Command.{Command}
 use Rattle.script.specs.declared.lines.Command.TheVariants.{At, Round, Pass}
-use Rattle.script.specs.declared.lines.Item.TheVariants.{Limit, Do}
+use Rattle.script.specs.declared.lines.Item.TheVariants.{NoScale, Limit, Do}
 use Rattle.script.specs.Words.{lines_of}
-use Rattle.script.specs.Script.{item_of, command_in, limit_of, limit_said}
+use Rattle.script.specs.Script.{item_of, command_in, is_noscale, limit_said, setting_of}
 use Rattle.wire_sim.specs.Hosts.{address_of, mac_of}
 use Rattle.script.specs.Events.{IsEventOf}
 use Rattle.script.specs.Text.{style_of}
@@ -76,9 +76,10 @@ Tells (Pass isn) passages text old new =
 abbrev pub recorded : List ℕ → List Passage → List ℕ → List Happened
 recorded line passages text = Said line ∷ (map Passed passages ++ Printed text ∷ [])
 
--- A line of a script is done, and this is recorded of it: of a `limit` that it prints `ok`, and of a line that says nothing, nothing.
+-- A line of a script is done, and this is recorded of it: of `noscale` and of a `limit` that it prints `ok`, and of a line that says nothing, nothing.
 pub data HasDone (line : List ℕ) : List Happened → WorldView → WorldView → Type 0 where
-  nothing : (w : WorldView) → command_in (item_of line) ≡ None → limit_said (item_of line) ≡ None → HasDone line [] w w
+  nothing : (w : WorldView) → command_in (item_of line) ≡ None → is_noscale (item_of line) ≡ false → limit_said (item_of line) ≡ None → HasDone line [] w w
+  unscales : (w : WorldView) → item_of line ≡ Some NoScale → HasDone line (recorded line [] (codes "ok")) w w
   limits : (n : ℕ) (w : WorldView) → item_of line ≡ Some (Limit n) → HasDone line (recorded line [] (codes "ok")) w w
   does : (command : Command) (passages : List Passage) (text : List ℕ) (w v : WorldView) → item_of line ≡ Some (Do command) →
       Tells command passages text w v → HasDone line (recorded line passages text) w v
@@ -125,7 +126,7 @@ TakesLadder (Err fault) numbering lines first after old new = ⊥
 -- the same of a script's octets, from the world in which nothing happened to the one in which the run ended
 abbrev pub TakesRunOf : List ℕ → Result (Unit {0}) TextFault → Numbering → WorldView → Option (List ℕ) → Option (List ℕ) → Type 0
 TakesRunOf octets result numbering after old new =
-    (first : WorldView) × IsFirst (limit_of octets) first × TakesLadder result numbering (lines_of octets) first after old new
+    (first : WorldView) × IsFirst (setting_of octets) first × TakesLadder result numbering (lines_of octets) first after old new
 
 -- what a script's octets make a sink take: nothing, where nothing was run
 abbrev pub TakesLadderOf : List ℕ → Result (Unit {0}) TextFault → Numbering → Option (List ℕ) → Option (List ℕ) → Type 0

@@ -1,5 +1,5 @@
 -- What the commands of a script print, over the worlds that they lead to.
-use Rattle.std.specs.Prelude.{◌≡◌, ◌⊎◌, ◌<◌, ◌+◌, ◌^◌, ◌++◌, ℕ, List, [], ◌∷◌, Option, Some, None, Result, Ok, Err, false, codes, length, IsOk}
+use Rattle.std.specs.Prelude.{◌≡◌, ◌⊎◌, ◌<◌, ◌+◌, ◌^◌, ◌++◌, ℕ, List, [], ◌∷◌, Option, Some, None, Result, Ok, Err, Bool, true, false, codes, length, IsOk}
 use Rattle.std.specs.Fmt.{decimal}
 use Rattle.std.specs.Io.KnownBytes.{Appends}
 use Rattle.tcp_segment.specs.declared.seq.Seq.{Seq}
@@ -17,13 +17,14 @@ use Rattle.wire_sim.specs.Runs.{unfair, IsOutcome}
 use Rattle.wire_sim.specs.WorldRoom.{IsPlain}
 use Rattle.wire_sim.specs.WorldView.{WorldView, fresh_world}
 use Rattle.script.specs.declared.answer.Style.{Style}
+use Rattle.script.specs.declared.lines.Setting.{Setting}
 use Rattle.script.specs.declared.lines.Command.{Command}
 use Rattle.script.specs.declared.lines.Command.TheVariants.{At, Round, Pass}
 use Rattle.commands.specs.declared.fault.TextFault.{TextFault}
 use Rattle.commands.specs.declared.sim.Ends.{Ends}
 use Rattle.commands.specs.declared.fault.TextFault.TheVariants.{Write}
 use Rattle.script.specs.Words.{lines_of}
-use Rattle.script.specs.Script.{limit_of, commands_of}
+use Rattle.script.specs.Script.{setting_of, commands_of}
 use Rattle.devices.specs.Streams.{TakesFront}
 use Rattle.commands.specs.Moved.{TakesAllBut}
 use Rattle.commands.specs.Recording.{TakesCapture}
@@ -135,54 +136,63 @@ abbrev pub limit_by : Option ℕ → ℕ
 limit_by None = 2 ^ 30
 limit_by (Some limit) = limit
 
--- the two hosts as they are set up, without the window scale option, and nothing happened
-pub record IsFirst (limit : Option ℕ) (world : WorldView) : Type 0 where
+-- the two hosts as they are set up, which use the window scale option or don't as the script says, and nothing happened
+pub record IsFirst (setting : Setting) (world : WorldView) : Type 0 where
   pub a : ConfigView
   pub b : ConfigView
-  pub a_is : IsSetUp false A a
-  pub b_is : IsSetUp false B b
-  pub fresh : world ≡ fresh_world a b (limit_by limit)
+  pub a_is : IsSetUp setting.scales A a
+  pub b_is : IsSetUp setting.scales B b
+  pub fresh : world ≡ fresh_world a b (limit_by setting.limit)
+
+-- what is printed of `noscale`
+abbrev pub noscale_line : Bool → List ℕ
+noscale_line true = []
+noscale_line false = codes "ok\n"
 
 -- what is printed of a limit
 abbrev pub limit_line : Option ℕ → List ℕ
 limit_line None = []
 limit_line (Some limit) = codes "ok\n"
 
--- what a script with this limit prints by these commands
-abbrev pub IsPrinted : Option ℕ → List Command → List ℕ → Type 0
-IsPrinted limit commands printed =
-    (text : List ℕ) × (first : WorldView) × (w : WorldView) × IsFirst limit first × HasPrinted first commands text w × (printed ≡ limit_line limit ++ text)
+-- what is printed before the first command
+abbrev pub setting_lines : Setting → List ℕ
+setting_lines setting = noscale_line setting.scales ++ limit_line setting.limit
 
--- what a script with this limit prints by these commands, and the world that they lead to
-abbrev pub IsPrintedTo : Option ℕ → List Command → List ℕ → WorldView → Type 0
-IsPrintedTo limit commands printed w =
-    (text : List ℕ) × (first : WorldView) × IsFirst limit first × HasPrinted first commands text w × (printed ≡ limit_line limit ++ text)
+-- what a script with this setting prints by these commands
+abbrev pub IsPrinted : Setting → List Command → List ℕ → Type 0
+IsPrinted setting commands printed =
+    (text : List ℕ) × (first : WorldView) × (w : WorldView) × IsFirst setting first × HasPrinted first commands text w × (printed ≡ setting_lines setting ++ text)
+
+-- what a script with this setting prints by these commands, and the world that they lead to
+abbrev pub IsPrintedTo : Setting → List Command → List ℕ → WorldView → Type 0
+IsPrintedTo setting commands printed w =
+    (text : List ℕ) × (first : WorldView) × IsFirst setting first × HasPrinted first commands text w × (printed ≡ setting_lines setting ++ text)
 
 -- what a fault lets a sink take of what was printed: all or nothing, but a front where the sink fails
 abbrev pub IsTold : TextFault → Option (List ℕ) → Option (List ℕ) → List ℕ → Type 0
 IsTold Write old new printed = TakesFront old new printed
 IsTold fault old new printed = Appends old new printed ⊎ Appends old new []
 
--- what a script with this limit and these commands makes a sink take: all that they print, or what the first of them print where a fault
+-- what a script with this setting and these commands makes a sink take: all that they print, or what the first of them print where a fault
 -- ends the run
-abbrev pub TakesPrinted : Result (Unit {0}) TextFault → Option ℕ → List Command → Option (List ℕ) → Option (List ℕ) → Type 0
-TakesPrinted (Ok done) limit commands old new = (printed : List ℕ) × IsPrinted limit commands printed × Appends old new printed
-TakesPrinted (Err fault) limit commands old new =
-    (part : List Command) × (rest : List Command) × (printed : List ℕ) × (commands ≡ part ++ rest) × IsPrinted limit part printed
+abbrev pub TakesPrinted : Result (Unit {0}) TextFault → Setting → List Command → Option (List ℕ) → Option (List ℕ) → Type 0
+TakesPrinted (Ok done) setting commands old new = (printed : List ℕ) × IsPrinted setting commands printed × Appends old new printed
+TakesPrinted (Err fault) setting commands old new =
+    (part : List Command) × (rest : List Command) × (printed : List ℕ) × (commands ≡ part ++ rest) × IsPrinted setting part printed
     × IsTold fault old new printed
 
 -- the same, and the world in which the run ended
-abbrev pub TakesRun : Result (Unit {0}) TextFault → Option ℕ → List Command → WorldView → Option (List ℕ) → Option (List ℕ) → Type 0
-TakesRun (Ok done) limit commands after old new = (printed : List ℕ) × IsPrintedTo limit commands printed after × Appends old new printed
-TakesRun (Err fault) limit commands after old new =
+abbrev pub TakesRun : Result (Unit {0}) TextFault → Setting → List Command → WorldView → Option (List ℕ) → Option (List ℕ) → Type 0
+TakesRun (Ok done) setting commands after old new = (printed : List ℕ) × IsPrintedTo setting commands printed after × Appends old new printed
+TakesRun (Err fault) setting commands after old new =
     (part : List Command) × (rest : List Command) × (printed : List ℕ) × (w : WorldView) × (commands ≡ part ++ rest)
-    × IsPrintedTo limit part printed w × IsTold fault old new printed × IsLeftBefore rest w after
+    × IsPrintedTo setting part printed w × IsTold fault old new printed × IsLeftBefore rest w after
 
 -- what a script's octets make a sink take
 abbrev pub TakesPrintedBy : List ℕ → Result (Unit {0}) TextFault → Option (List ℕ) → Option (List ℕ) → Type 0
-TakesPrintedBy octets result old new = TakesPrinted result (limit_of octets) (commands_of (lines_of octets)) old new
+TakesPrintedBy octets result old new = TakesPrinted result (setting_of octets) (commands_of (lines_of octets)) old new
 
 -- What a run with a capture makes both sinks take: the first what the run prints, and the other the capture of the world in which it ended.
 abbrev pub TakesBoth : List ℕ → Ends → Option (List ℕ) → Option (List ℕ) → Option (List ℕ) → Option (List ℕ) → Type 0
 TakesBoth octets ends old new old_capture new_capture =
-    (w : WorldView) × TakesRun ends.run (limit_of octets) (commands_of (lines_of octets)) w old new × TakesCapture ends.capture w old_capture new_capture
+    (w : WorldView) × TakesRun ends.run (setting_of octets) (commands_of (lines_of octets)) w old new × TakesCapture ends.capture w old_capture new_capture

@@ -180,14 +180,15 @@ fn run_line<'a>(
 {
     match Item::parse(alloc, line)? {
         Some(Item::Do(command)) => run_said(alloc, line, &command, world, happened),
-        Some(Item::Limit(_)) => note_limit(alloc, line, happened),
+        Some(Item::NoScale) => note_ok(alloc, line, happened),
+        Some(Item::Limit(_)) => note_ok(alloc, line, happened),
         Some(Item::Nothing) => Ok(()),
         None => Ok(()),
     }
 }
 
-/// Adds what is recorded of a line that says `limit`, which prints `ok`.
-fn note_limit<'a>(
+/// Adds what is recorded of a line that says `noscale` or `limit`, which prints `ok`.
+fn note_ok<'a>(
     alloc: Global,
     line: &'a [u8],
     happened: &mut Vec<Happened<'a>>,

@@ -3,14 +3,14 @@
 ghost use Rattle.std.specs.Prelude.{◌≡◌, ◌⊎◌, true, false, ◌≤◌, ◌<◌, ◌^◌, length, take, string_bytes, IfOk, IfErr, IfSome, OnOk, OnErr};
 ghost use Rattle.std.specs.Option.{ForSome, IsSomeAnd};
 ghost use Rattle.script.specs.Words.{lines_of};
-ghost use Rattle.script.specs.Script.{commands_of, first_bad_line, limit_of};
+ghost use Rattle.script.specs.Script.{commands_of, first_bad_line, setting_of};
 ghost use Rattle.devices.specs.Streams.{counted};
 ghost use Rattle.commands.specs.Sim.{read_fails, write_fails_in, is_before_run, run_in_all, capture_in_all, first_fault, IsDue, IsFaultDue};
 ghost use Rattle.script.specs.Text.{style_of};
 ghost use Rattle.wire_sim.specs.Hosts.{IsSetUp};
 ghost use Rattle.wire_sim.specs.WorldRoom.{HasRoomFor, HasRoom};
 ghost use Rattle.commands.specs.Room.{TakesUp};
-ghost use Rattle.commands.specs.Play.{ComesTo, text_of_outcome, line_of_outcome, Emits, Delivers, Carries, Does, Prints, pass_text, pass_line, round_text, round_line, IsPlayed, IsCutShort, IsFirst, limit_line, TakesRun, TakesPrinted, TakesPrintedBy, TakesBoth};
+ghost use Rattle.commands.specs.Play.{ComesTo, text_of_outcome, line_of_outcome, Emits, Delivers, Carries, Does, Prints, pass_text, pass_line, round_text, round_line, IsPlayed, IsCutShort, IsFirst, setting_lines, TakesRun, TakesPrinted, TakesPrintedBy, TakesBoth};
 
 use crate::fault::TextFault;
 use crate::input::whole_script;
@@ -18,7 +18,7 @@ use crate::output::{add_line, finish, is_write_fault};
 use crate::recording::record;
 use devices::{Sink, Source};
 use host::{Config, SocketId};
-use script::{Action, Command, Script, Style, event, show, show_unfair};
+use script::{Action, Command, Script, Setting, Style, event, show, show_unfair};
 use std::alloc::{AllocError, Global};
 use tcp_segment::Seq;
 use wire_sim::{Answer, Event, Side, Unfair, World, config};
@@ -105,12 +105,12 @@ pub(crate) struct Begun<'a> {
 pub(crate) fn begin<'a>(alloc: Global, octets: &'a [u8]) -> Result<Begun<'a>, TextFault>
     ensures good { OnOk result (first_bad_line octets.entry.now ≡ None) }
     ensures commands { IfOk result (λ begun. begun.script.commands.items ≡ commands_of (lines_of octets.entry.now)) }
-    ensures limit { IfOk result (λ begun. begun.script.limit ≡ limit_of octets.entry.now) }
-    ensures world { IfOk result (λ begun. IsFirst begun.script.limit begun.world.seen) }
+    ensures setting { IfOk result (λ begun. begun.script.setting ≡ setting_of octets.entry.now) }
+    ensures world { IfOk result (λ begun. IsFirst begun.script.setting begun.world.seen) }
     ensures bad { IfErr result (λ fault. (fault ≡ TextFault.NoMemory) ⊎ IsSomeAnd (first_bad_line octets.entry.now) (λ n. fault ≡ TextFault.Line n)) }
 {
     let script = Script::parse(alloc, octets)?;
-    let world = new_world(alloc, script.limit)?;
+    let world = new_world(alloc, script.setting)?;
     Ok(Begun { script, world })
 }
 
@@ -121,13 +121,13 @@ fn run<W: Sink>(
     world: &mut World,
     out: &mut W,
 ) -> Result<(), TextFault>
-    requires { IsFirst script.now.limit world.old.seen }
+    requires { IsFirst script.now.setting world.old.seen }
     ensures written { W.failures out.new ≡ counted (write_fails_in result) (W.failures out.old) }
     ensures faults { IfErr result (λ fault. is_before_run fault ≡ false) }
     ensures flushed { OnOk result (W.is_flushed out.new ≡ true) }
-    ensures printed { TakesRun result script.now.limit script.now.commands.items world.new.seen (W.taken out.old) (W.taken out.new) }
+    ensures printed { TakesRun result script.now.setting script.now.commands.items world.new.seen (W.taken out.old) (W.taken out.new) }
 {
-    let mut lines = first_lines(alloc, script.limit)?;
+    let mut lines = first_lines(alloc, script.setting)?;
     let outcome = play(alloc, script.commands.as_slice(), world, &mut lines, out);
     if is_write_fault(&outcome) {
         return outcome;
@@ -136,12 +136,15 @@ fn run<W: Sink>(
     outcome
 }
 
-/// What is printed of a limit.
-fn first_lines(alloc: Global, limit: Option<u64>) -> Result<String, AllocError>
-    ensures { IfOk result (λ lines. string_bytes lines ≡ limit_line limit) }
+/// What is printed before the first command: of `noscale`, and of a limit.
+fn first_lines(alloc: Global, setting: Setting) -> Result<String, AllocError>
+    ensures { IfOk result (λ lines. string_bytes lines ≡ setting_lines setting) }
 {
     let mut lines = String::new(alloc);
-    if limit.is_some() {
+    if !setting.scales {
+        lines.push_str("ok\n")?;
+    }
+    if setting.limit.is_some() {
         lines.push_str("ok\n")?;
     }
     Ok(lines)
@@ -168,24 +171,25 @@ fn play<W: Sink>(
 }
 
 /// A fresh world. The two hosts differ in address and MAC, so it is made unless there is no memory.
-fn new_world(alloc: Global, limit: Option<u64>) -> Result<World, TextFault>
-    requires { ForSome limit (λ n. (1 ≤ n) × (n ≤ 2 ^ 30)) }
-    ensures world { IfOk result (λ world. IsFirst limit world.seen) }
+fn new_world(alloc: Global, setting: Setting) -> Result<World, TextFault>
+    requires { ForSome setting.limit (λ n. (1 ≤ n) × (n ≤ 2 ^ 30)) }
+    ensures world { IfOk result (λ world. IsFirst setting world.seen) }
     ensures faults { IfErr result (λ fault. fault ≡ TextFault.NoMemory) }
 {
-    let (a, b) = (set_up(Side::A), set_up(Side::B));
-    let made = match limit {
+    let a = set_up(Side::A, setting.scales);
+    let b = set_up(Side::B, setting.scales);
+    let made = match setting.limit {
         Some(limit) => World::with_limit(alloc, a, b, limit),
         None => World::new(alloc, a, b),
     };
     made.map_err(|_| TextFault::NoMemory)
 }
 
-/// How a side's host is set up: without the window scale option.
-fn set_up(side: Side) -> Config
-    ensures { IsSetUp false side result }
+/// How a side's host is set up: it uses the window scale option, or doesn't.
+fn set_up(side: Side, scales: bool) -> Config
+    ensures { IsSetUp scales side result }
 {
-    config(side).with_scale(false)
+    config(side).with_scale(scales)
 }
 
 /// Runs one command and answers the line that it prints.

@@ -12,5 +12,5 @@ pub use action::Action;
 pub use answer::{Style, show, show_unfair};
 pub use events::event;
 pub use fault::ScriptFault;
-pub use lines::{Command, Item, Script};
+pub use lines::{Command, Item, Script, Setting};
 pub use words::split_lines;

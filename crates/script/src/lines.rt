@@ -2,7 +2,7 @@
 
 ghost use Rattle.std.specs.Prelude.{◌≡◌, ◌⊎◌, ◌≤◌, ◌^◌, ◌++◌, ◌&&◌, true, not, None, map, option_map, option_to_list, if◌then◌else◌, IfOk, IfErr, IfSome, IsSomeAnd, OnOk};
 ghost use Rattle.std.specs.Option.{ForSome};
-ghost use Rattle.script.specs.Script.{item_of, said_in, limit_in, pass_in, round_in, command_of, subject_of, HasLimitInRange};
+ghost use Rattle.script.specs.Script.{item_of, said_in, noscale_in, limit_in, pass_in, round_in, command_of, subject_of, HasLimitInRange};
 ghost use Rattle.script.specs.Words.{is_ascii_line, lines_of};
 
 use crate::action::{Action, initial, socket_id};
@@ -32,6 +32,8 @@ pub enum Command<'a> {
 pub enum Item<'a> {
     /// Nothing: an empty line or a comment.
     Nothing,
+    /// The hosts don't use the window scale option.
+    NoScale,
     /// How many octets an end may have written since a frame went out, for the frame to be delivered.
     Limit(u64),
     /// A command.
@@ -41,6 +43,8 @@ pub enum Item<'a> {
 /// The first word of a line.
 #[derive(Clone, Copy, Debug, PartialEq, Eq)]
 pub enum Subject {
+    /// `noscale`
+    NoScale,
     /// `limit`
     Limit,
     /// `pass`
@@ -55,6 +59,7 @@ impl Subject {
         ensures { result ≡ subject_of word.now }
     {
         match word {
+            b"noscale" => Some(Subject::NoScale),
             b"limit" => Some(Subject::Limit),
             b"pass" => Some(Subject::Pass),
             b"a" => Some(Subject::Host(Side::A)),
@@ -94,10 +99,17 @@ fn from_words<'a>(words: &[&'a [u8]]) -> Option<Item<'a>>
 {
     let (first, rest) = words.split_first()?;
     match Subject::parse(first)? {
+        Subject::NoScale => noscale(rest),
         Subject::Limit => Some(Item::Limit(limit(rest)?)),
         Subject::Pass => Some(Item::Do(pass(rest)?)),
         Subject::Host(side) => Some(Item::Do(at_host(side, rest)?)),
     }
+}
+
+fn noscale<'a>(words: &[&[u8]]) -> Option<Item<'a>>
+    ensures { result ≡ noscale_in (map (λ word. word.now) words.now) }
+{
+    words.is_empty().then_some(Item::NoScale)
 }
 
 fn limit(words: &[&[u8]]) -> Option<u64>
@@ -142,30 +154,43 @@ fn round<'a>(writer: Side, words: &[&[u8]]) -> Option<Command<'a>>
     }
 }
 
+/// What a script says of its world before its first command.
+#[derive(Clone, Copy, Debug, PartialEq, Eq)]
+pub struct Setting {
+    /// Whether the hosts use the window scale option (RFC 7323 section 2): there is no `noscale`.
+    pub scales: bool,
+    /// The N of `limit`, if there is one.
+    pub limit: Option<u64>,
+}
+
 /// A script, of which every line is good.
 #[derive(Debug, Drop)]
 pub struct Script<'a> {
-    /// The N of its `limit`, if it has one.
-    pub limit: Option<u64>,
+    /// What it says of its world.
+    pub setting: Setting,
     /// Its commands in order.
     pub commands: Vec<Command<'a>>,
-    ghost limit_in_range: { ForSome limit (λ n. (1 ≤ n) × (n ≤ 2 ^ 30)) },
+    ghost limit_in_range: { ForSome setting.limit (λ n. (1 ≤ n) × (n ≤ 2 ^ 30)) },
 }
 
 impl<'a> Script<'a> {
-    ghost use Rattle.script.specs.Script.{first_bad_line, commands_of, limits_of, is_bad, is_start, says_nothing, command_in, limit_said};
+    ghost use Rattle.script.specs.Script.{first_bad_line, scales_in, commands_of, limits_of, is_bad, has_begun, stage_of, stage_after, is_noscale, command_in, limit_said};
 
     /// The script that `octets` are; else `Line` with the number of the first bad line, or `NoMemory`.
     pub fn parse(alloc: Global, octets: &'a [u8]) -> Result<Script<'a>, ScriptFault>
         ensures good { OnOk result (first_bad_line octets.entry.now ≡ None) }
         ensures commands { IfOk result (λ script. script.commands.items ≡ commands_of (lines_of octets.entry.now)) }
-        ensures limit { IfOk result (λ script. option_to_list script.limit ≡ limits_of (lines_of octets.entry.now)) }
+        ensures scales { IfOk result (λ script. script.setting.scales ≡ scales_in (lines_of octets.entry.now)) }
+        ensures limit { IfOk result (λ script. option_to_list script.setting.limit ≡ limits_of (lines_of octets.entry.now)) }
         ensures bad { IfErr result (λ fault. (fault ≡ ScriptFault.NoMemory)
             ⊎ IsSomeAnd (first_bad_line octets.entry.now) (λ n. fault ≡ ScriptFault.Line n)) }
     {
         let lines = split_lines(alloc, octets)?;
         let mut script = Script {
-            limit: None,
+            setting: Setting {
+                scales: true,
+                limit: None,
+            },
             commands: Vec::new(alloc),
         };
         for (index, line) in lines.iter().enumerate() {
@@ -180,26 +205,41 @@ impl<'a> Script<'a> {
     /// Adds what one more line says, and answers whether that line is good here.
     fn add(&mut self, item: Option<Item<'a>>) -> Result<bool, AllocError>
         requires { HasLimitInRange item }
-        ensures good { IfOk result (λ good. good ≡ not (is_bad (is_start self.old.limit self.old.commands.items) item.entry)) }
+        ensures good { IfOk result (λ good. good ≡ not (is_bad (stage_of self.old.setting self.old.commands.items) item.entry)) }
         ensures commands { OnOk result (self.new.commands.items ≡ self.old.commands.items ++ option_to_list (command_in item.entry)) }
-        ensures start { IfOk result (λ good. good ≡ true → is_start self.new.limit self.new.commands.items
-            ≡ (is_start self.old.limit self.old.commands.items && says_nothing item.entry)) }
-        ensures limit { IfOk result (λ good. good ≡ true → option_to_list self.new.limit ≡ option_to_list self.old.limit ++ option_to_list (limit_said item.entry)) }
+        ensures stage { IfOk result (λ good. good ≡ true → stage_of self.new.setting self.new.commands.items
+            ≡ stage_after (stage_of self.old.setting self.old.commands.items) item.entry) }
+        ensures scales { IfOk result (λ good. good ≡ true → self.new.setting.scales ≡ (self.old.setting.scales && not (is_noscale item.entry))) }
+        ensures limit { IfOk result (λ good. good ≡ true → option_to_list self.new.setting.limit ≡ option_to_list self.old.setting.limit ++ option_to_list (limit_said item.entry)) }
     {
         match item {
             None => Ok(false),
             Some(Item::Nothing) => Ok(true),
-            Some(Item::Limit(most)) => {
-                let is_start = self.limit.is_none() && self.commands.is_empty();
-                if is_start {
-                    self.limit = Some(most);
+            Some(Item::NoScale) => {
+                let is_first = self.setting.scales && !self.has_begun();
+                if is_first {
+                    self.setting.scales = false;
                 }
-                Ok(is_start)
+                Ok(is_first)
+            }
+            Some(Item::Limit(most)) => {
+                let is_first = !self.has_begun();
+                if is_first {
+                    self.setting.limit = Some(most);
+                }
+                Ok(is_first)
             }
             Some(Item::Do(command)) => {
                 self.commands.push(command)?;
                 Ok(true)
             }
         }
+    }
+
+    /// Whether more than `noscale` was said.
+    fn has_begun(&self) -> bool
+        ensures { result ≡ has_begun self.now.setting self.now.commands.items }
+    {
+        self.setting.limit.is_some() || !self.commands.is_empty()
     }
 }

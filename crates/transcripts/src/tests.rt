@@ -16,6 +16,7 @@ mod recordings;
 mod refusals;
 mod resets;
 mod rounds;
+mod scale;
 mod scripts;
 mod simultaneous;
 mod table;
@@ -32,6 +33,10 @@ use ladder::Numbering;
 use std::alloc::Global;
 use std::process::Abort;
 use std::test::Fail;
+
+/// The hosts don't use the window scale option, so a SYN's frame has 60 octets, and a connection holds 65,535 octets each way.
+const UNSCALED: &str = "noscale -> ok
+";
 
 /// b listens at port 80 and a opens a connection, whose numbers at a begin with the last one of 32 bits. a asks for b's MAC first, by
 /// frame 0, which frame 1 answers. The three frames of the handshake are those from 2 to 4.
@@ -63,7 +68,7 @@ pass 0 -> a 1 b 0
 
 /// All transcripts. Each is a list of parts, in whose lines an arrow parts a script's line from what it prints; a line without
 /// one prints nothing.
-const TRANSCRIPTS: [&[&[&str]]; 14] = [
+const TRANSCRIPTS: [&[&[&str]]; 15] = [
     backlog::TRANSCRIPTS,
     closing::TRANSCRIPTS,
     datagrams::TRANSCRIPTS,
@@ -73,6 +78,7 @@ const TRANSCRIPTS: [&[&[&str]]; 14] = [
     refusals::TRANSCRIPTS,
     resets::TRANSCRIPTS,
     rounds::TRANSCRIPTS,
+    scale::TRANSCRIPTS,
     scripts::TRANSCRIPTS,
     simultaneous::TRANSCRIPTS,
     table::TRANSCRIPTS,

@@ -1,6 +1,6 @@
 //! Connections that wait at a listener: how many may, in which order they are accepted, and what becomes of them with it.
 
-use super::OPENING;
+use super::{OPENING, UNSCALED};
 
 /// One connection waits, so another finds no room until it is accepted.
 const ONE_WAITS: &str = "a socket tcp -> id 2
@@ -318,15 +318,15 @@ b recv 3 9 -> octets hello
 
 /// A backlog of one and one of eight, the order of accept, resets of what waits, and listeners that are given back.
 pub const TRANSCRIPTS: &[&[&str]] = &[
-    &[OPENING, ONE_WAITS],
-    &[OPENING, LISTENER_GIVEN_BACK],
+    &[UNSCALED, OPENING, ONE_WAITS],
+    &[UNSCALED, OPENING, LISTENER_GIVEN_BACK],
     &[OPENING, PORT_FREED],
-    &[NINE_CALLS, EIGHT_WAIT],
-    &[THREE_CALLS, OTHER_ORDER],
-    &[THREE_CALLS, BY_OCTETS_AND_END],
+    &[UNSCALED, NINE_CALLS, EIGHT_WAIT],
+    &[UNSCALED, THREE_CALLS, OTHER_ORDER],
+    &[UNSCALED, THREE_CALLS, BY_OCTETS_AND_END],
     &[TWO_LISTENERS],
-    &[FIRST_IS_RESET, COUNTS_ON],
-    &[THREE_CALLS, RESET_BEFORE],
-    &[THREE_CALLS, ONE_OF_EACH, ALL_GIVEN_BACK],
-    &[THREE_CALLS, ACCEPTED_STAYS],
+    &[UNSCALED, FIRST_IS_RESET, COUNTS_ON],
+    &[UNSCALED, THREE_CALLS, RESET_BEFORE],
+    &[UNSCALED, THREE_CALLS, ONE_OF_EACH, ALL_GIVEN_BACK],
+    &[UNSCALED, THREE_CALLS, ACCEPTED_STAYS],
 ];

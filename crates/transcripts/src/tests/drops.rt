@@ -1,6 +1,6 @@
 //! Frames that find no room, and frames that the world refuses.
 
-use super::{ACCEPTED, OPENING};
+use super::{ACCEPTED, OPENING, UNSCALED};
 
 /// A backlog of one holds one connection until that is accepted.
 const BACKLOG: &str = "b socket tcp -> id 1
@@ -206,9 +206,10 @@ b emit -> frame 10 60
 
 /// A second connection finds no room, nor does a seventeenth reply; the world refuses events.
 pub const TRANSCRIPTS: &[&[&str]] = &[
-    &[BACKLOG],
-    &[NOBODY, SIXTEEN_TAKEN, ONE_REPLY_GOES],
+    &[UNSCALED, BACKLOG],
+    &[UNSCALED, NOBODY, SIXTEEN_TAKEN, ONE_REPLY_GOES],
     &[
+        UNSCALED,
         OPENING,
         ACCEPTED,
         ANOTHER,
@@ -219,7 +220,7 @@ pub const TRANSCRIPTS: &[&[&str]] = &[
         SIXTEEN_MORE,
         RESET_TAKEN,
     ],
-    &[SECOND_OPENING],
+    &[UNSCALED, SECOND_OPENING],
     &["limit 10 -> ok\n", OPENING, ACCEPTED, UNFAIR],
     &["limit 1 -> ok\n", OPENING, ACCEPTED, FIRST_RULE],
 ];

@@ -22,13 +22,13 @@ a emit -> none
 b deliver 0 0 -> taken
 b emit -> frame 1 60
 a deliver 1 0 -> taken
-# Now a's SYN goes out.
-a emit -> frame 2 60
+# Now a's SYN goes out. Its header has 28 octets: it tells the greatest segment that a takes, and that a scales windows.
+a emit -> frame 2 62
 # b takes it. The last number is the one at which b's numbers begin.
 b deliver 2 300 -> taken
 # b answers with a SYN of its own that acknowledges a's. Until that is acknowledged nothing can be accepted.
 b accept 1 -> E8 EAGAIN
-b emit -> frame 3 60
+b emit -> frame 3 62
 # With that a's side stands, and a acknowledges b's SYN.
 a deliver 3 0 -> taken
 a state 1 -> ESTABLISHED
@@ -321,8 +321,8 @@ b deliver 0 0 -> taken
 b emit -> frame 1 60
 a deliver 1 0 -> taken
 # The two SYNs are under way at once: each side hears a SYN where it waits for an answer to its own.
-a emit -> frame 2 60
-b emit -> frame 3 60
+a emit -> frame 2 62
+b emit -> frame 3 62
 b deliver 2 0 -> taken
 a deliver 3 0 -> taken
 a state 1 -> SYN-RECEIVED
@@ -330,8 +330,8 @@ b state 1 -> SYN-RECEIVED
 # Nobody has acknowledged a's SYN yet, so a's caller can't send.
 a send 1 hello -> E8 EAGAIN
 # Each sends its SYN once more, now with an acknowledgement of the other's.
-a emit -> frame 4 60
-b emit -> frame 5 60
+a emit -> frame 4 62
+b emit -> frame 5 62
 b deliver 4 0 -> taken
 a deliver 5 0 -> taken
 # Neither takes a SYN twice. Each only says how far it has come, and so acknowledges the other's SYN.
@@ -350,6 +350,9 @@ a recv 1 100 -> octets hello
 
 /// examples/backlog.txt
 const BACKLOG: &str = "# Three connections are asked for at a listener where two may wait.
+#
+# The hosts don't use the window scale option. So the frame of a SYN has 60 octets, as that of an acknowledgement has.
+noscale -> ok
 b socket tcp -> id 1
 b bind 1 80 -> ok
 b listen 1 2 -> ok

@@ -1,6 +1,6 @@
 //! The frames of a link: what waits until the MAC of its neighbour is known, and what becomes of it then.
 
-use super::{ACCEPTED, OPENING};
+use super::{ACCEPTED, OPENING, UNSCALED};
 
 /// b listens, and a has heard from b where it is.
 const ASKED: &str = "b socket tcp -> id 1
@@ -220,16 +220,16 @@ a emit -> none
 
 /// Neighbours are asked for, heard of and forgotten; what waits for one goes out, or is dropped.
 pub const TRANSCRIPTS: &[&[&str]] = &[
-    &[ASKED, ONE_OPENING],
-    &[SYN_WAITS],
-    &[TWICE],
+    &[UNSCALED, ASKED, ONE_OPENING],
+    &[UNSCALED, SYN_WAITS],
+    &[UNSCALED, TWICE],
     &[OPENING, ACCEPTED, FORGOTTEN],
-    &[SYN_OF_A_STRANGER, RESET_WAITS],
-    &[SYN_OF_A_STRANGER, RESET_IS_DROPPED],
-    &[SYN_OF_A_STRANGER, SIXTEEN_WAIT],
+    &[UNSCALED, SYN_OF_A_STRANGER, RESET_WAITS],
+    &[UNSCALED, SYN_OF_A_STRANGER, RESET_IS_DROPPED],
+    &[UNSCALED, SYN_OF_A_STRANGER, SIXTEEN_WAIT],
     &[OPENING, ACCEPTED, RESET_OF_A_CONNECTION],
     &[NEVER_HEARD],
-    &[ASKED, CALLER_IS_SILENT],
+    &[UNSCALED, ASKED, CALLER_IS_SILENT],
     &[OPENING, ACCEPTED, END_IS_NEVER_HEARD],
     &[LAST_MOMENT],
 ];

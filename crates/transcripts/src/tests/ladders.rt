@@ -1,6 +1,7 @@
 //! The ladder of each script of the folder `examples` and of `first.txt`, without its comments, and that of a round. The numbers follow from the scripts (RFC 9293
-//! section 3.4): a SYN, an octet and a FIN count one each. A window is 65,535 less what came since the peer was told of that room, for room that
-//! grows by less than 1,460 isn't told (section 3.8.6.2.2); that of a reset is 0.
+//! section 3.4): a SYN, an octet and a FIN count one each. A window is that of 65,535 octets in a SYN, and else what is left of the room that the
+//! peer was told of, of 1,048,576 octets at first, in units of 32 rounded down (RFC 7323 section 2.2): room that grows by less than 1,460 isn't told (RFC 9293
+//! section 3.8.6.2.2). Behind `noscale` the room is 65,535 and the unit 1. The window of a reset is 0.
 
 mod course;
 mod ending;

@@ -52,6 +52,9 @@ const BAD: &str = " \n\
     pass\n\
     pass 4294967296\n\
     pass 1 1\n\
+    noscale 1\n\
+    noscale \n\
+    no scale\n\
     limit 0\n\
     limit 1073741825\n\
     a shutdown\n\
@@ -68,7 +71,7 @@ const BAD: &str = " \n\
     a countfrom 1\n\
     a peername 1";
 
-/// Scripts without commands: the limit comes first, or is bad.
+/// Scripts without commands: `noscale` comes first, or is bad, and so does the limit, which may stand behind `noscale`.
 pub(super) const ROWS: &[Row] = &[
     Row {
         asked: Asked::Sim,
@@ -123,6 +126,55 @@ pub(super) const ROWS: &[Row] = &[
         asked: Asked::Sim,
         text: b"limit",
         ends: Err(TextFault::Line(1)),
+        prints: b"",
+        captures: b"",
+    },
+    Row {
+        asked: Asked::Sim,
+        text: b"# first\n\nnoscale\n# then\nlimit 16",
+        ends: Ok(None),
+        prints: b"ok\nok\n",
+        captures: b"",
+    },
+    Row {
+        asked: Asked::Sim,
+        text: b"noscale",
+        ends: Ok(None),
+        prints: b"ok\n",
+        captures: b"",
+    },
+    Row {
+        asked: Asked::Sim,
+        text: b"limit 16\nnoscale",
+        ends: Err(TextFault::Line(2)),
+        prints: b"",
+        captures: b"",
+    },
+    Row {
+        asked: Asked::Sim,
+        text: b"noscale\nnoscale",
+        ends: Err(TextFault::Line(2)),
+        prints: b"",
+        captures: b"",
+    },
+    Row {
+        asked: Asked::Sim,
+        text: b"a socket udp\nnoscale",
+        ends: Err(TextFault::Line(2)),
+        prints: b"",
+        captures: b"",
+    },
+    Row {
+        asked: Asked::Sim,
+        text: b"noscale 1",
+        ends: Err(TextFault::Line(1)),
+        prints: b"",
+        captures: b"",
+    },
+    Row {
+        asked: Asked::Sim,
+        text: b"noscale\nlimit 16\nlimit 16",
+        ends: Err(TextFault::Line(3)),
         prints: b"",
         captures: b"",
     },

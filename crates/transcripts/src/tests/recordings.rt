@@ -6,8 +6,9 @@ use commands::fault::TextFault;
 use ladder::Numbering::Relative;
 
 /// a asks for b's MAC at 1.002 s, b replies at 0.005 s, and a's SYN goes out at 3.999 s, behind a tick that moves no clock back. The frames are delivered twice or
-/// never.
-const SCRIPT: &[u8] = b"limit 100
+/// never. The SYN has the MSS option alone.
+const SCRIPT: &[u8] = b"noscale
+limit 100
 a tick 1002
 b tick 5
 a socket tcp
@@ -24,6 +25,7 @@ a emit
 ";
 
 const PRINTED: &[u8] = b"ok
+ok
 ok
 ok
 id 1
@@ -57,6 +59,8 @@ const CAPTURE: &[u8] = b"\xd4\xc3\xb2\xa1\x02\0\x04\0\0\0\0\0\0\0\0\0\0\0\x04\0\
 /// Its ladder. Nobody takes the SYN, and it is lost.
 const LADDER: &[u8] =
     b"      a                                                                        b
+noscale
+  ok
 limit 100
   ok
 a tick 1002

@@ -1,6 +1,6 @@
 //! Every refusal of a call that a script can bring about, at each call that may answer it.
 
-use super::{ACCEPTED, OPENING};
+use super::{ACCEPTED, OPENING, UNSCALED};
 
 /// The id 1 names no socket of a. No other fault of a call is reported before that.
 const NO_SOCKET: &str = "a bind 1 5 -> E1 EBADF
@@ -286,7 +286,7 @@ pub const TRANSCRIPTS: &[&[&str]] = &[
     &[LISTENING],
     &[CONNECTING],
     &[DATAGRAMS],
-    &[OPENING, ACCEPTED, CONNECTED],
+    &[UNSCALED, OPENING, ACCEPTED, CONNECTED],
     &[OPENING, ACCEPTED, ENDED],
     &[TOLD_REFUSED],
     &[OPENING, ACCEPTED, TOLD_RESET],

@@ -1,6 +1,6 @@
 //! A reset in each state that a connection goes through. The one that hears it is mostly a's, with the id 1.
 
-use super::{ACCEPTED, OPENING};
+use super::{ACCEPTED, OPENING, UNSCALED};
 
 /// What a is answered where an error is reported to it, and that nothing is left to go out.
 const TOLD_RESET: &str = "a state 1 -> CLOSED
@@ -295,10 +295,10 @@ a deliver 9 0 -> taken
 
 /// Resets while a connection is opening, some that are reported, and some after both ends.
 pub const TRANSCRIPTS: &[&[&str]] = &[
-    &[SYN_SENT, TOLD_REFUSED],
+    &[UNSCALED, SYN_SENT, TOLD_REFUSED],
     &[NOBODY_LISTENS],
-    &[SYN_RECEIVED],
-    &[OPENING, NOT_ACCEPTED],
+    &[UNSCALED, SYN_RECEIVED],
+    &[UNSCALED, OPENING, NOT_ACCEPTED],
     &[OPENING, ACCEPTED, UNREAD, B_RESETS, TOLD_RESET],
     &[OPENING, ACCEPTED, UNREAD, ALSO_UNREAD, B_RESETS, TOLD_RESET],
     &[OPENING, ACCEPTED, UNREAD, FIN_WAIT_1, TOLD_RESET],

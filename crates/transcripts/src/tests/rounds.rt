@@ -1,7 +1,7 @@
 //! Rounds without loss. A round lets a minute pass, so what was lost goes out again and every delayed ACK does. Where nothing was to be done, it reads what
 //! goes out next.
 
-use super::{ACCEPTED, OPENING};
+use super::{ACCEPTED, OPENING, UNSCALED};
 
 /// What was lost comes in the next round, once.
 const LOST: &str = "a send 1 hello -> sent 5
@@ -176,9 +176,9 @@ pub(super) const TRANSCRIPTS: &[&[&str]] = &[
     &[OPENING, ACCEPTED, TURNED],
     &[OPENING, ACCEPTED, READER_CLOSED],
     &[OPENING, ACCEPTED, WRITER_CLOSED],
-    &[OPENING, ACCEPTED, LESS_HELD],
-    &[OPENING, ACCEPTED, CLOSED_WINDOW, UPDATE_LOST],
-    &[OPENING, ACCEPTED, CLOSED_WINDOW, UPDATE_DUE],
+    &[UNSCALED, OPENING, ACCEPTED, LESS_HELD],
+    &[UNSCALED, OPENING, ACCEPTED, CLOSED_WINDOW, UPDATE_LOST],
+    &[UNSCALED, OPENING, ACCEPTED, CLOSED_WINDOW, UPDATE_DUE],
     &[OPENING, ACCEPTED, MAC_FORGOTTEN],
     &[OPENING, ACCEPTED, GIVEN_UP],
     &[OPENING, ACCEPTED, BOTH_HOLD, THIRTEEN_ROUNDS],

@@ -1,6 +1,6 @@
 //! What good scripts print.
 
-use super::{ACCEPTED, OPENING, SLOW_START};
+use super::{ACCEPTED, OPENING, SLOW_START, UNSCALED};
 
 /// A frame that comes twice is read once.
 const TWICE: &str = "a send 1 hello -> sent 5
@@ -170,7 +170,7 @@ pub const TRANSCRIPTS: &[&[&str]] = &[
     &[OPENING, ACCEPTED, RESENT],
     &[IDLE],
     &[BUSY],
-    &[BACKLOG],
+    &[UNSCALED, BACKLOG],
     &[PORTS],
-    &[OPENING, ACCEPTED, FULL, SLOW_START, OPENED_AGAIN],
+    &[UNSCALED, OPENING, ACCEPTED, FULL, SLOW_START, OPENED_AGAIN],
 ];

@@ -1,5 +1,7 @@
 //! Simultaneous opens: both callers ask for the same connection, and neither listens (RFC 9293 section 3.5, figure 7).
 
+use super::UNSCALED;
+
 /// Each asks for a connection between the same two ports. By the first two frames each learns where the other is.
 const BOTH_CALL: &str = "a socket tcp -> id 1
 a bind 1 4000 -> ok
@@ -264,14 +266,20 @@ b emit -> none
 
 /// SYNs that cross, that are lost and that come again; octets and ends after them; and a socket that is given back.
 pub const TRANSCRIPTS: &[&[&str]] = &[
-    &[BOTH_CALL, SYNS_CROSS, ANSWERS_CROSS, OPENED, USED],
-    &[BOTH_CALL, SYNS_CROSS, OPENING_STILL],
-    &[BOTH_CALL, SYNS_CROSS, SYN_AGAIN],
-    &[BOTH_CALL, SYN_LOST, LATE_SYN],
-    &[SYN_UNSENT],
-    &[BOTH_CALL, SYNS_CROSS, ANSWERS_LOST],
-    &[BOTH_CALL, SYNS_CROSS, ANSWERS_CROSS, ACKNOWLEDGED_BY_OCTETS],
-    &[BOTH_CALL, SYNS_CROSS, RESET],
-    &[BOTH_CALL, GONE],
-    &[BOTH_CALL, GONE_AT_BOTH],
+    &[UNSCALED, BOTH_CALL, SYNS_CROSS, ANSWERS_CROSS, OPENED, USED],
+    &[UNSCALED, BOTH_CALL, SYNS_CROSS, OPENING_STILL],
+    &[UNSCALED, BOTH_CALL, SYNS_CROSS, SYN_AGAIN],
+    &[UNSCALED, BOTH_CALL, SYN_LOST, LATE_SYN],
+    &[UNSCALED, SYN_UNSENT],
+    &[UNSCALED, BOTH_CALL, SYNS_CROSS, ANSWERS_LOST],
+    &[
+        UNSCALED,
+        BOTH_CALL,
+        SYNS_CROSS,
+        ANSWERS_CROSS,
+        ACKNOWLEDGED_BY_OCTETS,
+    ],
+    &[UNSCALED, BOTH_CALL, SYNS_CROSS, RESET],
+    &[UNSCALED, BOTH_CALL, GONE],
+    &[UNSCALED, BOTH_CALL, GONE_AT_BOTH],
 ];

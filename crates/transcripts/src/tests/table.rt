@@ -1,5 +1,7 @@
 //! The table of sockets and its 64 places, and the ports that it gives.
 
+use super::UNSCALED;
+
 /// a's table has all the sockets that find room.
 const ALL_SOCKETS: &str = "a socket udp -> id 1
 a socket udp -> id 2
@@ -296,9 +298,9 @@ a bind 3 49154 -> ok
 
 /// A socket more than the table has places; connections in a table that is full; and the ports that `bind` gives.
 pub const TRANSCRIPTS: &[&[&str]] = &[
-    &[ALL_SOCKETS, ONE_GIVES_WAY],
-    &[FIFTY_SIX_SOCKETS, LAST_PLACE],
-    &[FIFTY_SIX_SOCKETS, NO_PLACE],
+    &[UNSCALED, ALL_SOCKETS, ONE_GIVES_WAY],
+    &[UNSCALED, FIFTY_SIX_SOCKETS, LAST_PLACE],
+    &[UNSCALED, FIFTY_SIX_SOCKETS, NO_PLACE],
     &[PORTS_IN_TURN, TAKEN_PORTS],
     &[SENT_FROM],
     &[CALLED_AT],

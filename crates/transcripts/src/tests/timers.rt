@@ -1,7 +1,7 @@
 //! What the clock and the congestion window do: small segments wait for more, acknowledgements wait for octets to ride on, what is lost goes out again, and a peer
 //! that doesn't answer is given up.
 
-use super::{ACCEPTED, OPENING, SLOW_START};
+use super::{ACCEPTED, OPENING, SLOW_START, UNSCALED};
 
 /// Octets go out at once where nothing is in flight, and are read.
 const HELLO: &str = "a send 1 hello -> sent 5
@@ -72,7 +72,7 @@ b emit -> none
 ";
 
 /// b has sent nothing but its SYN-ACK. So it doesn't tell the window that opens as a full segment is read: the acknowledgement waits for 200 ms.
-const SILENT_READER: &str = "a fill 1 1460 -> sent 1460
+pub(super) const SILENT_READER: &str = "a fill 1 1460 -> sent 1460
 a emit -> frame 5 1514
 b deliver 5 0 -> taken
 b count 2 2000 -> octets 1460
@@ -235,13 +235,13 @@ pub const TRANSCRIPTS: &[&[&str]] = &[
     &[OPENING, ACCEPTED, OVERRIDDEN],
     &[OPENING, ACCEPTED, END_AHEAD],
     &[OPENING, ACCEPTED, UNREAD],
-    &[OPENING, ACCEPTED, DELAYED],
+    &[UNSCALED, OPENING, ACCEPTED, DELAYED],
     &[OPENING, ACCEPTED, SECOND_SEGMENT],
     &[OPENING, ACCEPTED, SILENT_READER, READER_THAT_SPOKE],
-    &[GIVEN_UP],
+    &[UNSCALED, GIVEN_UP],
     &[OPENING, ACCEPTED, ALL_AGAIN],
-    &[OPENING, ACCEPTED, FILLED, SLOW_START, PROBED],
-    &[OPENING, ACCEPTED, FILLED, SLOW_START, UPDATE_LOST],
-    &[OPENING, ACCEPTED, FAST_RESEND],
+    &[UNSCALED, OPENING, ACCEPTED, FILLED, SLOW_START, PROBED],
+    &[UNSCALED, OPENING, ACCEPTED, FILLED, SLOW_START, UPDATE_LOST],
+    &[UNSCALED, OPENING, ACCEPTED, FAST_RESEND],
     &[OPENING, ACCEPTED, NO_DUPLICATES],
 ];

@@ -1,6 +1,6 @@
 //! A reader that doesn't read: the window closes, and the writer waits.
 
-use super::{ACCEPTED, OPENING, SLOW_START};
+use super::{ACCEPTED, OPENING, SLOW_START, UNSCALED};
 
 const FILLED: &str = "a fill 1 70000 -> sent 65535
 a fill 1 1 -> E8 EAGAIN
@@ -102,6 +102,7 @@ b recv 2 9 -> octets y
 /// A closed window holds octets and the end back; an end at a closed window comes later; and what is acknowledged at a closed window is heard.
 pub const TRANSCRIPTS: &[&[&str]] = &[
     &[
+        UNSCALED,
         OPENING,
         ACCEPTED,
         FILLED,
@@ -112,6 +113,7 @@ pub const TRANSCRIPTS: &[&[&str]] = &[
         READ_AT_LAST,
     ],
     &[
+        UNSCALED,
         OPENING,
         ACCEPTED,
         FILLED,
@@ -120,6 +122,7 @@ pub const TRANSCRIPTS: &[&[&str]] = &[
         END_FINDS_NO_PLACE,
     ],
     &[
+        UNSCALED,
         OPENING,
         ACCEPTED,
         FILLED,

@@ -12,5 +12,5 @@ returns-clause-due g c =
 
 pub returns-clause-told : goal.returns-clause-told
 returns-clause-told g c =
-    ladder_by _ c.in_ok-octets.octets.items c.run.result _ _ _ _ _ _ c.in_ok-octets.ensures.all (rw c.as_slice.ensures.value at c.in_ok-world.ensures.limit)
+    ladder_by _ c.in_ok-octets.octets.items c.run.result _ _ _ _ _ _ c.in_ok-octets.ensures.all (rw c.as_slice.ensures.value at c.in_ok-world.ensures.setting)
     c.in_ok-world.ensures.world (rw c.as_slice-2.ensures.value at c.run.ensures.told)

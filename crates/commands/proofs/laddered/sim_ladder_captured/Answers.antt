@@ -11,5 +11,5 @@ returns-clause-due g c =
 pub returns-clause-told : goal.returns-clause-told
 returns-clause-told g c =
     let ends : Ends = record { run = c.run-run.result; capture = c.record-capture.result } in
-    both_by _ c.in_ok-octets.octets.items ends _ _ _ _ _ _ _ _ c.in_ok-octets.ensures.all (rw c.as_slice.ensures.value at c.in_ok-world.ensures.limit)
+    both_by _ c.in_ok-octets.octets.items ends _ _ _ _ _ _ _ _ c.in_ok-octets.ensures.all (rw c.as_slice.ensures.value at c.in_ok-world.ensures.setting)
     c.in_ok-world.ensures.world (rw c.as_slice-2.ensures.value at c.run-run.ensures.told) c.record-capture.ensures.taken

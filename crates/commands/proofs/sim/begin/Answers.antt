@@ -1,5 +1,5 @@
-use Rattle.std.proofs.Common.{◌∙◌, ap, inl, slice_get}
-use Rattle.commands.proofs.RunLemmas.{limit_said_once}
+use Rattle.std.proofs.Common.{inl}
+use Rattle.commands.proofs.RunLemmas.{setting_said}
 use Rattle.commands.proofs.SimLemmas.{err_passed, passed_as}
 use Rattle.commands.proofs.sim.begin.Goals as goal
 
@@ -9,5 +9,5 @@ returns-in_err-script-clause-bad c = err_passed _ c.from_residual.result _ c.fro
 pub returns-in_err-world-clause-bad : goal.returns-in_err-world-clause-bad
 returns-in_err-world-clause-bad c = err_passed _ c.from_residual-in_err-world.result _ c.from_residual-in_err-world.ensures.1 (inl c.in_err-world.ensures.faults)
 
-pub returns-clause-limit : goal.returns-clause-limit
-returns-clause-limit c = limit_said_once c.in_ok-script.script.limit ∙ ap (λ l. slice_get l 0) c.in_ok-script.ensures.limit
+pub returns-clause-setting : goal.returns-clause-setting
+returns-clause-setting c = setting_said c.in_ok-script.script.setting c.args.octets.now c.in_ok-script.ensures.scales c.in_ok-script.ensures.limit

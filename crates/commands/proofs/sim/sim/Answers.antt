@@ -41,4 +41,4 @@ returns-in_err-script-clause-printed g c =
 pub returns-clause-printed : goal.returns-clause-printed
 returns-clause-printed g c =
     told_by _ c.in_ok-octets.octets.items c.run.result _ _ _ _ c.in_ok-octets.ensures.all (rw c.as_slice.ensures.value at c.in_ok-script.ensures.commands)
-    (rw c.as_slice.ensures.value at c.in_ok-script.ensures.limit) (as_printed _ _ _ _ _ _ c.run.ensures.printed)
+    (rw c.as_slice.ensures.value at c.in_ok-script.ensures.setting) (as_printed _ _ _ _ _ _ c.run.ensures.printed)

@@ -20,12 +20,12 @@ returns-clause-due g c =
 pub returns-clause-printed : goal.returns-clause-printed
 returns-clause-printed g c =
     told_by _ c.in_ok-octets.octets.items c.run-run.result _ _ _ _ c.in_ok-octets.ensures.all
-    (rw c.as_slice.ensures.value at c.in_ok-script.ensures.commands) (rw c.as_slice.ensures.value at c.in_ok-script.ensures.limit)
+    (rw c.as_slice.ensures.value at c.in_ok-script.ensures.commands) (rw c.as_slice.ensures.value at c.in_ok-script.ensures.setting)
     (as_printed _ _ _ _ _ _ c.run-run.ensures.printed)
 
 pub returns-clause-told : goal.returns-clause-told
 returns-clause-told g c =
     let ends : Ends = record { run = c.run-run.result; capture = c.record-capture.result } in
     run_by _ c.in_ok-octets.octets.items ends _ _ c.run-run.new.world.seen _ _ _ _ c.in_ok-octets.ensures.all
-    (rw c.as_slice.ensures.value at c.in_ok-script.ensures.commands) (rw c.as_slice.ensures.value at c.in_ok-script.ensures.limit)
+    (rw c.as_slice.ensures.value at c.in_ok-script.ensures.commands) (rw c.as_slice.ensures.value at c.in_ok-script.ensures.setting)
     c.run-run.ensures.printed c.record-capture.ensures.taken

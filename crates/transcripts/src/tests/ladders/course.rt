@@ -26,7 +26,7 @@ pass 300
 3     | taken <                                                                |
   a 1 b 1
 pass 300
-4     |- tcp 49152 80 A seq 1 ack 1 win 65535 data 0 ------------------------->|
+4     |- tcp 49152 80 A seq 1 ack 1 win 32768 data 0 ------------------------->|
 4     |                                                                > taken |
   a 1 b 0
 b accept 1
@@ -34,7 +34,7 @@ b accept 1
 a send 1 hello
   sent 5
 a emit
-5     |- tcp 49152 80 PA seq 1 ack 1 win 65535 data 5 ------------------------>|
+5     |- tcp 49152 80 PA seq 1 ack 1 win 32768 data 5 ------------------------>|
   frame 5 60
 b recv 2 100
   E8 EAGAIN
@@ -47,7 +47,7 @@ a emit
 a tick 1000
   ok
 a emit
-6     |- tcp 49152 80 PA seq 1 ack 1 win 65535 data 5 ------------------------>|
+6     |- tcp 49152 80 PA seq 1 ack 1 win 32768 data 5 ------------------------>|
   frame 6 60
 b deliver 6 0
 6     |                                                                > taken |
@@ -57,7 +57,7 @@ b recv 2 100
 b tick 200
   ok
 b emit
-7     |<------------------------- tcp 80 49152 A seq 1 ack 6 win 65530 data 0 -|
+7     |<------------------------- tcp 80 49152 A seq 1 ack 6 win 32768 data 0 -|
   frame 7 60
 a deliver 7 0
 7     | taken <                                                                |
@@ -72,7 +72,7 @@ b deliver 5 0
 b recv 2 100
   E8 EAGAIN
 b emit
-8     |<------------------------- tcp 80 49152 A seq 1 ack 6 win 65530 data 0 -|
+8     |<------------------------- tcp 80 49152 A seq 1 ack 6 win 32768 data 0 -|
   frame 8 60
 a deliver 8 0
 8     | taken <                                                                |
@@ -223,7 +223,7 @@ pass 300
 3     | taken <                                                                |
   a 1 b 1
 pass 300
-4     |- tcp 49152 80 A seq 1 ack 1 win 65535 data 0 ------------------------->|
+4     |- tcp 49152 80 A seq 1 ack 1 win 32768 data 0 ------------------------->|
 4     |                                                                > taken |
   a 1 b 0
 b accept 1
@@ -231,19 +231,19 @@ b accept 1
 a close 1
   ok
 pass 0
-5     |- tcp 49152 80 FA seq 1 ack 1 win 65535 data 0 ------------------------>|
+5     |- tcp 49152 80 FA seq 1 ack 1 win 32768 data 0 ------------------------>|
 5     |                                                                > taken |
-6     |<------------------------- tcp 80 49152 A seq 1 ack 2 win 65534 data 0 -|
+6     |<------------------------- tcp 80 49152 A seq 1 ack 2 win 32768 data 0 -|
 6     | taken <                                                                |
   a 1 b 1
 b close 2
   ok
 pass 0
-7     |<------------------------ tcp 80 49152 FA seq 1 ack 2 win 65534 data 0 -|
+7     |<------------------------ tcp 80 49152 FA seq 1 ack 2 win 32768 data 0 -|
 7     | taken <                                                                |
   a 0 b 1
 pass 0
-8     |- tcp 49152 80 A seq 2 ack 2 win 65534 data 0 ------------------------->|
+8     |- tcp 49152 80 A seq 2 ack 2 win 32767 data 0 ------------------------->|
 8     |                                                                > taken |
   a 1 b 0
 b deliver 2 900
@@ -270,7 +270,7 @@ pass 700
 10    | taken <                                                                |
   a 1 b 1
 pass 700
-11    |- tcp 49152 80 A seq 1 ack 1 win 65535 data 0 ------------------------->|
+11    |- tcp 49152 80 A seq 1 ack 1 win 32768 data 0 ------------------------->|
 11    |                                                                > taken |
   a 1 b 0
 b accept 1
@@ -281,7 +281,7 @@ b deliver 2 900
 a send 2 hello
   sent 5
 a emit
-12    |- tcp 49152 80 PA seq 1 ack 1 win 65535 data 5 ------------------------>|
+12    |- tcp 49152 80 PA seq 1 ack 1 win 32768 data 5 ------------------------>|
   frame 12 60
 b deliver 12 0
 12    |                                                                > taken |
@@ -301,11 +301,11 @@ b deliver 12 0
 12    |                                                       x U2 Stale again |
   U2 Stale
 pass 0
-13    |<------------------------- tcp 80 49152 A seq 1 ack 6 win 65530 data 0 -|
+13    |<------------------------- tcp 80 49152 A seq 1 ack 6 win 32768 data 0 -|
 13    | taken <                                                                |
   a 0 b 1
 pass 0
-14    |- tcp 49152 80 PA seq 6 ack 1 win 65535 data 16 ----------------------->|
+14    |- tcp 49152 80 PA seq 6 ack 1 win 32768 data 16 ----------------------->|
 14    |                                                                > taken |
   a 1 b 0
 b recv 3 100

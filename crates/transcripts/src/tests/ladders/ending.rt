@@ -48,7 +48,7 @@ pass 300
 5     | taken <                                                                |
   a 1 b 1
 pass 300
-6     |- tcp 49153 80 A seq 1 ack 1 win 65535 data 0 ------------------------->|
+6     |- tcp 49153 80 A seq 1 ack 1 win 32768 data 0 ------------------------->|
 6     |                                                                > taken |
   a 1 b 0
 b accept 1
@@ -56,13 +56,13 @@ b accept 1
 a send 2 hello
   sent 5
 pass 0
-7     |- tcp 49153 80 PA seq 1 ack 1 win 65535 data 5 ------------------------>|
+7     |- tcp 49153 80 PA seq 1 ack 1 win 32768 data 5 ------------------------>|
 7     |                                                                > taken |
   a 1 b 0
 b tick 200
   ok
 pass 0
-8     |<------------------------- tcp 80 49153 A seq 1 ack 6 win 65530 data 0 -|
+8     |<------------------------- tcp 80 49153 A seq 1 ack 6 win 32767 data 0 -|
 8     | taken <                                                                |
   a 0 b 1
 a state 2
@@ -117,7 +117,7 @@ pass 300
 3     | taken <                                                                |
   a 1 b 1
 pass 300
-4     |- tcp 49152 80 A seq 1 ack 1 win 65535 data 0 ------------------------->|
+4     |- tcp 49152 80 A seq 1 ack 1 win 32768 data 0 ------------------------->|
 4     |                                                                > taken |
   a 1 b 0
 b accept 1
@@ -133,10 +133,10 @@ a state 1
 b state 2
   FIN-WAIT-1
 a emit
-5     |- tcp 49152 80 FA seq 1 ack 1 win 65535 data 0 ------------------------>|
+5     |- tcp 49152 80 FA seq 1 ack 1 win 32768 data 0 ------------------------>|
   frame 5 60
 b emit
-6     |<------------------------ tcp 80 49152 FA seq 1 ack 1 win 65535 data 0 -|
+6     |<------------------------ tcp 80 49152 FA seq 1 ack 1 win 32768 data 0 -|
   frame 6 60
 b deliver 5 0
 5     |                                                                > taken |
@@ -153,10 +153,10 @@ a recv 1 100
 b recv 2 100
   end
 a emit
-7     |- tcp 49152 80 A seq 2 ack 2 win 65534 data 0 ------------------------->|
+7     |- tcp 49152 80 A seq 2 ack 2 win 32767 data 0 ------------------------->|
   frame 7 60
 b emit
-8     |<------------------------- tcp 80 49152 A seq 2 ack 2 win 65534 data 0 -|
+8     |<------------------------- tcp 80 49152 A seq 2 ack 2 win 32767 data 0 -|
   frame 8 60
 b deliver 7 0
 7     |                                                                > taken |

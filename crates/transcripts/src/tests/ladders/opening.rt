@@ -26,7 +26,7 @@ pass 7
 3     | taken <                                                                |
   a 1 b 1
 pass 7
-4     |- tcp 49152 80 A seq 1 ack 1 win 65535 data 0 ------------------------->|
+4     |- tcp 49152 80 A seq 1 ack 1 win 32768 data 0 ------------------------->|
 4     |                                                                > taken |
   a 1 b 0
 b accept 1
@@ -34,7 +34,7 @@ b accept 1
 a send 1 hello
   sent 5
 a emit
-5     |- tcp 49152 80 PA seq 1 ack 1 win 65535 data 5 ------------------------>|
+5     |- tcp 49152 80 PA seq 1 ack 1 win 32768 data 5 ------------------------>|
   frame 5 60
 b deliver 5 0
 5     |                                                                > taken |
@@ -74,7 +74,7 @@ pass 7
 3     | taken <                                                                |
   a 1 b 1
 pass 7
-4     |- tcp 49152 80 A seq 0 ack 8 win 65535 data 0 ------------------------->|
+4     |- tcp 49152 80 A seq 0 ack 8 win 32768 data 0 ------------------------->|
 4     |                                                                > taken |
   a 1 b 0
 b accept 1
@@ -82,7 +82,7 @@ b accept 1
 a send 1 hello
   sent 5
 a emit
-5     |- tcp 49152 80 PA seq 0 ack 8 win 65535 data 5 ------------------------>|
+5     |- tcp 49152 80 PA seq 0 ack 8 win 32768 data 5 ------------------------>|
   frame 5 60
 b deliver 5 0
 5     |                                                                > taken |
@@ -127,7 +127,7 @@ a deliver 1 0
   taken
 a emit
 2     |- tcp 49152 80 S seq 0 win 65535 data 0 ------------------------------->|
-  frame 2 60
+  frame 2 62
 b deliver 2 300
 2     |                                                                > taken |
   taken
@@ -135,14 +135,14 @@ b accept 1
   E8 EAGAIN
 b emit
 3     |<------------------------ tcp 80 49152 SA seq 0 ack 1 win 65535 data 0 -|
-  frame 3 60
+  frame 3 62
 a deliver 3 0
 3     | taken <                                                                |
   taken
 a state 1
   ESTABLISHED
 a emit
-4     |- tcp 49152 80 A seq 1 ack 1 win 65535 data 0 ------------------------->|
+4     |- tcp 49152 80 A seq 1 ack 1 win 32768 data 0 ------------------------->|
   frame 4 60
 b deliver 4 0
 4     |                                                                > taken |
@@ -154,7 +154,7 @@ b state 2
 a send 1 hello
   sent 5
 a emit
-5     |- tcp 49152 80 PA seq 1 ack 1 win 65535 data 5 ------------------------>|
+5     |- tcp 49152 80 PA seq 1 ack 1 win 32768 data 5 ------------------------>|
   frame 5 60
 b deliver 5 0
 5     |                                                                > taken |
@@ -168,7 +168,7 @@ b emit
 b tick 200
   ok
 b emit
-6     |<------------------------- tcp 80 49152 A seq 1 ack 6 win 65530 data 0 -|
+6     |<------------------------- tcp 80 49152 A seq 1 ack 6 win 32768 data 0 -|
   frame 6 60
 a deliver 6 0
 6     | taken <                                                                |
@@ -208,10 +208,10 @@ a deliver 1 0
   taken
 a emit
 2     |- tcp 4000 5000 S seq 0 win 65535 data 0 ------------------------------>|
-  frame 2 60
+  frame 2 62
 b emit
 3     |<------------------------------ tcp 5000 4000 S seq 0 win 65535 data 0 -|
-  frame 3 60
+  frame 3 62
 b deliver 2 0
 2     |                                                                > taken |
   taken
@@ -226,10 +226,10 @@ a send 1 hello
   E8 EAGAIN
 a emit
 4     |- tcp 4000 5000 SA seq 0 ack 1 win 65535 data 0 ----------------------->|
-  frame 4 60
+  frame 4 62
 b emit
 5     |<----------------------- tcp 5000 4000 SA seq 0 ack 1 win 65535 data 0 -|
-  frame 5 60
+  frame 5 62
 b deliver 4 0
 4     |                                                                > taken |
   taken
@@ -237,10 +237,10 @@ a deliver 5 0
 5     | taken <                                                                |
   taken
 a emit
-6     |- tcp 4000 5000 A seq 1 ack 1 win 65535 data 0 ------------------------>|
+6     |- tcp 4000 5000 A seq 1 ack 1 win 32768 data 0 ------------------------>|
   frame 6 60
 b emit
-7     |<------------------------ tcp 5000 4000 A seq 1 ack 1 win 65535 data 0 -|
+7     |<------------------------ tcp 5000 4000 A seq 1 ack 1 win 32768 data 0 -|
   frame 7 60
 b deliver 6 0
 6     |                                                                > taken |
@@ -255,7 +255,7 @@ b state 1
 b send 1 hello
   sent 5
 b emit
-8     |<----------------------- tcp 5000 4000 PA seq 1 ack 1 win 65535 data 5 -|
+8     |<----------------------- tcp 5000 4000 PA seq 1 ack 1 win 32768 data 5 -|
   frame 8 60
 a deliver 8 0
 8     | taken <                                                                |
@@ -267,6 +267,8 @@ a recv 1 100
 /// examples/backlog.txt
 pub const BACKLOG: &str =
     "      a                                                                        b
+noscale
+  ok
 b socket tcp
   id 1
 b bind 1 80

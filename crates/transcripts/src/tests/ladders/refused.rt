@@ -49,7 +49,7 @@ a deliver 1 0
   taken
 a emit
 2     |- tcp 49152 80 S seq 0 win 65535 data 0 ------------------------------->|
-  frame 2 60
+  frame 2 62
 a deliver 2 0
 2     | U1 NoSuchFrame x                                                       |
   U1 NoSuchFrame
@@ -95,7 +95,7 @@ a deliver 1 0
   taken
 a emit
 2     |- tcp 49152 80 S seq 4294967295 win 65535 data 0 ---------------------->|
-  frame 2 60
+  frame 2 62
 a deliver 2 0
 2     | U1 NoSuchFrame x                                                       |
   U1 NoSuchFrame

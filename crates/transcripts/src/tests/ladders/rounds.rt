@@ -26,7 +26,7 @@ pass 7
 3     | taken <                                                                |
   a 1 b 1
 pass 7
-4     |- tcp 49152 80 A seq 1 ack 1 win 65535 data 0 ------------------------->|
+4     |- tcp 49152 80 A seq 1 ack 1 win 32768 data 0 ------------------------->|
 4     |                                                                > taken |
   a 1 b 0
 b accept 1
@@ -34,11 +34,11 @@ b accept 1
 a fill 1 2920
   sent 2920
 a round 2
-5     |- tcp 49152 80 A seq 1 ack 1 win 65535 data 1460 ---------------------->|
-6     |- tcp 49152 80 PA seq 1461 ack 1 win 65535 data 1460 ------------------>|
+5     |- tcp 49152 80 A seq 1 ack 1 win 32768 data 1460 ---------------------->|
+6     |- tcp 49152 80 PA seq 1461 ack 1 win 32768 data 1460 ------------------>|
 5     |                                                                > taken |
 6     |                                                                > taken |
-7     |<---------------------- tcp 80 49152 A seq 1 ack 2921 win 62615 data 0 -|
+7     |<---------------------- tcp 80 49152 A seq 1 ack 2921 win 32676 data 0 -|
 7     | taken <                                                                |
   octets 2920
 ";

@@ -11,5 +11,5 @@ returns-then-not-branch-clause-bad c =
 pub loop-index-preserved : goal.loop-index-preserved
 loop-index-preserved c =
     read_one_more _ _ _ _ _ _ _ _ _ c.loop-index.invariant c.loop-index-test.true c.in_ok-item.ensures.item
-    (good_if _ _ c.in_ok-add.ensures.good c.if-not-branch.false) (c.in_ok-add.ensures.start c.if-not-branch.false) c.in_ok-add.ensures.commands
+    (good_if _ _ c.in_ok-add.ensures.good c.if-not-branch.false) (c.in_ok-add.ensures.stage c.if-not-branch.false) (c.in_ok-add.ensures.scales c.if-not-branch.false) c.in_ok-add.ensures.commands
     (c.in_ok-add.ensures.limit c.if-not-branch.false)
