@@ -15,6 +15,7 @@ pub mod Unusable
 pub mod Sized
 pub mod Tables
 pub mod Ran
+pub mod Begun
 pub mod FrameSide
 pub mod AskedAgain
 pub mod ComesUp

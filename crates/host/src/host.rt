@@ -1,6 +1,6 @@
 //! The host itself: what was made of it by the events so far, the frames, the clock, and the questions that change nothing.
 
-ghost use Rattle.std.specs.Prelude.{◌≡◌, ◌≤◌, IfOk, IfErr, IfSome};
+ghost use Rattle.std.specs.Prelude.{◌≡◌, ◌≤◌, Ok, Err, IfOk, IfErr, IfSome, MatchResult};
 
 use crate::config::Config;
 use crate::layers::Layers;
@@ -9,9 +9,9 @@ use ether::FRAME_MAX;
 use frames::DropCause;
 use interface::Interface;
 use ipv4::Pair;
-use reassembly::Pool;
+use reassembly::{Pool, PoolFault};
 use sockets::{Refusal, SocketId, Sockets};
-use std::alloc::Global;
+use std::alloc::{AllocError, Global};
 use std::marker::Model;
 use tcp_segment::Seq;
 
@@ -57,15 +57,34 @@ impl Host {
     {
         config.sound();
         let (mac, addr, routes, scales) = config.into_parts();
-        let interface = Interface::new(alloc, mac, addr, routes).map_err(|_| Refusal::ENOMEM)?;
-        let pool = Pool::new(alloc).map_err(|_| Refusal::ENOMEM)?;
+        let interface = Interface::new(alloc, mac, addr, routes);
+        let pool = Pool::new(alloc);
         let sockets = Sockets::new(alloc, addr, scales);
-        let layers = Layers {
-            interface,
-            sockets,
-            pool,
-        };
-        Ok(Host { layers })
+        Host::of(interface, sockets, pool)
+    }
+
+    /// The host of these layers. ENOMEM exactly where memory was refused the frame side or the pool.
+    fn of(
+        interface: Result<Interface, AllocError>,
+        sockets: Sockets,
+        pool: Result<Pool, PoolFault>,
+    ) -> Result<Host, Refusal>
+        requires { IfOk interface (λ frames. IfOk pool (λ places. HasRun (record { interface = frames; sockets = sockets; pool = places }))) }
+        ensures { MatchResult interface
+            (λ frames. MatchResult pool (λ places. result ≡ Ok (record { interface = frames; sockets = sockets; pool = places })) (λ refused. result ≡ Err Refusal.ENOMEM))
+            (λ refused. result ≡ Err Refusal.ENOMEM) }
+    {
+        match (interface, pool) {
+            (Ok(interface), Ok(pool)) => {
+                let layers = Layers {
+                    interface,
+                    sockets,
+                    pool,
+                };
+                Ok(Host { layers })
+            }
+            _ => Err(Refusal::ENOMEM),
+        }
     }
 
     /// Takes a frame, at the later of `now` and the kept moment. `isn` is used only where it opens a connection.

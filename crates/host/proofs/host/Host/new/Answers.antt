@@ -1,7 +1,8 @@
--- Nothing happened to it.
-use Rattle.std.proofs.Common.{rules}
-use Rattle.host.proofs.Ran.{run-begins}
+-- Nothing happened to its layers.
+use Rattle.host.proofs.Begun.{run-made}
 use Rattle.host.proofs.host.Host.new.Goals as goal
 
-pub invariant_of-result : goal.invariant_of-result
-invariant_of-result c = run-begins c.args.config _ c.sound.ensures (search rules)
+pub of-requires : goal.of-requires
+of-requires c =
+    let parts = c.into_parts-routes.ensures.parts in
+    run-made c.args.config _ _ _ _ _ _ _ c.sound.ensures parts.0 parts.1 parts.2 parts.3 c.new-interface.ensures c.new-sockets.ensures c.new-pool.ensures
