@@ -113,7 +113,7 @@ fn devices_that_fail_are_reported(rt: HostRuntime) {
                 "{fault}, call {call}"
             );
         }
-        let came = copied_with(&rt, rt.alloc(), fault, calls + 1);
+        let came = copied_with(&rt, rt.alloc(), fault, calls.saturating_add(1));
         assert!(rt; came == (Ok(10_000), [0, 0, 0], true), "{fault}, no call");
     }
 }
