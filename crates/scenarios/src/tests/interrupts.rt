@@ -55,7 +55,7 @@ impl MachineSocket for Interrupted {
 
     fn recv_once(&mut self, _buffer: &mut [u8; FRAME_MAX]) -> Result<(usize, SocketAddr)> {
         let count = self.call()?;
-        Ok((count, self.peer))
+        Ok((count.min(FRAME_MAX), self.peer))
     }
 }
 
