@@ -20,7 +20,7 @@ import time
 
 TOP = os.path.dirname(os.path.dirname(os.path.realpath(__file__)))
 # What is asked of rt; another kit's may lack one.
-ASKED = ("checked", "free", "in_lanes", "must_fail", "need", "processors", "read_edit", "read_files", "rtlib", "share_work")
+ASKED = ("checked", "free", "in_lanes", "must_fail", "need", "processors", "read_edit", "read_files", "rtlib")
 # The seconds that each crate took from nothing when it was last proved here.
 TOOK = f"{TOP}/tools/out/seconds.json"
 PERFORMANCE = f"{TOP}/docs/PERFORMANCE.md"
@@ -278,8 +278,10 @@ def stoppable(progress):
 
 @functools.cache
 def share_work():
-    """Has rt's routines share kept work among the checkouts on the machine. They may be told so once."""
-    load_rt().share_work(True)
+    """Has rt's routines share kept work among the checkouts on the machine, where the kit's can. They may be told so once."""
+    share = getattr(load_rt(), "share_work", None)
+    if share:
+        share(True)
 
 
 def prove(crates, name="libraries"):
