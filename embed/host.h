@@ -151,6 +151,38 @@ struct host_config {
     uint8_t zero[5];                 /* 0 */
 };
 
+/* A connection as it stands. `size` is sizeof (struct host_info); all others are the library's to write. Lengths are octets; of a timer or a
+ * measurement that there isn't, the number is -1. A later header may have more members behind these, which a library that doesn't know them leaves as
+ * they were. */
+struct host_info {
+    size_t size;            /* octets of the struct, as the program knows it */
+    int64_t state;          /* HOST_STATE_CLOSED .. */
+    int64_t in_flight;      /* sent and not acknowledged, the SYN or FIN among them */
+    int64_t held;           /* given to host_send and not acknowledged, sent or not */
+    int64_t unsent;         /* of these, not sent yet */
+    int64_t readable;       /* came in order, and not read */
+    int64_t kept;           /* came ahead of a gap */
+    int64_t peer_window;    /* the peer's window, from the oldest octet that it has not acknowledged on */
+    int64_t own_window;     /* our window, as it was told and is not used up */
+    int64_t smss;           /* most octets of a segment of ours */
+    int64_t cwnd;           /* the congestion window (RFC 5681) */
+    int64_t ssthresh;       /* the slow start threshold */
+    int64_t srtt_8;         /* eight times the smoothed round-trip time, in milliseconds (RFC 6298) */
+    int64_t rttvar_4;       /* four times its variation, in milliseconds */
+    int64_t rto;            /* the retransmission timeout, in milliseconds */
+    int64_t expiries;       /* expiries of a timer since the last progress; the thirteenth ends the connection */
+    int64_t resent;         /* segments that brought what was sent before, probes among them */
+    int64_t error;          /* what every call tells: HOST_ECONNREFUSED, HOST_ECONNRESET or HOST_ETIMEDOUT, else 0 */
+    int64_t retransmission; /* the moments: when what is in flight goes out again, */
+    int64_t probe;          /* when the peer's closed window is probed, */
+    int64_t delayed_ack;    /* until when an acknowledgement waits for a second segment, */
+    int64_t override;       /* until when a small segment waits for more, */
+    int64_t ends;           /* and when TIME-WAIT ends, or FIN-WAIT-2 of a closed socket */
+};
+
+/* So the library finds it. */
+typedef char host_info_has_its_form[sizeof(struct host_info) == 23 * 8 && offsetof(struct host_info, state) == 8 ? 1 : -1];
+
 /* So the library finds it. */
 typedef char host_config_has_its_form[sizeof(struct host_config) == 40 && offsetof(struct host_config, addr) == 24 &&
                                               offsetof(struct host_config, no_window_scale) == 34 ? 1 : -1];
@@ -306,6 +338,17 @@ int64_t host_would_connect(struct host *host, uint64_t id, uint32_t addr, uint16
 
 /* The same of the connection that host_deliver would open by this frame; 0 where it would open none, and any number will do for `isn`. */
 int64_t host_would_open(struct host *host, const uint8_t *frame, size_t len, struct host_endpoint pair[2]);
+
+/* What host_info calls, and programs in other languages than C: the numbers of a struct host_info behind its size, the first `count` of them. */
+int64_t host_info_into(struct host *host, uint64_t id, int64_t *numbers, size_t count);
+
+/* Tells what is so of a socket's connection, in any state; of one that is over, what it left. It answers 0.
+ *
+ * HOST_EBADF. HOST_EOPNOTSUPP: UDP, or listening. HOST_ENOTCONN: it has had none. */
+static inline int64_t host_info(struct host *host, uint64_t id, struct host_info *info)
+{
+    return host_info_into(host, id, (int64_t *)info + 1, info->size / 8 - 1);
+}
 
 /* ---- Numbers and names ----------------------------------------------------------------------------------------------------------------- */
 

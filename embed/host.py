@@ -13,14 +13,17 @@ The library is `libhostc.so`: the file that the variable HOST_LIBRARY of the env
 folder `out`, or the one that the system's loader finds. `embed/build` makes it of `libhostc.a`.
 """
 
+from __future__ import annotations
+
 import ctypes
+import dataclasses
 import enum
 import errno
 import ipaddress
 import os
 import sys
 
-__all__ = ["Drop", "Host", "Kind", "State"]
+__all__ = ["Drop", "Host", "Info", "Kind", "State"]
 
 FRAME_SIZE = 1514
 DATAGRAM_SIZE = 65507
@@ -44,6 +47,35 @@ Drop = enum.Enum(
     "Drop", "SHORT OTHER_MAC OTHER_TYPE IP_HEADER IP_SUM OTHER_ADDRESS UPPER_HEADER UPPER_SUM NO_ROOM FRAGMENT NO_HOST"
 )
 Drop.__doc__ = "Why a frame was dropped, by the numbers of docs/CODES.md."
+
+
+@dataclasses.dataclass(frozen=True)
+class Info:
+    """A connection as it stands: `host.h` has each field at length. Lengths are octets, moments and times milliseconds; None where there is none."""
+
+    state: State
+    in_flight: int
+    held: int
+    unsent: int
+    readable: int
+    kept: int
+    peer_window: int
+    own_window: int
+    smss: int
+    cwnd: int
+    ssthresh: int
+    srtt: float | None
+    rttvar: float | None
+    rto: int
+    expiries: int
+    resent: int
+    error: int | None
+    retransmission: int | None
+    probe: int | None
+    delayed_ack: int | None
+    override: int | None
+    ends: int | None
+
 
 # The system's number of each refusal, from number 1 on.
 _ERRNO = [
@@ -104,6 +136,7 @@ _CALLS = {
     "host_state": [_U64],
     "host_sockname": [_U64, _ENDPOINT],
     "host_peername": [_U64, _ENDPOINT],
+    "host_info_into": [_U64, ctypes.POINTER(ctypes.c_int64), _SIZE],
     "host_would_connect": [_U64, _U32, _U16, _ENDPOINT],
     "host_would_open": [_OCTETS, _SIZE, _ENDPOINT],
     "host_tick": [_U64],
@@ -275,6 +308,19 @@ class Host:
         return tuple(end)
 
     # Questions that change nothing.
+
+    def info(self, id):
+        """The Info of a socket's connection, in any state. `error` is the system's number of what every call raises."""
+        names = [field.name for field in dataclasses.fields(Info)]
+        numbers = (ctypes.c_int64 * len(names))()
+        self._call("host_info_into", _id(id), numbers, len(numbers))
+        told = dict(zip(names, numbers))
+        for name in ("srtt", "rttvar", "retransmission", "probe", "delayed_ack", "override", "ends"):
+            told[name] = None if told[name] < 0 else told[name]
+        for name, parts in (("srtt", 8), ("rttvar", 4)):
+            told[name] = None if told[name] is None else told[name] / parts
+        told["error"] = _ERRNO[-told["error"] - 1] if told["error"] else None
+        return Info(**{**told, "state": State(told["state"])})
 
     def would_connect(self, id, peer):
         """The two endpoints of the connection that `connect` would open now, the lesser first; None where it would be refused."""

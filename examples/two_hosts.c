@@ -89,6 +89,7 @@ static void connection(int64_t room)
     uint64_t listener = (uint64_t)host_socket(&b, HOST_KIND_TCP);
     uint64_t caller = (uint64_t)host_socket(&a, HOST_KIND_TCP);
     struct host_endpoint from, pair[2];
+    struct host_info info = {.size = sizeof info};
     uint8_t buffer[1];
     int64_t accepted;
     uint64_t moment;
@@ -109,6 +110,9 @@ static void connection(int64_t room)
     say(&a, caller, &b, (uint64_t)accepted, "hello");
     say(&b, (uint64_t)accepted, &a, caller, "welcome");
     fill(&a, caller, &b, (uint64_t)accepted, room);
+    CHECK(host_info(&a, caller, &info) == 0 && info.state == HOST_STATE_ESTABLISHED && info.held == info.in_flight + info.unsent);
+    CHECK(info.smss == 1460 && info.rto >= 1000 && info.ends == -1 && info.error == 0);
+    CHECK(host_info(&b, listener, &info) == HOST_EOPNOTSUPP);
 
     CHECK(host_shutdown_write(&a, caller) == 0);
     turns();

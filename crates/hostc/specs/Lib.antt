@@ -4,3 +4,4 @@ pub mod Types
 pub mod Calls
 pub mod Config
 pub mod Setup
+pub mod Info

@@ -7,6 +7,7 @@ mod config;
 mod convert;
 mod datagrams;
 mod handle;
+mod info;
 mod link;
 mod parts;
 mod questions;

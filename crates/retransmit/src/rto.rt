@@ -69,6 +69,13 @@ impl Rto {
         self.rto
     }
 
+    /// What the samples tell of the round-trip time; None before the first.
+    pub fn estimate(&self) -> Option<Estimate>
+        ensures { result ≡ self.now.estimate }
+    {
+        self.estimate
+    }
+
     /// Takes a measured round-trip time, in milliseconds, of a segment that went out once
     /// (RFC 6298 sections 2.2, 2.3 and 3). One over a minute counts as a minute.
     pub fn sample(&mut self, milliseconds: u64)

@@ -94,6 +94,7 @@ edge_kept v e = by_event (λ e w. Keeps v w) v (record {
   sends = λ octets taken now opened small. small;
   reads = λ len small. small;
   shuts = λ now small. small;
+  delays = λ on now small. small;
   leaves = λ now lives small. small;
   aborts = λ e now at cause lives small. small;
   refused = λ number hit small. small;

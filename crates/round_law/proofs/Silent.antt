@@ -13,7 +13,7 @@ use Rattle.tcp_state.specs.declared.state.State.TheVariants.{Closed}
 use Rattle.tcp_state.specs.declared.emission.Due.{Due}
 use Rattle.tcp_state.specs.View.{View, IsSound, is_opening, is_syn_sent, is_closed, is_write_finished, awaits_fin_ack, end_of_wait, is_at_end}
 use Rattle.tcp_state.specs.Timing.{KeepsTime, probes, expires, gives_up, after_tick, tick_fate}
-use Rattle.tcp_state.specs.New.{sends_new, sends_fin}
+use Rattle.tcp_state.specs.New.{sends_new, sends_fin, waits_no_longer}
 use Rattle.tcp_state.specs.Hop.{unheard_until, end_of_hop_wait, hop_wait, after_hopless}
 use Rattle.tcp_state.specs.Due.{first_due}
 use Rattle.tcp_state.proofs.OwedAlone.{none_out, unprobed}
@@ -94,7 +94,7 @@ module _ (c : View) (now : Moment) (sound : IsSound c) (keeps : KeepsTime c) (cl
       let few : sendable c.sending c.congestion.cwnd ≡ 0 = omega (arith, held) in
       none_some c.unheard (keeps.unheard
       ∙ (ap (λ b. (outstanding c.sending == 0) && (b || sends_new c || sends_fin c || (c.resend.owes_probe && probes c))) opened
-      ∙ (ap (λ n. (outstanding c.sending == 0) && (nat_lt 0 n && is_worth_sending c.sending c.congestion.cwnd c.resend.overridden || sends_fin c || (c.resend.owes_probe && probes c))) few
+      ∙ (ap (λ n. (outstanding c.sending == 0) && (nat_lt 0 n && is_worth_sending c.sending c.congestion.cwnd (waits_no_longer c) || sends_fin c || (c.resend.owes_probe && probes c))) few
       ∙ (ap (λ b. (outstanding c.sending == 0) && (b && (outstanding c.sending == length c.sending.held) && nat_lt (outstanding c.sending) c.sending.window || (c.resend.owes_probe && probes c))) shut
       ∙ (ap (λ b. (outstanding c.sending == 0) && (c.resend.owes_probe && b)) (unprobed c shut empty)
       ∙ (ap (λ b. (outstanding c.sending == 0) && b) (and_false c.resend.owes_probe)

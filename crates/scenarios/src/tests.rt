@@ -4,6 +4,7 @@ mod calls;
 mod closing;
 mod copies;
 mod datagrams;
+mod delays;
 mod documents;
 mod drops;
 mod endpoints;

@@ -97,6 +97,7 @@ event_past v =
       sends = λ octets taken now open_. record { passive = refl; past = λ past. past };
       reads = λ len. record { passive = refl; past = λ past. past };
       shuts = λ now. record { passive = refl; past = λ past. (beyond v.state past).2 };
+      delays = λ on now. record { passive = refl; past = λ past. past };
       leaves = λ now lives. record { passive = refl; past = λ past. (beyond v.state past).2 };
       aborts = λ e now moment cause lives. record { passive = refl; past = λ past. refl };
       refused = λ number hit. record { passive = refl; past = λ past. refl };

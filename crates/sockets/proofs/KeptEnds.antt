@@ -73,6 +73,7 @@ keeps-event v e =
       sends = λ octets taken now alive. record { local = refl; peer = refl; live = λ lives. lives };
       reads = λ len. record { local = refl; peer = refl; live = λ lives. lives };
       shuts = λ now. keeps-shutdown v now;
+      delays = λ on now. record { local = refl; peer = refl; live = λ lives. lives };
       leaves = λ now alive. record { local = refl; peer = refl; live = λ lives. alive };
       aborts = λ e now moment cause alive. record { local = refl; peer = refl; live = λ lives. alive };
       refused = λ number hit. record { local = refl; peer = refl; live = λ lives. cc };

@@ -83,6 +83,7 @@ since_by last c old =
       sends = λ octets taken now open_ told. old;
       reads = λ len told. old;
       shuts = λ now told. old;
+      delays = λ on now told. old;
       leaves = λ now lives told. chosen (is_fin_wait_2 c.state) (latest c.since now) c.since last (later_of c.since now last old (told now refl)) old;
       aborts = λ e now moment cause lives told. told now moment;
       refused = λ number hit told. old;

@@ -58,6 +58,7 @@ event_left c e kept left =
       sends = λ octets taken now writes kept. left;
       reads = λ len kept. left;
       shuts = λ now kept. rw (shut_closed c.state) left;
+      delays = λ on now kept. left;
       leaves = λ now live kept. rw (shut_closed c.state, live);
       aborts = λ e now moment cause live kept. refl;
       refused = λ number hit kept. unless_over (after_reset c (Some ECONNREFUSED)) (rw hit at kept);

@@ -25,3 +25,4 @@ pub mod Steps
 pub mod Closing
 pub mod Strays
 pub mod Moved
+pub mod Info

@@ -15,3 +15,4 @@ pub mod Turning
 pub mod Writing
 pub mod Storing
 pub mod Viewing
+pub mod Kept

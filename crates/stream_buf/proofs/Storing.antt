@@ -18,7 +18,7 @@ use Rattle.stream_buf.proofs.Joining.{none_before, none_past, kept_behind, kept_
 kept_there : (rs : List Range) (ahead : List ℕ) (k : ℕ) → is_kept rs k ≡ true → kept_at rs ahead k ≡ slice_get ahead k
 kept_there rs ahead k is = ap (λ (b : Bool). if b then slice_get ahead k else None) is
 
-not_kept : (rs : List Range) (ahead : List ℕ) (k : ℕ) → is_kept rs k ≡ false → kept_at rs ahead k ≡ None
+pub not_kept : (rs : List Range) (ahead : List ℕ) (k : ℕ) → is_kept rs k ≡ false → kept_at rs ahead k ≡ None
 not_kept rs ahead k is = ap (λ (b : Bool). if b then slice_get ahead k else None) is
 
 -- none is kept past the octets that are there
@@ -234,7 +234,7 @@ module _ (ahead : List ℕ) where
   abbrev pub places_from : List Range → ℕ → ℕ → List (Option ℕ)
   places_from rs at count = map (kept_at rs ahead) (range_with_len at count)
 
-  places_behind : (r : Range) (rs : List Range) (count at : ℕ) → r.end ≤ at → places_from (r ∷ rs) at count ≡ places_from rs at count
+  pub places_behind : (r : Range) (rs : List Range) (count at : ℕ) → r.end ≤ at → places_from (r ∷ rs) at count ≡ places_from rs at count
   places_behind r rs zero at past = refl
   places_behind r rs (suc count) at past =
       ap (λ (b : Bool). (if b then slice_get ahead at else None) ∷ places_from (r ∷ rs) (at + 1) count) (kept_behind r rs at past)
@@ -245,7 +245,7 @@ module _ (ahead : List ℕ) where
       → ranges_after before (places_from rs at (suc count)) ≡ ranges_after false (places_from rs (at + 1) count)
   gap_first before rs count at none = ap (λ (o : Option ℕ). ranges_after before (o ∷ places_from rs (at + 1) count)) (not_kept rs ahead at none)
 
-  first_there : (rs : List Range) (at : ℕ) → is_kept rs at ≡ true → at < length ahead → kept_at rs ahead at ≡ Some (get_or ahead at 0)
+  pub first_there : (rs : List Range) (at : ℕ) → is_kept rs at ≡ true → at < length ahead → kept_at rs ahead at ≡ Some (get_or ahead at 0)
   first_there rs at kept there = kept_there rs ahead at kept ∙ slice_get-get_or ahead at 0 there
 
   first_begins : (rs : List Range) (count at : ℕ) → is_kept rs at ≡ true → at < length ahead
@@ -274,7 +274,7 @@ module _ (ahead : List ℕ) where
   others_of_none r [] at low high apart within reach = refl
   others_of_none r (s ∷ rs) at low high apart within reach = absurd (omega (arith, high, apart.0, apart.1, within.1.0))
 
-  in_first : (r : Range) (rs : List Range) (at : ℕ) → r.start ≤ at → at < r.end → is_kept (r ∷ rs) at ≡ true
+  pub in_first : (r : Range) (rs : List Range) (at : ℕ) → r.start ≤ at → at < r.end → is_kept (r ∷ rs) at ≡ true
   in_first r rs at low high = ap (λ (b : Bool). b || is_kept rs at) (in_here at r.start r.end low high)
 
   all_of_more : (count : ℕ) → CountsAll count → CountsOthers count → CountsAll (suc count)

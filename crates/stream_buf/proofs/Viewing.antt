@@ -1,16 +1,17 @@
 -- What a receive buffer is seen as, by its ring and its ranges.
-use Rattle.std.proofs.Common.{◌≡◌, ℕ, ◌+◌, ◌-◌, ◌<◌, ◌≤◌, min, nat_le, Bool, true, false, if◌then◌else◌, inl, inr, List, [], ◌∷◌, ◌++◌, length, map, take, drop, replicate, Option, None, refl, sym, ◌∙◌, ap, subst, length-append, arith}
+use Rattle.std.proofs.Common.{◌≡◌, ℕ, ◌+◌, ◌-◌, ◌<◌, ◌≤◌, ◌^◌, min, nat_le, Bool, true, false, if◌then◌else◌, inl, inr, List, [], ◌∷◌, ◌++◌, length, map, take, drop, replicate, Option, None, refl, sym, ◌∙◌, ap, subst, length-append, arith}
 use Rattle.std.proofs.Math.Seq.{take-add}
 use Rattle.std.proofs.lemmas.Bool.{cases_eq, leb-true, le-leb}
 use Rattle.std.proofs.lemmas.List.{append-nil, length-replicate, length-take, length-drop, take-take, take-append-le, drop-append-le, drop-drop, drop-take}
 use Rattle.stream_buf.specs.Ring.{Buffer, buffer, overlaid}
 use Rattle.stream_buf.specs.declared.ranges.Range.{Range}
-use Rattle.stream_buf.specs.Ranges.{range, AreApart, AreWithin, with_range, further}
-use Rattle.stream_buf.specs.Receiving.{ReceiveView, nothing_received, front, behind_front, ranges, laid, is_taken, joined, after_insert, read_count, after_read, after_forgetting, IsReceiving}
+use Rattle.stream_buf.specs.Ranges.{range, covered, AreApart, AreWithin, with_range, further}
+use Rattle.stream_buf.specs.Receiving.{ReceiveView, nothing_received, front, behind_front, ranges, kept_count, laid, is_taken, joined, after_insert, read_count, after_read, after_forgetting, IsReceiving}
 use Rattle.stream_buf.specs.Stored.{kept_places, receive_view, IsStored, filled_to, laid_at}
 use Rattle.stream_buf.proofs.Inserting.{front_ahead, all_behind, laid_none, ranges_laid_none}
 use Rattle.stream_buf.proofs.Taking.{taken_first, taken_ahead}
 use Rattle.stream_buf.proofs.Joining.{apart_with, within_with, within_further, within_nearer}
+use Rattle.stream_buf.proofs.Kept.{covered_within, octets_kept}
 use Rattle.stream_buf.proofs.Storing.{length-kept, none_kept, kept_more, kept_laid, length-laid_at, front_joined, behind_joined, ranges_kept, gap_kept}
 
 abbrev view : List ℕ → List (Option ℕ) → ℕ → ReceiveView
@@ -90,6 +91,12 @@ module _ (octets : Buffer) (n : ℕ) (rs : List Range) (stored : IsStored octets
 
   pub ranges_viewed : ranges (receive_view octets n rs).kept ≡ length rs
   ranges_viewed = ranges_kept rs (drop n octets.items) (octets.capacity - n) stored.apart reach fits_ahead
+
+  pub octets_viewed : kept_count (receive_view octets n rs).kept ≡ covered rs
+  octets_viewed = octets_kept rs (drop n octets.items) (octets.capacity - n) stored.apart reach fits_ahead
+
+  pub few_covered : covered rs < 2 ^ 64
+  few_covered = omega (arith, covered_within rs (length octets.items - n) stored.apart stored.ahead, stored.fits.0, stored.fits.1)
 
   pub receives : IsReceiving (receive_view octets n rs)
   receives = record {

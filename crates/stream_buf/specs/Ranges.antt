@@ -1,9 +1,13 @@
 -- Ranges of places ahead of a gap, and how they join. The contracts of `RecvBuf` do not rest on this page.
-use Rattle.std.specs.Prelude.{ℕ, suc, ◌+◌, ◌-◌, ◌<◌, ◌≤◌, ◌&&◌, nat_lt, nat_le, min, max, Bool, if◌then◌else◌, List, [], ◌∷◌}
+use Rattle.std.specs.Prelude.{ℕ, suc, ◌+◌, ◌-◌, ◌<◌, ◌≤◌, ◌&&◌, nat_lt, nat_le, min, max, Bool, if◌then◌else◌, List, [], ◌∷◌, sum_by}
 use Rattle.stream_buf.specs.declared.ranges.Range.{Range}
 
 abbrev pub range : ℕ → ℕ → Range
 range start end = record { start = start; end = end }
+
+-- how many places these ranges have
+abbrev pub covered : List Range → ℕ
+covered ranges = sum_by (λ r. r.end - r.start) ranges
 
 -- two ranges have a place in common, or one begins where the other ends
 abbrev pub touches : Range → Range → Bool

@@ -35,6 +35,12 @@ ranges_after false (Some octet ∷ places) = suc (ranges_after true places)
 abbrev pub ranges : List (Option ℕ) → ℕ
 ranges places = ranges_after false places
 
+-- how many octets are kept ahead of a gap
+abbrev pub kept_count : List (Option ℕ) → ℕ
+kept_count [] = 0
+kept_count (None ∷ places) = kept_count places
+kept_count (Some octet ∷ places) = suc (kept_count places)
+
 -- these octets stand at the places from a distance on, over what stood there
 abbrev pub laid : List (Option ℕ) → ℕ → List ℕ → List (Option ℕ)
 laid places distance octets = take distance places ++ map (λ octet. Some octet) octets ++ drop (distance + length octets) places

@@ -1,7 +1,7 @@
 //! Ranges of octets that are kept ahead of a gap.
 
-ghost use Rattle.std.specs.Prelude.{◌≡◌, ℕ, ◌+◌, ◌<◌, ◌≤◌, [], ◌∷◌, length, insert, map, count_by};
-ghost use Rattle.stream_buf.specs.Ranges.{AreApart, range, hull, touches, with_range, nearer, further};
+ghost use Rattle.std.specs.Prelude.{◌≡◌, ℕ, ◌+◌, ◌<◌, ◌≤◌, ◌^◌, [], ◌∷◌, length, insert, map, count_by};
+ghost use Rattle.stream_buf.specs.Ranges.{AreApart, range, covered, hull, touches, with_range, nearer, further};
 
 use crate::receive::MOST_RANGES;
 use arrayvec::ArrayVec;
@@ -79,6 +79,17 @@ impl Ranges {
         ensures { result ≡ length self.now }
     {
         self.list.len()
+    }
+
+    /// How many places they have.
+    pub(crate) fn places(&self) -> usize
+        requires { covered self.now < 2 ^ 64 }
+        ensures { result ≡ covered self.now }
+    {
+        self.list
+            .iter()
+            .map(|range| range.end.saturating_sub(range.start))
+            .sum()
     }
 
     /// How many there would be with one more, which may join some of them.

@@ -1,7 +1,7 @@
 //! The octets that came.
 
 ghost use Rattle.std.specs.Prelude.{◌≡◌, ◌+◌, ◌<◌, ◌≤◌, ◌++◌, true, length, drop, IfOk};
-ghost use Rattle.stream_buf.specs.Receiving.{nothing_received, ranges, is_taken, joined, after_insert, read_count, read_octets, after_read, after_forgetting, IsReceiving};
+ghost use Rattle.stream_buf.specs.Receiving.{nothing_received, ranges, kept_count, is_taken, joined, after_insert, read_count, read_octets, after_read, after_forgetting, IsReceiving};
 
 use crate::ranges::{Range, Ranges};
 use crate::ring::Ring;
@@ -122,6 +122,13 @@ impl RecvBuf {
         ensures { result ≡ ranges self.now.kept }
     {
         self.ranges.len()
+    }
+
+    /// How many octets are kept ahead of a gap.
+    pub fn kept_len(&self) -> usize
+        ensures { result ≡ kept_count self.now.kept }
+    {
+        self.ranges.places()
     }
 
     /// How many octets it holds at most.

@@ -1,7 +1,7 @@
 //! The receiving half: what came in order and the caller has not read, and what came ahead of a gap (RFC 9293 section 3.3.1).
 
 ghost use Rattle.std.specs.Prelude.{◌≡◌, ◌+◌, ◌%◌, ◌^◌, ◌≤◌, ◌<◌, ◌++◌, ◌==◌, ◌*◌, length, take, drop, min};
-ghost use Rattle.stream_buf.specs.Receiving.{nothing_received, ranges, IsReceiving};
+ghost use Rattle.stream_buf.specs.Receiving.{nothing_received, ranges, kept_count, IsReceiving};
 ghost use Rattle.tcp_halves.specs.Halves.{Receiving};
 ghost use Rattle.tcp_halves.specs.Stream.{receive_window, is_in_window, is_acceptable, receiving_nothing, receiving_settled, buffer_of, after_syn, distance_of, octets_within, after_octets, after_read, stands_next, after_end, ReceivingFits, KeptInWindow};
 ghost use Rattle.tcp_segment.specs.Wire.{past};
@@ -76,6 +76,20 @@ impl Receiver {
         ensures { result ≡ (length self.now.readable == 0) }
     {
         self.buffer.readable_len() == 0
+    }
+
+    /// How many octets came in order that the caller has not read.
+    pub fn readable_len(&self) -> usize
+        ensures { result ≡ length self.now.readable }
+    {
+        self.buffer.readable_len()
+    }
+
+    /// How many octets are kept ahead of a gap.
+    pub fn kept_len(&self) -> usize
+        ensures { result ≡ kept_count self.now.kept }
+    {
+        self.buffer.kept_len()
     }
 
     /// RCV.NXT, the number that is expected next.
@@ -163,7 +177,7 @@ impl Receiver {
     }
 
     /// RCV.WND, the window that is advertised and not used up.
-    fn window(&self) -> u32
+    pub fn window(&self) -> u32
         ensures { result ≡ receive_window self.now }
     {
         self.edge.past(self.rnext)

@@ -8,7 +8,7 @@ ghost use Rattle.tcp_segment.specs.Wire.{past};
 ghost use Rattle.tcp_halves.specs.declared.buffers.TheConstants.{LARGEST_CAPACITY};
 ghost use Rattle.tcp_halves.specs.Halves.{Sending};
 ghost use Rattle.tcp_halves.specs.Stream.{size_in, peer_unit, send_room, outstanding, is_new_ack, sending_from, sending_settled, after_syn_acknowledged, after_acknowledged, after_sent};
-ghost use Rattle.tcp_halves.specs.Windows.{window_in, hears_next, after_syn_heard, after_window_update, open_window, unsent, usable, sendable, next_count, is_worth_sending, waits_for_more};
+ghost use Rattle.tcp_halves.specs.Windows.{window_in, hears_next, after_syn_heard, after_window_update, open_window, unsent, usable, sendable, next_count, takes_enough, is_worth_sending, waits_for_more};
 
 use crate::buffers::size_in;
 use std::marker::Model;
@@ -241,7 +241,7 @@ impl Sender {
     }
 
     /// How many octets are held that have not gone out.
-    fn unsent(&self) -> usize
+    pub fn unsent(&self) -> usize
         ensures { result ≡ unsent self.now }
     {
         self.held_len().saturating_sub(self.outstanding() as usize)
@@ -275,17 +275,20 @@ impl Sender {
         self.sendable(cwnd).min(self.smss())
     }
 
-    /// Whether a segment of new octets is worth its way (RFC 9293 section 3.8.6.2.1), where they waited as long as they may or
-    /// didn't: the sender's silly window avoidance, with the Nagle algorithm (section 3.7.4).
+    /// Whether the new octets that may go out are all that is held, or half the largest window that the peer ever advertised.
+    pub fn takes_enough(&self, cwnd: u32) -> bool
+        ensures { result ≡ takes_enough self.now cwnd }
+    {
+        self.unsent() <= self.usable(cwnd) || self.max_window as usize <= 2 * self.sendable(cwnd)
+    }
+
+    /// Whether a segment of new octets is worth its way (RFC 9293 section 3.8.6.2.1), where they need not wait for more or need to: the
+    /// sender's silly window avoidance, with the Nagle algorithm (section 3.7.4).
     pub fn is_worth_sending(&self, cwnd: u32, is_overridden: bool) -> bool
         ensures { result ≡ is_worth_sending self.now cwnd is_overridden }
     {
-        let sendable = self.sendable(cwnd);
         let is_idle = self.outstanding() == 0;
-        self.smss() <= sendable
-            || is_idle
-                && (self.unsent() <= self.usable(cwnd) || self.max_window as usize <= 2 * sendable)
-            || is_overridden
+        self.smss() <= self.sendable(cwnd) || is_idle && self.takes_enough(cwnd) || is_overridden
     }
 
     /// Whether new octets that may go out wait for more.

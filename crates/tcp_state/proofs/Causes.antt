@@ -17,7 +17,7 @@ use Rattle.tcp_state.specs.Due.{first_due}
 use Rattle.tcp_state.specs.Unreachable.{is_unreachable, after_unreachable}
 use Rattle.clock.specs.Moments.{has_come}
 use Rattle.tcp_state.specs.Hop.{unheard_until}
-use Rattle.tcp_state.specs.Edges.{Event, Hears, Ticks, Emits, Sends, Receives, Shuts, Closes, Aborts, Unreachable, LosesHop, after_first, after_event, fate_by, is_removed, is_reset_by, is_last_ack, ends_by_ack, is_cause, ends_by}
+use Rattle.tcp_state.specs.Edges.{Event, Hears, Ticks, Emits, Sends, Receives, Shuts, SetsNoDelay, Closes, Aborts, Unreachable, LosesHop, after_first, after_event, fate_by, is_removed, is_reset_by, is_last_ack, ends_by_ack, is_cause, ends_by}
 use Rattle.tcp_state.proofs.Clocked.{timers_keep, emission_keeps}
 pub use Rattle.tcp_halves.proofs.Choices.{both, or_left, or_right, or_else, not_true, of_false}
 use Rattle.tcp_halves.proofs.Choices.{either, by, clash, and_left, and_right, else_chosen}
@@ -204,6 +204,7 @@ removal_caused v (LosesHop now) lives e =
 removal_caused v (Sends octets now) lives e = cc
 removal_caused v (Receives len) lives e = cc
 removal_caused v (Shuts now) lives e = cc
+removal_caused v (SetsNoDelay on now) lives e = cc
 
 -- .. and so has what becomes CLOSED
 closing_caused : (v : View) (e : Event) → is_closed v.state ≡ false → is_closed (after_event v e).state ≡ true → is_cause v e ≡ true
@@ -217,6 +218,7 @@ closing_caused v e lives = by_event (λ e w. is_closed w.state ≡ true → is_c
   sends = λ octets taken now opened closed. clash (is_closed v.state) closed lives;
   reads = λ len closed. clash (is_closed v.state) closed lives;
   shuts = λ now closed. clash (is_closed (beyond_shutdown v.state)) closed (shut_closes_none v.state lives);
+  delays = λ on now closed. clash (is_closed v.state) closed lives;
   leaves = λ now remains closed. clash (is_closed (beyond_shutdown v.state)) closed (shut_closes_none v.state lives);
   aborts = λ e now at cause remains closed. cause;
   refused = λ number hit closed. hit;

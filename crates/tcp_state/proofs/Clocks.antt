@@ -14,14 +14,15 @@ use Rattle.tcp_halves.specs.Stream.{outstanding}
 use Rattle.tcp_state.specs.Resend.{Resend, stopped, resend_acknowledged}
 use Rattle.tcp_state.specs.View.{View, is_opening, is_syn_sent, is_syn_received, is_closed, is_fin_wait_2}
 use Rattle.tcp_state.specs.Timing.{probes, retransmits, awaits_more, running, clocked, expires, retransmission_expired, probe_expired, after_expiry, delayed_ack_expired, after_timers}
-use Rattle.tcp_state.specs.Calls.{latest, aborted_at}
+use Rattle.tcp_state.specs.Calls.{told_nodelay, latest, aborted_at}
 use Rattle.tcp_state.specs.Arrival.{after_heard, acknowledges_unsent, is_rejected, is_acceptable_to, answers_probe, timed_by, before, since_after, is_moved, resend_heard, resend_after, congestion_after}
 use Rattle.tcp_state.specs.Due.{first_due, after_going_out}
-use Rattle.tcp_state.specs.Edges.{Event, Hears, Ticks, Emits, Sends, Receives, Shuts, Closes, Unreachable, LosesHop, moment_of, after_first, after_event}
+use Rattle.tcp_state.specs.Edges.{Event, Hears, Ticks, Emits, Sends, Receives, Shuts, SetsNoDelay, Closes, Unreachable, LosesHop, moment_of, after_first, after_event}
 use Rattle.tcp_halves.proofs.Choices.{either, clash, and_left, and_right, both, or_left, or_right, not_true, of_false}
 use Rattle.tcp_state.proofs.Segments.{by_clock}
 use Rattle.tcp_state.proofs.Events.{holding, shut, by_event}
 use Rattle.tcp_state.proofs.Clocked.{heard_paced, after_paced}
+use Rattle.tcp_state.proofs.Timers.{none_left}
 use Rattle.tcp_state.proofs.Resends.{segment_hears, goes_out}
 
 -- a timer began at the moment of the event, for the timeout
@@ -320,6 +321,15 @@ clocks v = by_event (Clocks v) v (record {
   sends = λ octets taken now opened. called (holding v taken) (Sends octets now) now refl refl refl;
   reads = λ len. stays v _ (Receives len) refl refl;
   shuts = λ now. called (shut v v.released v.since) (Shuts now) now refl refl refl;
+  delays = λ on now. sets v (told_nodelay v on) (SetsNoDelay on now) false now refl (λ moves. cc) (record {
+    runs = λ lives was runs. inl runs;
+    none_runs = λ none. none;
+    probe = λ lives was runs. inl (runs, refl);
+    no_probe = λ none. none;
+    expiries = inl refl;
+    overridden = λ none over. let bad : true ≡ false = sym over ∙ none in cc;
+    no_override = λ none. none_left (awaits_more (record v { nodelay = on })) v.timers.overriding none;
+  });
   leaves = λ now lives. called (shut v true (if is_fin_wait_2 v.state then latest v.since now else v.since)) (Closes now) now refl refl refl;
   aborts = λ e now at cause lives. stops v (aborted_at v now) e refl refl refl;
   refused = λ number hit. stops v _ (Unreachable number) refl refl refl;

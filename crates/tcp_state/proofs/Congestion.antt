@@ -28,7 +28,7 @@ use Rattle.tcp_state.specs.Arrival.{opened_passively, is_receiving, beyond_fin, 
 use Rattle.tcp_state.specs.Due.{after_syn_ack_paid, after_syn_out, after_going_out, first_due}
 use Rattle.tcp_state.specs.Unreachable.{is_unreachable}
 use Rattle.tcp_state.specs.Hop.{unheard_until}
-use Rattle.tcp_state.specs.Edges.{Event, Hears, Ticks, Emits, Sends, Receives, Shuts, Closes, Aborts, Unreachable, LosesHop, after_first, after_event, congestion_event_at, congestion_event_by}
+use Rattle.tcp_state.specs.Edges.{Event, Hears, Ticks, Emits, Sends, Receives, Shuts, SetsNoDelay, Closes, Aborts, Unreachable, LosesHop, after_first, after_event, congestion_event_at, congestion_event_by}
 use Rattle.tcp_state.proofs.Clocked.{by_others, emission_keeps, heard_paced, after_paced, signalled}
 use Rattle.tcp_halves.proofs.Choices.{either, by, clash, and_left, and_right, or_left, or_right}
 use Rattle.tcp_state.proofs.Segments.{by_fin, by_ack, by_hearing, by_clock}
@@ -300,6 +300,7 @@ moves v (Receives len) =
     either View (Moves v Nothing) (is_some v.pending_error || is_opening v.state || (length v.receiving.readable == 0)) v _ (λ nothing. still v v refl refl (λ begun. begun)) (λ some. still v _ refl refl (λ begun. begun))
 moves v (Shuts now) =
     either View (Moves v Nothing) (is_some (shutdown_refusal v)) v (after_shutdown v now) (λ refused. still v v refl refl (λ begun. begun)) (λ shuts. still v _ refl refl (shut_begun v.state))
+moves v (SetsNoDelay on now) = still v _ refl refl (λ begun. begun)
 moves v (Closes now) =
     either View (Moves v Nothing) (is_removed_by_close v) v _ (λ removed. still v v refl refl (λ begun. begun))
     (λ stays. either View (Moves v Nothing) (is_aborted_by_close v) (aborted_at v now) (after_release v now) (λ aborts. still v _ refl refl (λ begun. cc)) (λ leaves_it. still v _ refl refl (shut_begun v.state)))

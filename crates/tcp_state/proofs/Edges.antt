@@ -121,6 +121,7 @@ event-edge v = by_event (λ e w. IsEdge v.state w.state) v (record {
   sends = λ octets taken now opened. inl refl;
   reads = λ len. inl refl;
   shuts = λ now. shuts v.state;
+  delays = λ on now. inl refl;
   leaves = λ now lives. shuts v.state;
   aborts = λ e now at cause lives. closes v.state;
   refused = λ number hit. closes v.state;

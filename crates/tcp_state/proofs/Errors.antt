@@ -127,6 +127,7 @@ tells v = by_event (Tells v) v (record {
   sends = λ octets taken now opened. inl refl;
   reads = λ len. inl refl;
   shuts = λ now. inl refl;
+  delays = λ on now. inl refl;
   leaves = λ now lives. inl refl;
   aborts = λ e now at cause lives. inl refl;
   refused = λ number hit. let waits = waiting_where v number hit in inr (record {

@@ -8,12 +8,12 @@ use Rattle.tcp_state.specs.declared.calls.Refusal.TheVariants.{ECONNREFUSED, ETI
 use Rattle.tcp_halves.specs.Stream.{after_read}
 use Rattle.tcp_state.specs.View.{View, is_opening, is_closed, is_syn_sent, is_write_closed, is_at_end, after_stop, after_reset}
 use Rattle.tcp_state.specs.Timing.{clocked, gives_up, after_timers}
-use Rattle.tcp_state.specs.Calls.{send_count, recv_count, with_octets, beyond_shutdown, shutdown_refusal, after_shutdown, aborted_at, after_release, is_removed_by_close, is_aborted_by_close}
+use Rattle.tcp_state.specs.Calls.{send_count, recv_count, with_octets, beyond_shutdown, shutdown_refusal, after_shutdown, after_set_nodelay, aborted_at, after_release, is_removed_by_close, is_aborted_by_close}
 use Rattle.tcp_state.specs.Arrival.{after_heard, is_rejected, before, timed_by}
 use Rattle.tcp_state.specs.Due.{first_due}
 use Rattle.tcp_state.specs.Unreachable.{is_unreachable}
 use Rattle.tcp_state.specs.Hop.{unheard_until}
-use Rattle.tcp_state.specs.Edges.{Event, Hears, Ticks, Emits, Sends, Receives, Shuts, Closes, Aborts, Unreachable, LosesHop, moment_of, after_first, after_event, is_cause}
+use Rattle.tcp_state.specs.Edges.{Event, Hears, Ticks, Emits, Sends, Receives, Shuts, SetsNoDelay, Closes, Aborts, Unreachable, LosesHop, moment_of, after_first, after_event, is_cause}
 use Rattle.tcp_halves.proofs.Choices.{either, neither, or_right}
 
 -- octets are taken to be sent
@@ -25,7 +25,7 @@ abbrev pub shut : View → Bool → Moment → View
 shut v released since = record v { state = beyond_shutdown v.state; released = released; since = since }
 
 -- What each event may make of a connection: most leave it as it is, each for a reason of its own. A segment is heard; its wait is over, it is given up, or a timer
--- acts; something goes out; octets are taken to be sent, or read; our side closes, and with it its caller may leave; it is aborted; its SYN can't be delivered; and it
+-- acts; something goes out; octets are taken to be sent, or read; our side closes, and with it its caller may leave; small segments wait from now on, or don't; it is aborted; its SYN can't be delivered; and it
 -- waited for its hop as long as it may.
 pub record ByEvent (P : Event → View → Type 0) (v : View) : Type 0 where
   pub same : (e : Event) → P e v
@@ -37,6 +37,7 @@ pub record ByEvent (P : Event → View → Type 0) (v : View) : Type 0 where
   pub sends : (octets taken : List ℕ) (now : Moment) → is_write_closed v.state ≡ false → P (Sends octets now) (clocked false (holding v taken) now)
   pub reads : (len : ℕ) → P (Receives len) (record v { receiving = after_read v.receiving (recv_count v len) })
   pub shuts : (now : Moment) → P (Shuts now) (after_shutdown v now)
+  pub delays : (on : Bool) (now : Moment) → P (SetsNoDelay on now) (after_set_nodelay v on now)
   pub leaves : (now : Moment) → is_closed v.state ≡ false → P (Closes now) (after_release v now)
   pub aborts : (e : Event) (now : Moment) → moment_of e ≡ Some now → is_cause v e ≡ true → is_closed v.state ≡ false → P e (aborted_at v now)
   pub refused : (number : ℕ) → is_unreachable v number ≡ true → P (Unreachable number) (after_reset v (Some ECONNREFUSED))
@@ -61,6 +62,7 @@ by_event P v cases (Receives len) =
     let e = Receives len in
     either View (P e) (is_some v.pending_error || is_opening v.state || (length v.receiving.readable == 0)) v _ (λ nothing. cases.same e) (λ some. cases.reads len)
 by_event P v cases (Shuts now) = let e = Shuts now in either View (P e) (is_some (shutdown_refusal v)) v (after_shutdown v now) (λ refused. cases.same e) (λ shuts. cases.shuts now)
+by_event P v cases (SetsNoDelay on now) = cases.delays on now
 by_event P v cases (Closes now) =
     let e = Closes now in
     either View (P e) (is_removed_by_close v) v _ (λ removed. cases.same e)

@@ -1,5 +1,5 @@
 -- What is new goes out, where the windows take it, and what was lost.
-use Rattle.std.proofs.Common.{◌≡◌, ℕ, ◌+◌, ◌*◌, ◌<◌, ◌≤◌, ◌==◌, ◌&&◌, ◌||◌, ◌⊎◌, not, nat_lt, nat_le, min, if◌then◌else◌, true, false, length, Some, None, is_some, inl, inr, arith, refl, ◌∙◌, ap, ap₂}
+use Rattle.std.proofs.Common.{◌≡◌, ℕ, ◌+◌, ◌-◌, ◌*◌, ◌<◌, ◌≤◌, ◌==◌, ◌&&◌, ◌||◌, ◌⊎◌, not, nat_lt, nat_le, min, if◌then◌else◌, true, false, length, Some, None, is_some, inl, inr, arith, refl, ◌∙◌, ap, ap₂}
 use Rattle.std.specs.Option.{option_or}
 use Rattle.std.proofs.lemmas.Bool.{eq-eqb, lt-ltb, le-ltb, le-leb}
 use Rattle.std.proofs.lemmas.Bool.Decides.{eqb_tells}
@@ -8,11 +8,11 @@ use Rattle.tcp_state.specs.declared.emission.Stretch.{Stretch}
 use Rattle.tcp_state.specs.declared.state.State.{State}
 use Rattle.tcp_state.specs.declared.state.State.TheVariants.{Closed, SynSent, SynReceived, FinWait1, Closing, LastAck}
 use Rattle.tcp_halves.specs.Stream.{outstanding}
-use Rattle.tcp_halves.specs.Windows.{open_window, unsent, usable, sendable, is_worth_sending}
+use Rattle.tcp_halves.specs.Windows.{open_window, unsent, usable, sendable, takes_enough, is_worth_sending}
 use Rattle.tcp_halves.proofs.Choices.{both, and_false, or_left, or_right, unowed}
 use Rattle.tcp_state.specs.View.{View, IsSound, is_opening, is_closed, is_write_finished, awaits_fin_ack}
 use Rattle.tcp_state.specs.Timing.{probes, has_unacknowledged}
-use Rattle.tcp_state.specs.New.{sends_new, sends_fin}
+use Rattle.tcp_state.specs.New.{sends_new, sends_fin, waits_no_longer}
 use Rattle.tcp_state.specs.Due.{first_due, again, goes_again, again_from, new_due, ack_due, new_octets, fin_alone}
 use Rattle.tcp_state.proofs.Signals.{flies_open}
 
@@ -54,8 +54,8 @@ full_goes_out v sound unmarked held window cwnd =
     let n = sendable v.sending v.congestion.cwnd in
     let least = sound.segment_least in
     let full : v.sending.smss ≤ n = omega (arith, held, window, cwnd) in
-    let worth : is_worth_sending v.sending v.congestion.cwnd v.resend.overridden ≡ true =
-    or_left (nat_le v.sending.smss n || ((outstanding v.sending == 0) && (nat_le (unsent v.sending) (usable v.sending v.congestion.cwnd) || nat_le v.sending.max_window (2 * n)))) v.resend.overridden
+    let worth : is_worth_sending v.sending v.congestion.cwnd (waits_no_longer v) ≡ true =
+    or_left (nat_le v.sending.smss n || ((outstanding v.sending == 0) && takes_enough v.sending v.congestion.cwnd)) (waits_no_longer v)
     (or_left (nat_le v.sending.smss n) _ (le-leb v.sending.smss n full)) in
     let sends : sends_new v ≡ true = both (nat_lt 0 n) _ (lt-ltb 0 n (omega (arith, full, least))) worth in
     new_first v sound (open_with v.sending.size v.state (length v.sending.held) (omega (arith, held, least)) sound.held) unmarked ∙ octets_due v v.sending.smss sends (omega (arith, full))
@@ -67,8 +67,8 @@ idle : (v : View) → IsSound v → v.resend.mark ≡ None → v.sending.nxt ≡
 idle v sound unmarked none some enough =
     let n = sendable v.sending v.congestion.cwnd in
     let out : outstanding v.sending ≡ 0 = omega (arith, none, sound.una) in
-    let worth : is_worth_sending v.sending v.congestion.cwnd v.resend.overridden ≡ true =
-    or_left (nat_le v.sending.smss n || ((outstanding v.sending == 0) && (nat_le (unsent v.sending) (usable v.sending v.congestion.cwnd) || nat_le v.sending.max_window (2 * n)))) v.resend.overridden
+    let worth : is_worth_sending v.sending v.congestion.cwnd (waits_no_longer v) ≡ true =
+    or_left (nat_le v.sending.smss n || ((outstanding v.sending == 0) && takes_enough v.sending v.congestion.cwnd)) (waits_no_longer v)
     (or_right (nat_le v.sending.smss n) _ (both (outstanding v.sending == 0) _ (eq-eqb (outstanding v.sending) 0 out) enough)) in
     let sends : sends_new v ≡ true = both (nat_lt 0 n) _ (lt-ltb 0 n some) worth in
     new_first v sound (open_with v.sending.size v.state (length v.sending.held) (omega (arith, some)) sound.held) unmarked
@@ -94,13 +94,29 @@ half_goes_out v sound unmarked none some half =
     idle v sound unmarked none (omega (arith, all, some)) (or_right (nat_le (unsent v.sending) (usable v.sending v.congestion.cwnd)) _ (le-leb v.sending.max_window (2 * n) (omega (arith, all, half))))
     ∙ ap (λ k. Some (Text (record { offset = 0; count = min k v.sending.smss; fin = false }))) all
 
+-- without delay, what is held goes out whatever is outstanding
+pub small_goes_out : (v : View) → IsSound v → v.nodelay ≡ true → v.resend.mark ≡ None → outstanding v.sending < length v.sending.held → length v.sending.held ≤ v.sending.window → length v.sending.held ≤ v.congestion.cwnd
+    → first_due v ≡ Some (Text (record { offset = outstanding v.sending; count = min (length v.sending.held - outstanding v.sending) v.sending.smss; fin = false }))
+small_goes_out v sound undelayed unmarked some window cwnd =
+    let n = sendable v.sending v.congestion.cwnd in
+    let all : n ≡ length v.sending.held - outstanding v.sending = omega (arith, window, cwnd) in
+    let enough : takes_enough v.sending v.congestion.cwnd ≡ true =
+    or_left (nat_le (unsent v.sending) (usable v.sending v.congestion.cwnd)) _ (le-leb (unsent v.sending) (usable v.sending v.congestion.cwnd) (omega (arith, window, cwnd))) in
+    let waits_not : waits_no_longer v ≡ true = or_left (v.nodelay && takes_enough v.sending v.congestion.cwnd) v.resend.overridden (both v.nodelay _ undelayed enough) in
+    let worth : is_worth_sending v.sending v.congestion.cwnd (waits_no_longer v) ≡ true =
+    or_right (nat_le v.sending.smss n || ((outstanding v.sending == 0) && takes_enough v.sending v.congestion.cwnd)) (waits_no_longer v) waits_not in
+    let sends : sends_new v ≡ true = both (nat_lt 0 n) _ (lt-ltb 0 n (omega (arith, all, some))) worth in
+    new_first v sound (open_with v.sending.size v.state (length v.sending.held) (omega (arith, some)) sound.held) unmarked
+    ∙ octets_due v (min n v.sending.smss) sends refl
+    ∙ ap (λ m. Some (Text (record { offset = outstanding v.sending; count = min m v.sending.smss; fin = false }))) all
+
 -- The FIN.
 
 pub fin_goes_out : (v : View) → IsSound v → v.resend.mark ≡ None → awaits_fin_ack v.state ≡ true → outstanding v.sending ≡ length v.sending.held → outstanding v.sending < v.sending.window
     → first_due v ≡ Some (Text (record { offset = length v.sending.held; count = 0; fin = true }))
 fin_goes_out v sound unmarked waits all room =
     let none : sendable v.sending v.congestion.cwnd ≡ 0 = omega (arith, all) in
-    let none_new : sends_new v ≡ false = ap (λ n. nat_lt 0 n && is_worth_sending v.sending v.congestion.cwnd v.resend.overridden) none in
+    let none_new : sends_new v ≡ false = ap (λ n. nat_lt 0 n && is_worth_sending v.sending v.congestion.cwnd (waits_no_longer v)) none in
     let one = awaits_fin_ack v.state && (outstanding v.sending == length v.sending.held) in
     let sends : sends_fin v ≡ true = both one (nat_lt (outstanding v.sending) v.sending.window)
     (both (awaits_fin_ack v.state) (outstanding v.sending == length v.sending.held) waits (eq-eqb (outstanding v.sending) (length v.sending.held) all)) (lt-ltb (outstanding v.sending) v.sending.window room) in
@@ -114,7 +130,7 @@ pub probe_goes_out : (v : View) → IsSound v → v.resend.mark ≡ None → v.r
 probe_goes_out v sound unmarked owes shut has =
     let open_yet : IsOpen v.state = elim has [ inl some ↦ open_with v.sending.size v.state (length v.sending.held) some sound.held | inr waits ↦ open_until v.state waits ] in
     let none : sendable v.sending v.congestion.cwnd ≡ 0 = omega (arith, shut) in
-    let none_new : sends_new v ≡ false = ap (λ n. nat_lt 0 n && is_worth_sending v.sending v.congestion.cwnd v.resend.overridden) none in
+    let none_new : sends_new v ≡ false = ap (λ n. nat_lt 0 n && is_worth_sending v.sending v.congestion.cwnd (waits_no_longer v)) none in
     let one = awaits_fin_ack v.state && (outstanding v.sending == length v.sending.held) in
     let no_fin : sends_fin v ≡ false = ap (λ b. one && b) (le-ltb (outstanding v.sending) v.sending.window (omega (arith, shut))) ∙ and_false one in
     let unacknowledged : has_unacknowledged v ≡ true = elim has [

@@ -19,7 +19,7 @@ use Rattle.tcp_state.specs.Resend.{stopped}
 use Rattle.tcp_state.specs.New.{sends_new, sends_fin}
 use Rattle.tcp_state.specs.Timing.{KeepsTime, probes, waiting_since, awaits_first, clocked, retransmission_expired, probe_expired, after_timers}
 use Rattle.tcp_state.specs.Hop.{end_of_hop_wait, unheard_until, after_hopless}
-use Rattle.tcp_state.specs.Calls.{latest}
+use Rattle.tcp_state.specs.Calls.{told_nodelay, latest}
 use Rattle.tcp_state.specs.Arrival.{is_receiving, after_ack, after_window, after_text, after_heard, is_moved, before, since_after, resend_after, congestion_after}
 use Rattle.tcp_state.specs.Due.{MayGoOut, IsHeld, first_due, new_due, again_from, new_octets, fin_alone, probe_stretch, octets_of_stretch, after_resent, after_first_sent, after_numbers, after_new_octets, brings_new_octets, after_syn_out, after_syn_ack_paid, after_going_out, end_of}
 use Rattle.tcp_state.specs.Edges.{Event, LosesHop, moment_of, after_first, after_event, fate_by, is_removed, left_by, state_after}
@@ -204,6 +204,7 @@ follows v = by_event (λ e w. Follows v.unheard (moment_of e) w.unheard) v (reco
   sends = λ octets taken now opened. ticked v (holding v taken) false now refl;
   reads = λ len. inl refl;
   shuts = λ now. ticked v (shut v v.released v.since) false now refl;
+  delays = λ on now. ticked v (told_nodelay v on) false now refl;
   leaves = λ now lives. ticked v (shut v true (if is_fin_wait_2 v.state then latest v.since now else v.since)) false now refl;
   aborts = λ e now at cause lives. inr (inl refl);
   refused = λ number hit. inr (inl refl);

@@ -5,6 +5,7 @@ use Rattle.clock.specs.declared.moment.Moment.{Moment}
 use Rattle.tcp_state.specs.declared.timing.TheConstants.{OVERRIDE_WAIT}
 use Rattle.tcp_halves.specs.Stream.{outstanding}
 use Rattle.tcp_halves.specs.Windows.{sendable, is_worth_sending}
+use Rattle.tcp_state.specs.New.{waits_no_longer}
 use Rattle.tcp_halves.proofs.Choices.{and_false, neither, not_true}
 use Rattle.tcp_state.specs.View.{View, IsSound, is_opening, awaits_fin_ack, most_outstanding}
 use Rattle.tcp_state.specs.Timing.{has_unacknowledged, probes, retransmits, awaits_more, running, waiting_since, awaits_first, retransmission_timer, probe_timer, override_timer, interval_of, unheard_since}
@@ -45,7 +46,7 @@ idle_timers moved v now sound idle =
     let held = neither (not (length v.sending.held == 0)) (awaits_fin_ack v.state) some.1 in
     let empty : length v.sending.held ≡ 0 = eqb-true (length v.sending.held) 0 (not_not (length v.sending.held == 0) held.0) in
     let shut = v.sending.window == 0 in
-    let worth = is_worth_sending v.sending v.congestion.cwnd v.resend.overridden in
+    let worth = is_worth_sending v.sending v.congestion.cwnd (waits_no_longer v) in
     let silent : probes v ≡ false = ap (λ b. not (is_opening v.state) && shut && b) some.1 ∙ (ap (λ b. not b && shut && false) opened ∙ and_false shut) in
     let most : most_outstanding v ≡ 0 = ap (λ n. n + (if is_opening v.state || awaits_fin_ack v.state then 1 else 0)) empty ∙ (ap (λ b. 0 + (if b || awaits_fin_ack v.state then 1 else 0)) opened ∙ ap (λ b. 0 + (if b then 1 else 0)) held.1) in
     let none : outstanding v.sending ≡ 0 = omega (arith, most, sound.flight) in

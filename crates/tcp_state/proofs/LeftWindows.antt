@@ -315,6 +315,7 @@ event_parts v e sound sized p = by_event (λ e w. IsSized e → Parts w) v (reco
   sends = λ octets taken now opened few. p;
   reads = λ len few. p;
   shuts = λ now few. (p.0, λ received. p.1 (received_open v.state received), λ opened. p.2 (opened_open v.state opened));
+  delays = λ on now few. p;
   leaves = λ now lives few. (p.0, λ received. p.1 (received_open v.state received), λ opened. p.2 (opened_open v.state opened));
   aborts = λ e now at cause lives few. (p.0, λ received silent flies. cc, λ opened silent free. cc);
   refused = λ number hit few. (p.0, λ received silent flies. cc, λ opened silent free. cc);

@@ -80,3 +80,5 @@ pub mod TakenOrAnswered
 pub mod Resting
 pub mod Scales
 pub mod FirstSyns
+pub mod NoDelay
+pub mod Recount

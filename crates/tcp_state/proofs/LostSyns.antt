@@ -122,6 +122,7 @@ all_events v e = by_event (λ e w. Same v w ⊎ Resends v e w) v (record {
   sends = λ octets taken now opened. inl refl;
   reads = λ len. inl refl;
   shuts = λ now. inl refl;
+  delays = λ on now. inl refl;
   leaves = λ now lives. inl refl;
   aborts = λ e now at cause lives. inl refl;
   refused = λ number hit. inl refl;

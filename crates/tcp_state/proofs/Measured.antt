@@ -161,6 +161,7 @@ measures v = by_event (λ e. Measures v (moment_of e)) v (record {
   sends = λ octets taken now opened. keeps v _ (Some now) refl refl;
   reads = λ len. keeps v _ None refl refl;
   shuts = λ now. keeps v _ (Some now) refl refl;
+  delays = λ on now. keeps v _ (Some now) refl refl;
   leaves = λ now lives. keeps v _ (Some now) refl refl;
   aborts = λ e now at cause lives. leaves v (aborted_at v now) (moment_of e) refl refl;
   refused = λ number hit. leaves v _ None refl refl;

@@ -157,6 +157,7 @@ measuring_goes_on v e timed sound is = by_event (λ e w. GoesOn v e timed w) v (
   sends = λ octets taken now opened. inl is;
   reads = λ len. inl is;
   shuts = λ now. inl is;
+  delays = λ on now. inl is;
   leaves = λ now lives. inl is;
   aborts = λ e now at cause lives. inr (refl, inl refl);
   refused = λ number hit. inr (refl, inl refl);

@@ -1,5 +1,5 @@
 -- Why a tick by which every timer has come leaves the oldest octet to go out first.
-use Rattle.std.proofs.Common.{◌≡◌, ℕ, zero, suc, ◌+◌, ◌*◌, ◌^◌, ◌<◌, ◌≤◌, ◌==◌, ◌||◌, ◌&&◌, not, nat_le, nat_lt, if◌then◌else◌, Bool, true, false, List, [], ◌∷◌, length, take, drop, Option, Some, None, is_some, inl, inr, arith, refl, sym, ◌∙◌, ap, subst}
+use Rattle.std.proofs.Common.{◌≡◌, ℕ, zero, suc, ◌+◌, ◌^◌, ◌<◌, ◌≤◌, ◌==◌, ◌||◌, ◌&&◌, not, nat_le, nat_lt, if◌then◌else◌, Bool, true, false, List, [], ◌∷◌, length, take, drop, Option, Some, None, is_some, inl, inr, arith, refl, sym, ◌∙◌, ap, subst}
 use Rattle.std.specs.Option.{option_or}
 use Rattle.std.proofs.lemmas.Bool.{lt-ltb, lt-leb, le-leb, ltb-true, eqb-true}
 use Rattle.std.proofs.lemmas.Bool.Decides.{eqb_tells}
@@ -19,15 +19,15 @@ use Rattle.tcp_state.specs.declared.emission.Due.TheVariants.{Rst, Syn, Text, Pr
 use Rattle.tcp_state.specs.declared.emission.Stretch.{Stretch}
 use Rattle.tcp_halves.specs.Halves.{Sending}
 use Rattle.tcp_halves.specs.Stream.{outstanding}
-use Rattle.tcp_halves.specs.Windows.{open_window, unsent, usable, sendable, is_worth_sending}
+use Rattle.tcp_halves.specs.Windows.{open_window, sendable, takes_enough, is_worth_sending}
 use Rattle.tcp_state.specs.View.{View, IsSound, is_opening, is_closed, is_write_finished, awaits_fin_ack, takes_flag_number, end_of_wait, is_at_end, after_stop, after_reset}
 use Rattle.tcp_state.specs.Congestion.{KeepsCongestion}
 use Rattle.tcp_state.specs.Timing.{KeepsTime, has_unacknowledged, probes, clocked, expires, gives_up, retransmission_expired, probe_expired, after_expiry, delayed_ack_expired, override_expired, after_timers, after_tick}
-use Rattle.tcp_state.specs.New.{sends_new, sends_fin}
+use Rattle.tcp_state.specs.New.{sends_new, sends_fin, waits_no_longer}
 use Rattle.tcp_state.specs.Due.{probe_stretch, ack_due, again, goes_again, again_from, new_octets, fin_alone, new_due, first_due}
 use Rattle.tcp_state.specs.Said.{segment_of}
 use Rattle.tcp_state.specs.Progress.{AllCome, BringsOldest}
-use Rattle.tcp_halves.proofs.Choices.{either, by, clash, and_left, and_right, and_false, both, or_left, or_else, neither, of_false}
+use Rattle.tcp_halves.proofs.Choices.{either, by, clash, and_left, and_right, and_false, both, or_left, or_right, or_else, neither, of_false}
 use Rattle.tcp_state.proofs.Unchanged.{none_below}
 use Rattle.tcp_state.proofs.ResetAges.{live}
 use Rattle.tcp_state.proofs.Clocked.{timers_keep}
@@ -149,7 +149,7 @@ probe_is_new w shut owes goes =
     let no_room : nat_lt (outstanding w.sending) w.sending.window ≡ false = lt-leb (suc (outstanding w.sending)) w.sending.window (omega (arith, shut)) in
     let all = awaits_fin_ack w.state && (outstanding w.sending == length w.sending.held) in
     let no_fin : sends_fin w ≡ false = ap (λ b. all && b) no_room ∙ and_false all in
-    ap (λ n. if nat_lt 0 n && is_worth_sending w.sending w.congestion.cwnd w.resend.overridden then Some (Text (new_octets w)) else if sends_fin w then Some (Text (fin_alone w)) else if w.resend.owes_probe && probes w then Some Probe else ack_due w) none
+    ap (λ n. if nat_lt 0 n && is_worth_sending w.sending w.congestion.cwnd (waits_no_longer w) then Some (Text (new_octets w)) else if sends_fin w then Some (Text (fin_alone w)) else if w.resend.owes_probe && probes w then Some Probe else ack_due w) none
     ∙ (ap (λ b. if b then Some (Text (fin_alone w)) else if w.resend.owes_probe && probes w then Some Probe else ack_due w) no_fin
     ∙ ap (λ b. if b then Some Probe else ack_due w) (both w.resend.owes_probe (probes w) owes goes))
 
@@ -175,7 +175,7 @@ probed_brings w s shut owes goes within = subst (Brings w) (sym (once_open w s))
 -- nothing is outstanding: new octets begin there
 new_brings : (w : View) → Sends w → outstanding w.sending ≡ 0 → w.resend.mark ≡ None → sends_new w ≡ true → Brings w (first_due w)
 new_brings w s idle unmarked sends =
-    let some : 0 < sendable w.sending w.congestion.cwnd = ltb-true 0 (sendable w.sending w.congestion.cwnd) (and_left (nat_lt 0 (sendable w.sending w.congestion.cwnd)) (is_worth_sending w.sending w.congestion.cwnd w.resend.overridden) sends) in (
+    let some : 0 < sendable w.sending w.congestion.cwnd = ltb-true 0 (sendable w.sending w.congestion.cwnd) (and_left (nat_lt 0 (sendable w.sending w.congestion.cwnd)) (is_worth_sending w.sending w.congestion.cwnd (waits_no_longer w)) sends) in (
       Text (new_octets w),
       once_open w s ∙ (ap (λ m. option_or (again_from w m) (new_due w)) unmarked
           ∙ ap (λ b. if b then Some (Text (new_octets w)) else if sends_fin w then Some (Text (fin_alone w)) else if w.resend.owes_probe && probes w then Some Probe else ack_due w) sends),
@@ -198,13 +198,14 @@ record Idles (v : View) (now : Moment) (w : View) : Type 0 where
   pub congestion : w.congestion ≡ v.congestion
   pub still : v.resend.overridden ≡ true → w.resend.overridden ≡ true
   pub over : has_come v.timers.overriding now ≡ true → w.resend.overridden ≡ true
+  pub nodelay : w.nodelay ≡ v.nodelay
 
 override_idles : (v : View) (owes : Bool) (now : Moment) → Idles v now (override_expired (record v { owes_ack = owes }) now)
 override_idles v owes now =
     let x = record v { owes_ack = owes } in
     either View (Idles v now) (has_come v.timers.overriding now) _ x
-    (λ is. record { mark = refl; congestion = refl; still = λ o. refl; over = λ o. refl })
-    (λ early. record { mark = refl; congestion = refl; still = λ o. o; over = λ is. clash (has_come v.timers.overriding now) is early })
+    (λ is. record { mark = refl; congestion = refl; still = λ o. refl; over = λ o. refl; nodelay = refl })
+    (λ early. record { mark = refl; congestion = refl; still = λ o. o; over = λ is. clash (has_come v.timers.overriding now) is early; nodelay = refl })
 
 timers_idle : (v : View) (now : Moment) → expires v now ≡ false → Idles v now (after_timers v now)
 timers_idle v now none =
@@ -218,7 +219,7 @@ timers_idle v now none =
 tick_idles : (v : View) (now : Moment) → is_closed (after_tick v now).state ≡ false → expires v now ≡ false → Idles v now (after_tick v now)
 tick_idles v now lives none =
     by_live_tick (Idles v now) v now lives
-    (let k = timers_idle v now none in record { mark = k.mark; congestion = k.congestion; still = k.still; over = k.over })
+    (let k = timers_idle v now none in record { mark = k.mark; congestion = k.congestion; still = k.still; over = k.over; nodelay = k.nodelay })
     (λ early. record {
       mark = refl;
       congestion = refl;
@@ -226,6 +227,7 @@ tick_idles v now lives none =
       over = λ is.
           let others = (neither (expires v now) (has_come v.timers.delayed_ack now || has_come v.timers.overriding now) (sym (timers_come v now) ∙ early)).1 in
           clash (has_come v.timers.overriding now) is (neither (has_come v.timers.delayed_ack now) (has_come v.timers.overriding now) others).1;
+      nodelay = refl;
     })
 
 -- Together.
@@ -236,12 +238,17 @@ worth_still true alone before after e w = refl
 worth_still false true before after e w = refl
 worth_still false false before after e w = e w
 
+-- what waited for no more does so still
+over_still : (undelayed before after : Bool) → (before ≡ true → after ≡ true) → (undelayed || before) ≡ true → (undelayed || after) ≡ true
+over_still true before after e w = refl
+over_still false before after e w = e w
+
 sends_where : (v w : View) → w.sending ≡ v.sending → w.congestion ≡ v.congestion → nat_lt 0 (sendable v.sending v.congestion.cwnd) ≡ true
-    → is_worth_sending v.sending v.congestion.cwnd w.resend.overridden ≡ true → sends_new w ≡ true
+    → is_worth_sending v.sending v.congestion.cwnd ((w.nodelay && takes_enough v.sending v.congestion.cwnd) || w.resend.overridden) ≡ true → sends_new w ≡ true
 sends_where v w sending congestion goes worth =
-    ap (λ (t : Sending). nat_lt 0 (sendable t w.congestion.cwnd) && is_worth_sending t w.congestion.cwnd w.resend.overridden) sending
-    ∙ (ap (λ (c : Window). nat_lt 0 (sendable v.sending c.cwnd) && is_worth_sending v.sending c.cwnd w.resend.overridden) congestion
-    ∙ both (nat_lt 0 (sendable v.sending v.congestion.cwnd)) (is_worth_sending v.sending v.congestion.cwnd w.resend.overridden) goes worth)
+    ap (λ (t : Sending). nat_lt 0 (sendable t w.congestion.cwnd) && is_worth_sending t w.congestion.cwnd ((w.nodelay && takes_enough t w.congestion.cwnd) || w.resend.overridden)) sending
+    ∙ (ap (λ (c : Window). nat_lt 0 (sendable v.sending c.cwnd) && is_worth_sending v.sending c.cwnd ((w.nodelay && takes_enough v.sending c.cwnd) || w.resend.overridden)) congestion
+    ∙ both (nat_lt 0 (sendable v.sending v.congestion.cwnd)) (is_worth_sending v.sending v.congestion.cwnd ((w.nodelay && takes_enough v.sending v.congestion.cwnd) || w.resend.overridden)) goes worth)
 
 over_worth : (full alone over : Bool) → over ≡ true → (full || alone || over) ≡ true
 over_worth true alone over e = refl
@@ -317,13 +324,17 @@ idle_brings v now sound keeps network some all few unprobed room idle =
     let some_network : 0 < cwnd = omega (arith, network.sound.smss_least, network.sound.cwnd_least) in
     let may : nat_lt 0 (sendable sent cwnd) ≡ true = lt-ltb 0 (sendable sent cwnd) (omega (arith, room, some_network, idle, some)) in
     let full = nat_le sent.smss (sendable sent cwnd) in
-    let alone = (outstanding sent == 0) && (nat_le (unsent sent) (usable sent cwnd) || nat_le sent.max_window (2 * sendable sent cwnd)) in
-    let worth : is_worth_sending sent cwnd w.resend.overridden ≡ true = by (is_worth_sending sent cwnd w.resend.overridden ≡ true) (is_worth_sending sent cwnd v.resend.overridden)
-    (λ is. worth_still full alone v.resend.overridden w.resend.overridden i.still is)
+    let alone = (outstanding sent == 0) && takes_enough sent cwnd in
+    let before = waits_no_longer v in
+    let after = (w.nodelay && takes_enough sent cwnd) || w.resend.overridden in
+    let still : before ≡ true → after ≡ true = λ is.
+    ap (λ b. (b && takes_enough sent cwnd) || w.resend.overridden) i.nodelay ∙ over_still (v.nodelay && takes_enough sent cwnd) v.resend.overridden w.resend.overridden i.still is in
+    let worth : is_worth_sending sent cwnd after ≡ true = by (is_worth_sending sent cwnd after ≡ true) (is_worth_sending sent cwnd before)
+    (λ is. worth_still full alone before after still is)
     (λ waits.
-    let awaits = both (not (is_opening v.state)) (nat_lt 0 (sendable sent cwnd) && not (is_worth_sending sent cwnd v.resend.overridden)) (of_false (is_opening v.state) opened)
-    (both (nat_lt 0 (sendable sent cwnd)) (not (is_worth_sending sent cwnd v.resend.overridden)) may (of_false (is_worth_sending sent cwnd v.resend.overridden) waits)) in
-    over_worth full alone w.resend.overridden (i.over (comes v.timers.overriding now (keeps.overriding awaits) (all Override)))) in
+    let awaits = both (not (is_opening v.state)) (nat_lt 0 (sendable sent cwnd) && not (is_worth_sending sent cwnd before)) (of_false (is_opening v.state) opened)
+    (both (nat_lt 0 (sendable sent cwnd)) (not (is_worth_sending sent cwnd before)) may (of_false (is_worth_sending sent cwnd before) waits)) in
+    over_worth full alone after (or_right (w.nodelay && takes_enough sent cwnd) w.resend.overridden (i.over (comes v.timers.overriding now (keeps.overriding awaits) (all Override))))) in
     new_brings w (sends_after v now sound some few) (ap outstanding k.0 ∙ idle) (i.mark ∙ none_below v.resend.mark (outstanding sent) idle sound.mark) (sends_where v w k.0 i.congestion may worth)
 
 pub oldest_brought : (v : View) (now : Moment) → IsSound v → KeepsTime v → KeepsCongestion v → 0 < length v.sending.held → AllCome v.timers now → v.resend.expiries < 12

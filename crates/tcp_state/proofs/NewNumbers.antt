@@ -5,6 +5,7 @@ use Rattle.tcp_state.specs.declared.emission.Due.TheVariants.{Text}
 use Rattle.tcp_state.specs.declared.emission.Stretch.{Stretch}
 use Rattle.tcp_halves.specs.Stream.{outstanding}
 use Rattle.tcp_halves.specs.Windows.{sendable, is_worth_sending}
+use Rattle.tcp_state.specs.New.{waits_no_longer}
 use Rattle.tcp_state.specs.View.{View, IsSound, awaits_fin_ack}
 use Rattle.tcp_state.specs.Due.{first_due, end_of, again, new_octets, fin_alone}
 use Rattle.tcp_halves.proofs.Choices.{and_left, and_right}
@@ -23,7 +24,7 @@ keeps_window v stretch sound first = by_due (λ o. (t : Stretch) → o ≡ Some 
   once_more = λ opened mark is goes t e. let same : again v mark ≡ t = cc in subst (KeepsWindow v) same (λ past. let within = sound.mark mark is in absurd (omega (arith, past, within)));
   octets = λ opened sends t e.
       let same : new_octets v ≡ t = cc in
-      let some = ltb-true 0 (sendable v.sending v.congestion.cwnd) (and_left (nat_lt 0 (sendable v.sending v.congestion.cwnd)) (is_worth_sending v.sending v.congestion.cwnd v.resend.overridden) sends) in
+      let some = ltb-true 0 (sendable v.sending v.congestion.cwnd) (and_left (nat_lt 0 (sendable v.sending v.congestion.cwnd)) (is_worth_sending v.sending v.congestion.cwnd (waits_no_longer v)) sends) in
       subst (KeepsWindow v) same (λ past. (refl, omega (arith, some)));
   fin = λ opened sends t e.
       let same : fin_alone v ≡ t = cc in
@@ -45,7 +46,7 @@ keeps_cwnd v stretch sound first = by_due (λ o. (t : Stretch) → o ≡ Some (T
   once_more = λ opened mark is goes t e. let same : again v mark ≡ t = cc in subst (KeepsCwnd v) same (λ past some. let within = sound.mark mark is in absurd (omega (arith, past, within)));
   octets = λ opened sends t e.
       let same : new_octets v ≡ t = cc in
-      let some = ltb-true 0 (sendable v.sending v.congestion.cwnd) (and_left (nat_lt 0 (sendable v.sending v.congestion.cwnd)) (is_worth_sending v.sending v.congestion.cwnd v.resend.overridden) sends) in
+      let some = ltb-true 0 (sendable v.sending v.congestion.cwnd) (and_left (nat_lt 0 (sendable v.sending v.congestion.cwnd)) (is_worth_sending v.sending v.congestion.cwnd (waits_no_longer v)) sends) in
       subst (KeepsCwnd v) same (λ past more. omega (arith, some));
   fin = λ opened sends t e. let same : fin_alone v ≡ t = cc in subst (KeepsCwnd v) same (λ past more. absurd (omega (arith, more)));
   probe = λ opened owes goes t e. cc;

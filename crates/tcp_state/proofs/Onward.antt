@@ -326,6 +326,7 @@ never_back v e sound = by_event (λ e w. HasNumber e → NeverBack v w) v (recor
   sends = λ octets taken now opened fits. still v _ refl refl refl;
   reads = λ len fits. record { una = rests v.sending.una; nxt = rests v.sending.nxt; rnext = λ opened. rests v.receiving.rnext; edge = λ opened. rests v.receiving.edge };
   shuts = λ now fits. still v (after_shutdown v now) refl refl refl;
+  delays = λ on now fits. still v _ refl refl refl;
   leaves = λ now lives fits. still v (after_release v now) refl refl refl;
   aborts = λ e now at cause lives fits. ended v (aborted_at v now) sound refl refl refl;
   refused = λ number hit fits. ended v (after_reset v (Some ECONNREFUSED)) sound refl refl refl;

@@ -6,7 +6,7 @@ use Rattle.tcp_halves.specs.Stream.{outstanding}
 use Rattle.tcp_halves.specs.Windows.{sendable, is_worth_sending}
 use Rattle.tcp_state.specs.View.{View, IsSound, is_opening, is_closed, is_syn_sent, awaits_fin_ack, takes_flag_number}
 use Rattle.tcp_state.specs.Timing.{probes}
-use Rattle.tcp_state.specs.New.{sends_fin}
+use Rattle.tcp_state.specs.New.{sends_fin, waits_no_longer}
 use Rattle.tcp_state.specs.Due.{is_ack_due, ack_due, again_from, new_octets, fin_alone, new_due, first_due, ack_number}
 use Rattle.tcp_state.specs.Said.{segment_of}
 use Rattle.tcp_state.specs.Progress.{IsAckAlone}
@@ -47,7 +47,7 @@ ack_first v sound opened shut empty owes =
     ap (λ b. if b then Some Rst else if is_opening v.state then (if (outstanding v.sending == 0) || is_some v.resend.mark then Some Syn else ack_due v) else option_or (again_from v v.resend.mark) (new_due v)) (live v sound lives)
     ∙ (ap (λ b. if b then (if (outstanding v.sending == 0) || is_some v.resend.mark then Some Syn else ack_due v) else option_or (again_from v v.resend.mark) (new_due v)) opened
     ∙ (ap (λ m. option_or (again_from v m) (new_due v)) (none_below v.resend.mark (outstanding v.sending) none sound.mark)
-    ∙ (ap (λ n. if nat_lt 0 n && is_worth_sending v.sending v.congestion.cwnd v.resend.overridden then Some (Text (new_octets v)) else if sends_fin v then Some (Text (fin_alone v)) else if v.resend.owes_probe && probes v then Some Probe else ack_due v) few
+    ∙ (ap (λ n. if nat_lt 0 n && is_worth_sending v.sending v.congestion.cwnd (waits_no_longer v) then Some (Text (new_octets v)) else if sends_fin v then Some (Text (fin_alone v)) else if v.resend.owes_probe && probes v then Some Probe else ack_due v) few
     ∙ (ap (λ b. if b && (outstanding v.sending == length v.sending.held) && nat_lt (outstanding v.sending) v.sending.window then Some (Text (fin_alone v)) else if v.resend.owes_probe && probes v then Some Probe else ack_due v) shut
     ∙ (ap (λ b. if v.resend.owes_probe && b then Some Probe else ack_due v) probed
     ∙ (ap (λ b. if b then Some Probe else ack_due v) (and_false v.resend.owes_probe)

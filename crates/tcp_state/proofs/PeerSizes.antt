@@ -190,6 +190,7 @@ settled_by v e = by_event (SettledBy v) v (record {
   sends = λ octets taken now opened. inl refl;
   reads = λ len. inl refl;
   shuts = λ now. inl refl;
+  delays = λ on now. inl refl;
   leaves = λ now lives. inl refl;
   aborts = λ e now at cause lives. inl refl;
   refused = λ number hit. inl refl;

@@ -75,6 +75,7 @@ ages v e sound = by_event (Ages v) v (record {
   sends = λ octets taken now opened. inl refl;
   reads = λ len. inl refl;
   shuts = λ now. inl refl;
+  delays = λ on now. inl refl;
   leaves = λ now lives. inr (inl (none_owed (after_release v now) (live v sound lives)));
   aborts = λ e now at cause lives. inr (inr (live v sound lives, at));
   refused = λ number hit. inl refl;

@@ -14,7 +14,7 @@ use Rattle.tcp_state.specs.declared.timing.TheConstants.{DELAYED_ACK_WAIT, OVERR
 use Rattle.tcp_state.specs.Resend.{Resend, is_timed_by, timeout_sampled, resend_acknowledged}
 use Rattle.tcp_state.specs.View.{View, IsSound, is_opening, is_fin_wait_2}
 use Rattle.tcp_state.specs.Timing.{probes, retransmits, awaits_second, awaits_more, running, clocked, retransmission_expired, probe_expired, after_expiry, after_timers}
-use Rattle.tcp_state.specs.Calls.{latest}
+use Rattle.tcp_state.specs.Calls.{told_nodelay, latest}
 use Rattle.tcp_state.specs.Arrival.{after_heard, before, is_moved, since_after, resend_after, congestion_after, timed_by}
 use Rattle.tcp_state.specs.Due.{first_due, after_going_out}
 use Rattle.tcp_state.specs.Edges.{Event, moment_of, after_first, after_event}
@@ -62,6 +62,10 @@ runs_once false now was is milliseconds few k = k
 anew : (moved : Bool) (now : Moment) (was is : Option Moment) → Soon now was is → Soon now was (if moved then None else is)
 anew true now was is k = none_set now was
 anew false now was is k = k
+
+goes_on_or_stops : (goes_on : Bool) (now : Moment) (was : Option Moment) → Soon now was (if goes_on then was else None)
+goes_on_or_stops true now was = as_before now was
+goes_on_or_stops false now was = none_set now was
 
 unset : (now : Moment) (t : Timers) → SetSoon now t t
 unset now t = record {
@@ -177,6 +181,16 @@ sets_soon v = by_event (SetsSoon v) v (record {
   sends = λ octets taken now opened. inr (inr (now, refl, λ few. clocked_soon false (holding v taken) now v.timers few (unset now v.timers)));
   reads = λ len. inl refl;
   shuts = λ now. inr (inr (now, refl, shut_soon v.released v.since now));
+  delays = λ on now. inr (inr (
+    now,
+    refl,
+    λ few. clocked_soon false (told_nodelay v on) now v.timers few (let t = unset now v.timers in record {
+      retransmission = t.retransmission;
+      probe = t.probe;
+      delayed_ack = t.delayed_ack;
+      overriding = goes_on_or_stops (awaits_more (record v { nodelay = on })) now v.timers.overriding;
+    }),
+  ));
   leaves = λ now lives. inr (inr (now, refl, shut_soon true (if is_fin_wait_2 v.state then latest v.since now else v.since) now));
   aborts = λ e now at cause lives. inr (inl refl);
   refused = λ number hit. inr (inl refl);

@@ -23,7 +23,7 @@ use Rattle.retransmit.specs.Deadlines.{next_of}
 use Rattle.tcp_state.specs.declared.calls.Refusal.TheVariants.{ETIMEDOUT}
 use Rattle.tcp_state.specs.Timing.{gives_up, after_timers, clocked, after_tick}
 use Rattle.tcp_state.specs.Arrival.{owing_ack, may_delay, beyond_end, is_acceptable_to, is_read, is_read_on, is_of_fin, fin_acknowledged, after_new_ack as after_acknowledging, after_establishment, after_ack, after_window, is_receiving, after_text, after_fin, after_segment, brings_more, is_lost, after_lost, after_heard, is_rejected, before, octets_outstanding, is_duplicate, is_moved, congestion_event_of, timed_by}
-use Rattle.tcp_state.specs.Edges.{Event, Hears, Ticks, Emits, Sends, Receives, Shuts, Closes, Aborts, Unreachable, LosesHop, after_event, congestion_event_by}
+use Rattle.tcp_state.specs.Edges.{Event, Hears, Ticks, Emits, Sends, Receives, Shuts, SetsNoDelay, Closes, Aborts, Unreachable, LosesHop, after_event, congestion_event_by}
 use Rattle.tcp_state.specs.Counted.{HasOctetOut, IsDuplicate}
 use Rattle.tcp_state.proofs.Segments.{IsRead, by_ack, by_hearing, reads, read_tells, reading_sends, not_rejected}
 use Rattle.tcp_state.proofs.Unchanged.{closed_plain}
@@ -332,6 +332,7 @@ others_count_none v (Emits now) = inl (moves_by_events v (Emits now))
 others_count_none v (Sends octets now) = inl (moves_by_events v (Sends octets now))
 others_count_none v (Receives len) = inl (moves_by_events v (Receives len))
 others_count_none v (Shuts now) = inl (moves_by_events v (Shuts now))
+others_count_none v (SetsNoDelay on now) = inl (moves_by_events v (SetsNoDelay on now))
 others_count_none v (Closes now) = inl (moves_by_events v (Closes now))
 others_count_none v (Aborts now) = inl (moves_by_events v (Aborts now))
 others_count_none v (Unreachable number) = inl (moves_by_events v (Unreachable number))

@@ -75,6 +75,7 @@ seen_by_event v e sound lives = by_event (λ e w. IsSilentEnd w → is_read_clos
   sends = λ octets taken now opened. still v _ refl lives;
   reads = λ len. still v _ refl lives;
   shuts = λ now k. let bad : true ≡ false = sym k.closed ∙ shut_closes_none v.state lives in cc;
+  delays = λ on now. still v _ refl lives;
   leaves = λ now remains k. let bad : true ≡ false = k.kept in cc;
   aborts = λ e now at cause remains k. let bad : true ≡ false = k.kept in cc;
   refused = λ number hit k. let told = k.quiet in cc;

@@ -122,8 +122,11 @@ abbrev again_due : Meeting → Moment → View
 again_due m first = answering m m.mine.told false false (record (timed_from m.isn first) { mark = Some 0 }) first
 
 -- .. and went out twice, so that its round trip is not measured
+abbrev resent_once : Resend
+resent_once = record first_resend { resent = 1 }
+
 abbrev again_sent : Meeting → ℕ → Bool → Bool → Moment → View
-again_sent m window owes spoke first = answering m window owes spoke first_resend first
+again_sent m window owes spoke first = answering m window owes spoke resent_once first
 
 -- the other's window, in octets
 abbrev known : Meeting → ℕ
@@ -137,6 +140,7 @@ opened m = record (opening m (record { 0 = 0 })) {
   sending = record { held = []; una = wire m.isn 1; nxt = wire m.isn 1; window = known m; max_window = max (max 0 m.theirs.told) (known m); wl1 = wire m.other 1; wl2 = wire m.isn 1; smss = 1460; size = m.mine.size; unit = m.unit };
   receiving = receives m m.mine.wide;
   spoke = true;
+  resend = resent_once;
   congestion = initial_window 1460 false;
   unheard = None;
 }
@@ -297,8 +301,8 @@ syn_ack_goes m first now f =
     let w = again_sent m m.mine.told false false first in
     ap (λ d. after_first v d now) (first_is_syn_ack m first f)
     ∙ (ap (λ n. clocked false (after_syn_ack_paid (out_again v now n)) now) (one_out m.isn f.isn)
-    ∙ (ap (λ n. clocked false (after_syn_ack_paid (record w { sending = record w.sending { nxt = n }; resend = record first_resend { mark = mark_past 1 (past n m.isn) } })) now) (sent_again m.isn)
-    ∙ (ap (λ n. clocked false (after_syn_ack_paid (record w { resend = record first_resend { mark = mark_past 1 n } })) now) (one_out m.isn f.isn)
+    ∙ (ap (λ n. clocked false (after_syn_ack_paid (record w { sending = record w.sending { nxt = n }; resend = record resent_once { mark = mark_past 1 (past n m.isn) } })) now) (sent_again m.isn)
+    ∙ (ap (λ n. clocked false (after_syn_ack_paid (record w { resend = record resent_once { mark = mark_past 1 n } })) now) (one_out m.isn f.isn)
     ∙ (ap (λ r. clocked false (record w { receiving = r }) now) (still_told m f) ∙ ap (running_if w None now first) (one_out m.isn f.isn)))))
 
 -- the other's SYN, once more, stands right before the window
@@ -416,7 +420,7 @@ ack_comes m first now f =
     comes_to v s now refl (ap (λ a. not a && (is_acceptable_to v s && true)) (acknowledges m.isn f.isn))
     ∙ (ap (λ x. timed_by b x now) (ack_heard m first f)
     ∙ (ap (λ x. clocked x (record w {
-      resend = let resend = if x then first_resend else if answers_probe v s then first_resend else first_resend in if reveals_loss (if x then Begins else Nothing) w.congestion then resend_lost resend (outstanding w.sending) else resend;
+      resend = let resend = if x then resent_once else if answers_probe v s then resent_once else resent_once in if reveals_loss (if x then Begins else Nothing) w.congestion then resend_lost resend (outstanding w.sending) else resend;
       congestion = after_signal w.congestion (if x then Begins else Nothing) 1460 false;
     }) now) (moves m.isn f.isn)
     ∙ at_rest m first now))

@@ -211,6 +211,7 @@ others_keep v e = by_event (λ e w. (w.resend.timeout ≡ v.resend.timeout) ⊎ 
   sends = λ octets taken now opened. inl refl;
   reads = λ len. inl refl;
   shuts = λ now. inl refl;
+  delays = λ on now. inl refl;
   leaves = λ now lives. inl refl;
   aborts = λ e now at cause lives. inl refl;
   refused = λ number hit. inl refl;

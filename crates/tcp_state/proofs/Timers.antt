@@ -20,7 +20,7 @@ use Rattle.tcp_halves.specs.Stream.{outstanding}
 use Rattle.tcp_halves.specs.Windows.{sendable, is_worth_sending, updates_window}
 use Rattle.tcp_state.specs.View.{View, IsSound, is_opening, is_closed, is_fin_wait_2, awaits_fin_ack, is_write_closed, after_stop, opened_actively}
 use Rattle.tcp_state.specs.Timing.{KeepsTime, probes, retransmits, awaits_second, awaits_more, running, waiting_since, awaits_first, clocked, after_expiry, delayed_ack_expired, after_timers}
-use Rattle.tcp_state.specs.Calls.{beyond_shutdown, latest}
+use Rattle.tcp_state.specs.Calls.{told_nodelay, beyond_shutdown, latest}
 use Rattle.tcp_state.specs.Arrival.{opened_passively, is_receiving, beyond_end, after_ack, after_window, after_text, after_fin, after_heard, is_moved, since_after, resend_after, congestion_after, before}
 use Rattle.tcp_state.specs.Due.{first_due, after_going_out}
 use Rattle.tcp_state.specs.Edges.{Event, after_first, after_event}
@@ -30,7 +30,7 @@ use Rattle.tcp_state.proofs.Segments.{by_fin, by_ack, by_hearing}
 use Rattle.tcp_state.proofs.Causes.{end_closes_none}
 use Rattle.tcp_state.proofs.Events.{holding, shut, by_event}
 use Rattle.tcp_state.proofs.Unchanged.{closed_holds, closed_owes}
-use Rattle.tcp_state.specs.New.{sends_new, sends_fin}
+use Rattle.tcp_state.specs.New.{sends_new, sends_fin, waits_no_longer}
 use Rattle.tcp_state.proofs.Awaited.{awaits_nothing, stands_where, awaits_still}
 
 -- The clock at the end of an event.
@@ -43,7 +43,7 @@ Quiet v = is_closed v.state ≡ true → (v.timers.overriding ≡ None) × (leng
 awaits_none : (v : View) → length v.sending.held ≡ 0 → awaits_more v ≡ false
 awaits_none v empty =
     let none : sendable v.sending v.congestion.cwnd ≡ 0 = omega (arith, empty) in
-    ap (λ n. not (is_opening v.state) && (nat_lt 0 n && not (is_worth_sending v.sending v.congestion.cwnd v.resend.overridden))) none ∙ and_false (not (is_opening v.state))
+    ap (λ n. not (is_opening v.state) && (nat_lt 0 n && not (is_worth_sending v.sending v.congestion.cwnd (waits_no_longer v)))) none ∙ and_false (not (is_opening v.state))
 
 runs_where : (wants : Bool) (deadline : Option Moment) (now : Moment) (milliseconds : ℕ) → is_some (if wants then running deadline now milliseconds else None) ≡ wants
 runs_where true None now milliseconds = refl
@@ -187,6 +187,11 @@ open_state : (t : State) → is_write_closed t ≡ false → is_closed t ≡ fal
 open_state Closed e = cc
 open_state _ e = refl
 
+-- a timer that doesn't run isn't begun where it goes on or stops
+pub none_left : (goes_on : Bool) (deadline : Option Moment) → deadline ≡ None → (if goes_on then deadline else None) ≡ None
+none_left true deadline e = e
+none_left false deadline e = refl
+
 pub stays_timed : (v : View) (e : Event) → IsSound v → KeepsTime v → KeepsTime (after_event v e)
 stays_timed v e sound keeps = by_event (λ e w. KeepsTime w) v (record {
   same = λ e. keeps;
@@ -208,6 +213,7 @@ stays_timed v e sound keeps = by_event (λ e w. KeepsTime w) v (record {
     unheard = keeps.unheard;
   };
   shuts = λ now. clocked_keeps false (shut v v.released v.since) now was_quiet;
+  delays = λ on now. clocked_keeps false (told_nodelay v on) now (λ closed. (none_left (awaits_more (record v { nodelay = on })) v.timers.overriding (keeps.closed closed), (closed_holds v sound closed).0));
   leaves = λ now lives. clocked_keeps false (shut v true (if is_fin_wait_2 v.state then latest v.since now else v.since)) now was_quiet;
   aborts = λ e now at cause lives. ended v v.pending_error true true now sound.nxt;
   refused = λ number hit. ended v (Some ECONNREFUSED) v.released v.owes_reset v.since sound.nxt;

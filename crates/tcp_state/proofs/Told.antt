@@ -128,6 +128,7 @@ in_steps v e sound past_opening small = by_event (λ e w. Steps v w) v (record {
   sends = λ octets taken now opened. inl refl;
   reads = λ len. inl refl;
   shuts = λ now. inl refl;
+  delays = λ on now. inl refl;
   leaves = λ now lives. inl refl;
   aborts = λ e now at cause lives. inl refl;
   refused = λ number hit. inl refl;

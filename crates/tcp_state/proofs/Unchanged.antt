@@ -14,7 +14,7 @@ use Rattle.tcp_halves.specs.Windows.{sendable, is_worth_sending, has_grown}
 use Rattle.tcp_state.specs.View.{View, IsSound, is_opening, is_syn_sent, is_syn_received, is_closed, is_over, awaits_fin_ack, is_write_finished, takes_flag_number}
 use Rattle.tcp_state.specs.Timing.{probes}
 use Rattle.tcp_state.specs.Arrival.{owing_ack, after_establishment, after_ack, is_read_on, after_acknowledging_segment, after_acceptable_segment, ends_opening, is_acceptable_to, is_right_syn_ack, after_syn_ack, is_simultaneous_syn, after_simultaneous_syn, after_segment, is_lost, after_lost, after_heard, acknowledges_unsent, is_rejected, before, timed_by, after_segment_at, fate}
-use Rattle.tcp_state.specs.New.{sends_fin}
+use Rattle.tcp_state.specs.New.{sends_fin, waits_no_longer}
 use Rattle.tcp_state.specs.Due.{first_due, again_from, new_due, ack_due, new_octets, fin_alone}
 use Rattle.tcp_halves.proofs.Choices.{either, clash, and_left, and_right, and_false, or_right, or_else, not_true}
 
@@ -120,7 +120,7 @@ none_new false false owed false false opened false spoke grown text end o f p a 
 
 pub none_due : (v : View) → IsQuiet v → first_due v ≡ (if v.owes_reset then Some Rst else None)
 none_due v quiet =
-    let octets = ap (λ n. nat_lt 0 n && is_worth_sending v.sending v.congestion.cwnd v.resend.overridden) quiet.octets in
+    let octets = ap (λ n. nat_lt 0 n && is_worth_sending v.sending v.congestion.cwnd (waits_no_longer v)) quiet.octets in
     let fin = ap (λ b. b && (outstanding v.sending == length v.sending.held) && nat_lt (outstanding v.sending) v.sending.window) quiet.fin in
     let new : new_due v ≡ None = none_new _ (sends_fin v) v.resend.owes_probe (probes v) v.owes_ack (not (is_opening v.state)) (is_closed v.state) v.spoke (has_grown v.receiving) (Text (new_octets v)) (Text (fin_alone v)) octets fin quiet.probe quiet.ack quiet.closed in
     ap (λ b. if v.owes_reset then Some Rst else if b then (if (outstanding v.sending == 0) || is_some v.resend.mark then Some Syn else ack_due v) else option_or (again_from v v.resend.mark) (new_due v)) quiet.opened

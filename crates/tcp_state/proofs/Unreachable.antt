@@ -15,7 +15,7 @@ use Rattle.tcp_halves.specs.Windows.{sendable, is_worth_sending}
 use Rattle.tcp_state.specs.View.{View, IsSound, is_opening, is_syn_sent, is_closed, is_write_closed, after_stop, after_reset, is_over}
 use Rattle.tcp_state.specs.Resend.{Resend, stopped}
 use Rattle.tcp_state.specs.Timing.{probes, retransmits, awaits_more, running, retransmission_timer, probe_timer, override_timer, clocked}
-use Rattle.tcp_state.specs.New.{sends_new}
+use Rattle.tcp_state.specs.New.{sends_new, waits_no_longer}
 use Rattle.tcp_state.specs.Due.{first_due, new_octets, new_due}
 use Rattle.tcp_state.specs.Edges.{Unreachable, after_event, fate_by}
 use Rattle.tcp_state.specs.Unreachable.{is_unreachable, after_unreachable, IsRefused}
@@ -91,7 +91,7 @@ silent v resend quiet unmarked unprobed =
     let w = record (after_stop v) { resend = record resend { mark = None; owes_probe = false } } in
     let same : record (after_stop v) { resend = resend } ≡ w = rw unmarked (rw unprobed refl) in
     let least : sendable w.sending w.congestion.cwnd ≡ 0 = omega arith in
-    let none_new : sends_new w ≡ false = ap (λ n. nat_lt 0 n && is_worth_sending w.sending w.congestion.cwnd w.resend.overridden) least in
+    let none_new : sends_new w ≡ false = ap (λ n. nat_lt 0 n && is_worth_sending w.sending w.congestion.cwnd (waits_no_longer w)) least in
     ap first_due same ∙ (ap (λ b. if b then Some Rst else new_due w) quiet ∙ ap (λ b. if b then Some (Text (new_octets w)) else None) none_new)
 
 none_run : (resending probe overriding : Option Moment) → resending ≡ None → probe ≡ None → overriding ≡ None
@@ -105,7 +105,7 @@ at_rest v resend moved now fits =
     let idle : probes w ≡ false = and_no (v.sending.window == 0) false refl in
     let none_out : retransmits w ≡ false = ap (λ n. nat_lt 0 n && not (probes w)) (none_outstanding_at v.sending.nxt fits) in
     let least : sendable w.sending w.congestion.cwnd ≡ 0 = omega arith in
-    let content : awaits_more w ≡ false = ap (λ n. nat_lt 0 n && not (is_worth_sending w.sending w.congestion.cwnd resend.overridden)) least in
+    let content : awaits_more w ≡ false = ap (λ n. nat_lt 0 n && not (is_worth_sending w.sending w.congestion.cwnd (waits_no_longer w))) least in
     none_run (retransmission_timer w moved now) (probe_timer w now) (override_timer w now)
     (ap (λ b. if b then running (if moved then None else None) now resend.timeout.rto else None) none_out)
     (ap (λ b. if b then running None now resend.timeout.rto else None) idle)

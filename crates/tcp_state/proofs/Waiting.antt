@@ -13,7 +13,7 @@ use Rattle.tcp_halves.specs.Windows.{sendable, is_worth_sending}
 use Rattle.tcp_state.specs.View.{View, IsSound, is_opening, is_closed, awaits_fin_ack, ends_at}
 use Rattle.tcp_state.specs.Congestion.{KeepsCongestion}
 use Rattle.tcp_state.specs.Timing.{KeepsTime, has_unacknowledged, probes, deadline}
-use Rattle.tcp_state.specs.New.{sends_new, sends_fin}
+use Rattle.tcp_state.specs.New.{sends_new, sends_fin, waits_no_longer}
 use Rattle.tcp_state.specs.Due.{first_due, ack_due, again, goes_again, again_from, new_octets, fin_alone, new_due}
 use Rattle.tcp_state.specs.Positions.{HasToSend, takes_numbers}
 use Rattle.tcp_halves.proofs.Choices.{either, by, clash, and_false, both, or_left, or_right, of_false}
@@ -121,7 +121,7 @@ fin_goes v sends =
 sendable_goes : (v : View) → v.owes_reset ≡ false → KeepsTime v → is_opening v.state ≡ false → 0 < sendable v.sending v.congestion.cwnd → (takes_numbers (first_due v) || is_some (deadline v)) ≡ true
 sendable_goes v none keeps opened some =
     let goes = nat_lt 0 (sendable v.sending v.congestion.cwnd) in
-    let worth = is_worth_sending v.sending v.congestion.cwnd v.resend.overridden in
+    let worth = is_worth_sending v.sending v.congestion.cwnd (waits_no_longer v) in
     let may : goes ≡ true = lt-ltb 0 (sendable v.sending v.congestion.cwnd) some in
     by ((takes_numbers (first_due v) || is_some (deadline v)) ≡ true) worth
     (λ is. or_left (takes_numbers (first_due v)) (is_some (deadline v)) (new_goes v none opened (octets_go v (both goes worth may is))))

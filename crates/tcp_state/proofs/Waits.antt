@@ -63,6 +63,7 @@ begins_with_event v e = by_event (λ e w. WaitsForEnd w.state → v.state ≢ w.
   sends = λ octets taken now opened waits apart. absurd (apart refl);
   reads = λ len waits apart. absurd (apart refl);
   shuts = λ now waits apart. shut_waits v.state waits apart;
+  delays = λ on now waits apart. absurd (apart refl);
   leaves = λ now lives waits apart. shut_waits v.state waits apart;
   aborts = λ e now at cause lives waits apart. never_waits waits;
   refused = λ number hit waits apart. never_waits waits;
@@ -154,6 +155,7 @@ moves v e waits = by_event (λ e w. Moves v e w) v (record {
   sends = λ octets taken now opened stays. inl refl;
   reads = λ len stays. inl refl;
   shuts = λ now stays. inl refl;
+  delays = λ on now stays. inl refl;
   leaves = λ now lives stays. by (Moves v (Closes now) (after_release v now)) (is_fin_wait_2 v.state)
       (λ half same. inr (inr (now, refl, half))) (λ other same. inl (ap (λ b. if b then latest v.since now else v.since) other)) stays;
   aborts = λ e now at cause lives stays. closed_apart v.state waits stays;

@@ -11,7 +11,7 @@ use Rattle.clock.specs.declared.moment.Moment.{Moment}
 use Rattle.tcp_state.specs.declared.connection.Fate.{Fate}
 use Rattle.tcp_state.specs.declared.connection.Fate.TheVariants.{Stays, Removed}
 use Rattle.tcp_halves.specs.Stream.{send_room, after_read}
-use Rattle.tcp_state.specs.Timing.{clocked}
+use Rattle.tcp_state.specs.Timing.{awaits_more, clocked}
 use Rattle.tcp_state.specs.View.{View, is_opening, is_syn_sent, is_syn_received, is_write_closed, is_read_closed, is_closed, is_fin_wait_2, after_stop}
 
 -- how many octets a send takes: all, or as many as there is room for
@@ -61,6 +61,16 @@ abbrev pub after_recv : View → ℕ → View
 after_recv v len =
     if is_some v.pending_error || is_opening v.state || (length v.receiving.readable == 0) then v
     else record v { receiving = after_read v.receiving (recv_count v len) }
+
+-- Small segments wait for what is outstanding from now on, or don't (RFC 9293 section 3.7.4, RFC 1122 section 4.2.3.4): the timer of the override runs on only where new octets still wait ..
+abbrev pub told_nodelay : View → Bool → View
+told_nodelay v on =
+    let w = record v { nodelay = on } in
+    record w { timers = record w.timers { overriding = if awaits_more w then w.timers.overriding else None } }
+
+-- .. and begins where they do from now on
+abbrev pub after_set_nodelay : View → Bool → Moment → View
+after_set_nodelay v on now = clocked false (told_nodelay v on) now
 
 -- closing our side: there is nothing to close while the connection opens
 abbrev pub shutdown_refusal : View → Option Refusal

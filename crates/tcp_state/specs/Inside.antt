@@ -22,4 +22,5 @@ view_of c = record {
   owes_reset = c.owes_reset;
   since = c.since;
   unheard = c.unheard;
+  nodelay = c.is_undelayed;
 }

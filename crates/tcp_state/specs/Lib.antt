@@ -24,3 +24,4 @@ pub mod Said
 pub mod Counted
 pub mod Duties
 pub mod Progress
+pub mod Info

@@ -1,5 +1,5 @@
 -- The retransmission state of a connection: what goes out again, and what the clock measures of a round trip (RFC 6298, RFC 9293 sections 3.8.1 and 3.8.6.1).
-use Rattle.std.specs.Prelude.{ℕ, suc, ◌-◌, ◌*◌, ◌≤◌, ◌&&◌, ◌||◌, nat_lt, min, Bool, true, false, if◌then◌else◌, not, Option, Some, None}
+use Rattle.std.specs.Prelude.{ℕ, suc, ◌+◌, ◌-◌, ◌*◌, ◌^◌, ◌≤◌, ◌&&◌, ◌||◌, nat_lt, min, Bool, true, false, if◌then◌else◌, not, Option, Some, None}
 use Rattle.clock.specs.declared.moment.Moment.{Moment}
 use Rattle.retransmit.specs.Timeout.{Timeout, first_timeout, after_sample, after_expiry, after_lost_syn}
 use Rattle.tcp_halves.specs.Numbers.{is_before}
@@ -25,6 +25,8 @@ pub record Resend : Type 0 where
   pub overridden : Bool
   -- our SYN expired, and went out again
   pub syn_resent : Bool
+  -- how many segments brought what went out before, each probe among them
+  pub resent : ℕ
 
 -- the timeout and the wait of a probe last a second at least and a minute at most, and the timers expire twelve times without progress at most
 pub record IsSoundResend (p : Resend) : Type 0 where
@@ -46,6 +48,7 @@ first_resend = record {
   owes_probe = false;
   overridden = false;
   syn_resent = false;
+  resent = 0;
 }
 
 -- nothing is outstanding or waits any longer
@@ -54,13 +57,17 @@ stopped p = record p { mark = None; once = false; timed = None; interval = p.tim
 
 -- What goes out.
 
+-- one more segment went out again; the count holds still at the last number that 64 bits have
+abbrev pub once_more : ℕ → ℕ
+once_more count = min (2 ^ 64 - 1) (count + 1)
+
 -- the mark is past what went out from it on; it is gone where nothing that is outstanding lies behind it
 abbrev pub mark_past : ℕ → ℕ → Option ℕ
 mark_past end outstanding = if nat_lt end outstanding then Some end else None
 
 -- what was outstanding went out again, up to this distance past SND.UNA: what comes back tells no round trip (RFC 6298 section 3). A mark for one segment is gone.
 abbrev pub resend_again : Resend → ℕ → ℕ → Resend
-resend_again p end outstanding = record p { mark = if p.once then None else mark_past end outstanding; once = false; timed = None }
+resend_again p end outstanding = record p { mark = if p.once then None else mark_past end outstanding; once = false; timed = None; resent = once_more p.resent }
 
 -- our SYN went out again: after an expiry as one that may be lost, else in answer to the peer's
 abbrev pub resend_syn_again : Resend → Resend
@@ -76,7 +83,7 @@ resend_sent p end now = record p { timed = timing_of p.timed end now }
 
 -- the probe that was due went out: it isn't measured, nor is what it sent again
 abbrev pub resend_probed : Resend → Resend
-resend_probed p = record p { owes_probe = false; timed = None }
+resend_probed p = record p { owes_probe = false; timed = None; resent = once_more p.resent }
 
 -- The timers expire.
 

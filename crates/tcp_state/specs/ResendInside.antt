@@ -13,4 +13,5 @@ resend_view p = record {
   owes_probe = p.owes_probe;
   overridden = p.overridden;
   syn_resent = p.syn_resent;
+  resent = p.resent;
 }

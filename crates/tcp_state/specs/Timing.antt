@@ -13,7 +13,7 @@ use Rattle.tcp_state.specs.declared.timing.TheConstants.{DELAYED_ACK_WAIT, OVERR
 use Rattle.tcp_state.specs.Resend.{resend_expired, resend_probes}
 use Rattle.tcp_halves.specs.Stream.{outstanding}
 use Rattle.tcp_halves.specs.Windows.{waits_for_more}
-use Rattle.tcp_state.specs.New.{sends_new, sends_fin}
+use Rattle.tcp_state.specs.New.{waits_no_longer, sends_new, sends_fin}
 use Rattle.tcp_state.specs.View.{View, is_opening, is_syn_received, is_closed, awaits_fin_ack, ends_at, is_at_end, after_stop, after_reset}
 
 -- When each timer runs.
@@ -36,7 +36,7 @@ awaits_second v = v.delays_ack && not v.owes_ack
 
 -- new octets wait for more (section 3.8.6.2.1)
 abbrev pub awaits_more : View → Bool
-awaits_more v = not (is_opening v.state) && waits_for_more v.sending v.congestion.cwnd v.resend.overridden
+awaits_more v = not (is_opening v.state) && waits_for_more v.sending v.congestion.cwnd (waits_no_longer v)
 
 -- it goes on where it runs, and else begins
 abbrev pub running : Option Moment → Moment → ℕ → Option Moment

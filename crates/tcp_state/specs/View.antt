@@ -50,6 +50,8 @@ pub record View : Type 0 where
   pub since : Moment
   -- since when a segment that takes numbers (the SYN, octets, the FIN, a probe) has been due while nothing is outstanding
   pub unheard : Option Moment
+  -- small segments don't wait for what is outstanding
+  pub nodelay : Bool
 
 -- SYN-SENT or SYN-RECEIVED
 abbrev pub is_opening : State → Bool
@@ -173,6 +175,7 @@ opened_actively room local peer isn now = record {
   owes_reset = false;
   since = record { 0 = 0 };
   unheard = Some now;
+  nodelay = false;
 }
 
 -- a SYN, or the FIN of a closed side behind all octets, may be outstanding

@@ -4,10 +4,11 @@ ghost use Rattle.std.specs.Prelude.{◌≡◌, ◌<◌, ◌≤◌, ◌++◌, fal
 ghost use Rattle.std.specs.Result.{result_err};
 ghost use Rattle.tcp_state.specs.View.{is_opening, is_read_closed, is_write_closed};
 ghost use Rattle.tcp_halves.specs.Stream.{send_room};
-ghost use Rattle.tcp_state.specs.Calls.{send_answer, with_octets, after_send, recv_answer, after_recv, recv_count, shutdown_refusal, after_shutdown};
+ghost use Rattle.tcp_state.specs.Calls.{send_answer, with_octets, after_send, recv_answer, after_recv, recv_count, shutdown_refusal, after_shutdown, after_set_nodelay};
 
 use crate::connection::Connection;
 use clock::Moment;
+use retransmit::TimerKind;
 use thiserror::Error;
 
 /// Why a connection refuses a call, by its POSIX name. Its text is in words: the number and the name that a caller of a host sees are that host's.
@@ -140,5 +141,17 @@ impl Connection {
         self.state = self.state.beyond_shutdown();
         self.update_timers(false, now);
         Ok(())
+    }
+
+    /// Whether small segments go out without waiting for what is outstanding, from now on (RFC 9293 section 3.7.4, RFC 1122 section
+    /// 4.2.3.4); at first they wait. Full segments and the rules of both windows stay as they are.
+    pub fn set_nodelay(&mut self, now: Moment, on: bool)
+        ensures { self.new ≡ after_set_nodelay self.old on now }
+    {
+        self.is_undelayed = on;
+        if !self.awaits_more() {
+            self.timers.clear(TimerKind::Override);
+        }
+        self.update_timers(false, now);
     }
 }

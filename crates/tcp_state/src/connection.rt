@@ -67,6 +67,8 @@ pub struct Connection {
     pub(crate) since: Moment,
     /// Since when a segment that takes numbers has been due while nothing is outstanding.
     pub(crate) unheard: Option<Moment>,
+    /// Whether small segments don't wait for what is outstanding.
+    pub(crate) is_undelayed: bool,
 }
 
 impl Model for Connection {
@@ -113,6 +115,7 @@ impl Connection {
             owes_reset: false,
             since: Moment(0),
             unheard: Some(now),
+            is_undelayed: false,
         }
     }
 

@@ -1,6 +1,6 @@
 //! Laws of what a connection counts from, of what it takes each event for, and of what the clock leaves.
 
-ghost use Rattle.std.specs.Prelude.{◌≡◌, ◌≢◌, ◌-◌, ◌*◌, ◌<◌, ◌≤◌, ◌&&◌, nat_lt, ◌⊎◌, ◌↔◌, ℕ, min, max, true, false, if◌then◌else◌, length, Some, None, is_some, []};
+ghost use Rattle.std.specs.Prelude.{◌≡◌, ◌≢◌, ◌+◌, ◌-◌, ◌*◌, ◌^◌, ◌<◌, ◌≤◌, ◌&&◌, nat_lt, ◌⊎◌, ◌↔◌, ℕ, min, max, true, false, if◌then◌else◌, length, Some, None, is_some, []};
 ghost use Rattle.ipv4.specs.declared.addr.Endpoint.{Endpoint};
 ghost use Rattle.tcp_segment.specs.Options.{last_mss};
 ghost use Rattle.tcp_segment.specs.Segment.{Segment, smss_of, span_of};
@@ -124,6 +124,15 @@ pub fn lost_syns_are_remembered()
     ensures stays { (v : View) (e : Event) → v.resend.syn_resent ≡ true → (after_event v e).resend.syn_resent ≡ true }
     ensures others { (v : View) (e : Event) → v.resend.syn_resent ≡ false → (after_event v e).resend.syn_resent ≡ true
         → (now : Moment) × (e ≡ Event.Emits now) × (first_due v ≡ Some Due.Syn) × (0 < outstanding v.sending) × (0 < v.resend.expiries) }
+{}
+
+/// Each segment that goes out and brings what went out before counts once, a probe among them, and nothing else does; the count holds still at its last value, which 64 bits have.
+pub fn resent_segments_are_counted()
+    ensures opened { (room : Room) (local peer : Endpoint) (isn : ℕ) (now : Moment) → (opened_actively room local peer isn now).resend.resent ≡ 0 }
+    ensures accepted { (room : Room) (local peer : Endpoint) (isn : ℕ) (syn : Segment) (now : Moment) → (opened_passively room local peer isn syn now).resend.resent ≡ 0 }
+    ensures again { (v : View) (due : Due) (now : Moment) → first_due v ≡ Some due → BringsAgain v due → (after_event v (Event.Emits now)).resend.resent ≡ min (2 ^ 64 - 1) (v.resend.resent + 1) }
+    ensures others { (v : View) (e : Event) → ((after_event v e).resend.resent ≡ v.resend.resent)
+        ⊎ ((now : Moment) × (due : Due) × (e ≡ Event.Emits now) × (first_due v ≡ Some due) × BringsAgain v due) }
 {}
 
 /// Since when a connection waits for the hop to its peer. A moment stands exactly where a segment that takes numbers is due first and nothing is outstanding: the SYN, octets, the FIN, or a probe. It is that of the

@@ -5,7 +5,7 @@ ghost use Rattle.inet_sum.specs.Sum.{sum_of};
 ghost use Rattle.tcp_state.specs.View.{is_opening, is_syn_sent, most_outstanding};
 ghost use Rattle.tcp_halves.specs.Stream.{outstanding};
 ghost use Rattle.tcp_segment.specs.declared.TheConstants.{MSS};
-ghost use Rattle.tcp_state.specs.New.{sends_new, sends_fin};
+ghost use Rattle.tcp_state.specs.New.{waits_no_longer, sends_new, sends_fin};
 ghost use Rattle.tcp_state.specs.Timing.{probes};
 ghost use Rattle.tcp_state.specs.Due.{MayGoOut, IsHeld, first_due, ack_due, again, goes_again, again_from, new_octets, fin_alone, new_due, probe_stretch, numbers_of, end_of, flags_of, flags_of_stretch, ack_number, number_of, octets_of, window_of, head_of, segment_octets, emitted_len, after_emitted, after_going_out, after_ack_paid, after_syn_ack_paid, after_speaking, after_numbers, after_resent, after_first_sent, after_new_octets, brings_new_octets, after_stretch, after_probe, after_syn_out};
 
@@ -152,15 +152,20 @@ impl Connection {
         self.ack_due()
     }
 
+    /// Whether new octets wait for no more: they did so as long as they may, or small segments don't wait for what is outstanding.
+    pub(crate) fn waits_no_longer(&self) -> bool
+        ensures { result ≡ waits_no_longer self.now }
+    {
+        self.is_undelayed && self.sender.takes_enough(self.congestion.window())
+            || self.resend.is_overridden()
+    }
+
     /// Whether new octets go out.
     pub(crate) fn sends_new(&self) -> bool
         ensures { result ≡ sends_new self.now }
     {
         let cwnd = self.congestion.window();
-        self.sender.sendable(cwnd) > 0
-            && self
-                .sender
-                .is_worth_sending(cwnd, self.resend.is_overridden())
+        self.sender.sendable(cwnd) > 0 && self.sender.is_worth_sending(cwnd, self.waits_no_longer())
     }
 
     /// The new octets of the next segment.

@@ -1,6 +1,6 @@
 //! Laws over the definitions alone: functions with nothing to do, whose contracts are the laws.
 
-ghost use Rattle.std.specs.Prelude.{◌≡◌, ℕ, ◌+◌, ◌-◌, ◌*◌, ◌%◌, ◌<◌, ◌≤◌, ◌==◌, ◌≢◌, nat_lt, min, ◌^◌, ◌⊎◌, ◌↔◌, ◌||◌, ◌&&◌, List, ◌++◌, slice_index_or, length, drop, true, false, if◌then◌else◌, Some, None, is_some, []};
+ghost use Rattle.std.specs.Prelude.{◌≡◌, ℕ, ◌+◌, ◌-◌, ◌*◌, ◌%◌, ◌<◌, ◌≤◌, ◌==◌, ◌≢◌, nat_lt, min, ◌^◌, ◌⊎◌, ◌↔◌, ◌||◌, ◌&&◌, Bool, List, ◌++◌, slice_index_or, length, drop, true, false, if◌then◌else◌, Some, None, is_some, []};
 ghost use Rattle.ipv4.specs.declared.addr.Endpoint.{Endpoint};
 ghost use Rattle.tcp_segment.specs.Segment.{Segment, scale_option_of, shift_of, span_of};
 ghost use Rattle.tcp_segment.specs.declared.TheConstants.{DEFAULT_MSS, LEAST_MSS, MSS, SHIFT};
@@ -27,7 +27,7 @@ ghost use Rattle.retransmit.specs.declared.timers.TimerKind.{TimerKind};
 ghost use Rattle.retransmit.specs.Deadlines.{deadline_of};
 ghost use Rattle.tcp_state.specs.declared.resend.Timed.{Timed};
 ghost use Rattle.tcp_state.specs.declared.emission.Stretch.{Stretch};
-ghost use Rattle.tcp_state.specs.Timing.{KeepsTime, probes, expires, wants_out, after_tick, deadline};
+ghost use Rattle.tcp_state.specs.Timing.{KeepsTime, probes, awaits_more, expires, wants_out, after_tick, deadline};
 ghost use Rattle.congestion.specs.Window.{is_recovering, third_is_next};
 ghost use Rattle.tcp_state.specs.Congestion.{KeepsCongestion, after_signal};
 ghost use Rattle.tcp_state.specs.Arrival.{opened_passively, fate, is_acceptable_to, is_receiving, is_read, is_duplicate, after_ack, after_heard, after_segment_at};
@@ -378,14 +378,29 @@ pub fn what_goes_out_again_went_out_before()
         → (after_event v (Event.Emits now)).resend.mark ≡ (if nat_lt (end_of stretch) (outstanding v.sending) then Some (end_of stretch) else None) }
 {}
 
-/// A segment of new octets that isn't full waits for what is outstanding (Nagle, RFC 1122 section 4.2.3.4). Where nothing is, it takes all that is held, or is half of the largest window that the peer ever
+/// A segment of new octets that isn't full waits for what is outstanding (Nagle, RFC 1122 section 4.2.3.4), unless its caller wants no delay. Where nothing is, it takes all that is held, or is half of the largest window that the peer ever
 /// advertised (RFC 9293 section 3.8.6.2.1). The wait is over otherwise only by the clock, at the deadline of the override,
 /// 500 ms after the event by which that began.
 pub fn small_segments_wait()
-    ensures waits { (v : View) (stretch : Stretch) → IsSound v → first_due v ≡ Some (Due.Text stretch) → outstanding v.sending ≤ stretch.offset → 0 < stretch.count → stretch.count < v.sending.smss → v.resend.overridden ≡ false
+    ensures waits { (v : View) (stretch : Stretch) → IsSound v → first_due v ≡ Some (Due.Text stretch) → outstanding v.sending ≤ stretch.offset → 0 < stretch.count → stretch.count < v.sending.smss → v.resend.overridden ≡ false → v.nodelay ≡ false
         → (outstanding v.sending ≡ 0) × ((stretch.count ≡ length v.sending.held) ⊎ (v.sending.max_window ≤ 2 * stretch.count)) }
     ensures overridden { (v : View) (e : Event) → v.resend.overridden ≡ false → (after_event v e).resend.overridden ≡ true → (now : Moment) × (e ≡ Event.Ticks now) × (has_come v.timers.overriding now ≡ true) }
     ensures begins { (v : View) (e : Event) (deadline : Moment) → v.timers.overriding ≡ None → (after_event v e).timers.overriding ≡ Some deadline → (now : Moment) × (moment_of e ≡ Some now) × (deadline ≡ after now 500) }
+{}
+
+/// Where its caller wants no delay, small segments don't wait for what is outstanding (RFC 9293 section 3.7.4, RFC 1122 section 4.2.3.4): what is held and has not gone out is due at once, if it lies within the peer's window and the congestion
+/// window, and nothing goes out again. No connection is so at first, and only its caller's word begins or ends it. That word moves no octet and no number, and after it the override's timer runs exactly where
+/// new octets still wait.
+pub fn no_delay_sends_at_once()
+    ensures sends { (v : View) → IsSound v → v.nodelay ≡ true → v.resend.mark ≡ None → outstanding v.sending < length v.sending.held → length v.sending.held ≤ v.sending.window → length v.sending.held ≤ v.congestion.cwnd
+        → first_due v ≡ Some (Due.Text (record { offset = outstanding v.sending; count = min (length v.sending.held - outstanding v.sending) v.sending.smss; fin = false })) }
+    ensures opened { (room : Room) (local peer : Endpoint) (isn : ℕ) (now : Moment) → (opened_actively room local peer isn now).nodelay ≡ false }
+    ensures accepted { (room : Room) (local peer : Endpoint) (isn : ℕ) (syn : Segment) (now : Moment) → (opened_passively room local peer isn syn now).nodelay ≡ false }
+    ensures told { (v : View) (on : Bool) (now : Moment) → (after_event v (Event.SetsNoDelay on now)).nodelay ≡ on }
+    ensures alone { (v : View) (e : Event) → ((after_event v e).nodelay ≡ v.nodelay) ⊎ ((on : Bool) × (now : Moment) × (e ≡ Event.SetsNoDelay on now)) }
+    ensures streams { (v : View) (on : Bool) (now : Moment)
+        → ((after_event v (Event.SetsNoDelay on now)).sending ≡ v.sending) × ((after_event v (Event.SetsNoDelay on now)).receiving ≡ v.receiving) × ((after_event v (Event.SetsNoDelay on now)).state ≡ v.state) }
+    ensures timer { (v : View) (on : Bool) (now : Moment) → is_some (after_event v (Event.SetsNoDelay on now)).timers.overriding ≡ awaits_more (after_event v (Event.SetsNoDelay on now)) }
 {}
 
 /// PSH stands on each segment that brings octets and behind which nothing that is held is left, and on no other (RFC 9293 section 3.9.1.2).

@@ -4,7 +4,7 @@ ghost use Rattle.std.specs.Prelude.{◌≡◌, ◌<◌, ◌&&◌, if◌then◌el
 ghost use Rattle.tcp_state.specs.Resend.{IsSoundResend, first_resend, stopped, mark_past, resend_again, resend_syn_again, resend_sent, resend_probed, resend_expired, resend_probes, mark_moved, resend_lost, unmarked, is_timed_by, resend_acknowledged};
 
 use clock::Moment;
-use retransmit::Rto;
+use retransmit::{Estimate, Rto};
 use std::marker::Model;
 use tcp_segment::Seq;
 
@@ -45,6 +45,8 @@ pub(crate) struct Resend {
     overridden: bool,
     /// Whether our SYN expired, and went out again.
     syn_resent: bool,
+    /// How many segments brought what went out before, each probe among them.
+    resent: u64,
 }
 
 impl Model for Resend {
@@ -76,6 +78,7 @@ impl Resend {
             owes_probe: false,
             overridden: false,
             syn_resent: false,
+            resent: 0,
         }
     }
 
@@ -91,6 +94,13 @@ impl Resend {
         ensures { result ≡ self.now.timeout.rto }
     {
         self.timeout.rto()
+    }
+
+    /// What the samples tell of the round-trip time; None before the first.
+    pub(crate) fn estimate(&self) -> Option<Estimate>
+        ensures { result ≡ self.now.timeout.estimate }
+    {
+        self.timeout.estimate()
     }
 
     /// How often the timers expired without progress.
@@ -126,6 +136,13 @@ impl Resend {
         ensures { result ≡ self.now.syn_resent }
     {
         self.syn_resent
+    }
+
+    /// How many segments brought what went out before, each probe among them.
+    pub(crate) fn resent(&self) -> u64
+        ensures { result ≡ self.now.resent }
+    {
+        self.resent
     }
 
     /// Nothing is outstanding or waits any longer.
@@ -189,6 +206,7 @@ impl Resend {
         };
         self.once = false;
         self.timed = None;
+        self.resent = self.resent.saturating_add(1);
     }
 
     /// Our SYN went out again.
@@ -232,6 +250,7 @@ impl Resend {
     {
         self.owes_probe = false;
         self.timed = None;
+        self.resent = self.resent.saturating_add(1);
     }
 
     /// The retransmission timer expired, while so many numbers are outstanding.

@@ -35,13 +35,13 @@ impl Connection {
     }
 
     /// Whether new octets wait for more.
-    fn awaits_more(&self) -> bool
+    pub(crate) fn awaits_more(&self) -> bool
         ensures { result ≡ awaits_more self.now }
     {
         !self.state.is_opening()
             && self
                 .sender
-                .waits_for_more(self.congestion.window(), self.resend.is_overridden())
+                .waits_for_more(self.congestion.window(), self.waits_no_longer())
     }
 
     /// Whether nothing of ours waits to go out or to be acknowledged: the connection is open, and no octet is held and no FIN unacknowledged.

@@ -4,6 +4,7 @@ use super::stations::Side::{A, B};
 use super::stations::{Act, CLIENT, FRESH, LISTENING, ONE, SERVER, Scenario, Step, THREE, TWO};
 use host::Refusal;
 use ipv4::{Addr, Endpoint};
+use tcp_state::Refusal as Told;
 
 /// Where a socket is that is not bound.
 const NOWHERE: Endpoint = Endpoint {
@@ -113,6 +114,27 @@ const RESET: &[Step] = &[
     (A, Act::PeerName(ONE, Ok(SERVER))),
 ];
 
+/// What is told of sockets without a connection, and of one that opens.
+const NOTHING_TOLD: &[Step] = &[
+    (A, Act::Info(TWO, Err(Refusal::EBADF))),
+    (A, Act::Info(ONE, Err(Refusal::ENOTCONN))),
+    (A, Act::DatagramSocket(TWO)),
+    (A, Act::Info(TWO, Err(Refusal::EOPNOTSUPP))),
+    (B, Act::Info(ONE, Err(Refusal::EOPNOTSUPP))),
+];
+
+/// .. and of one with octets that its caller hasn't read, and of one that is over.
+const TOLD: &[Step] = &[
+    (A, Act::Info(ONE, Ok((None, 0)))),
+    (A, Act::Send(ONE, b"hello", Ok(5))),
+    (A, Act::Pass(0)),
+    (B, Act::Info(TWO, Ok((None, 5)))),
+    (B, Act::Close(TWO)),
+    (B, Act::Info(TWO, Err(Refusal::EBADF))),
+    (B, Act::Pass(0)),
+    (A, Act::Info(ONE, Ok((Some(Told::ECONNRESET), 0)))),
+];
+
 pub(super) const SCENARIOS: &[Scenario] = &[
     Scenario {
         name: "TCP sockets are where they are bound",
@@ -133,5 +155,10 @@ pub(super) const SCENARIOS: &[Scenario] = &[
         name: "connections have two ends",
         hosts: FRESH,
         parts: &[LISTENING, CALLED, ACCEPTED, RESET],
+    },
+    Scenario {
+        name: "what is told of connections",
+        hosts: FRESH,
+        parts: &[LISTENING, NOTHING_TOLD, CALLED, ACCEPTED, TOLD],
     },
 ];

@@ -1,6 +1,6 @@
 //! The two ends of a connection, what is done at each, and what that is to answer.
 
-use super::{closing, opening, resets, simultaneous};
+use super::{closing, delays, opening, resets, simultaneous};
 use clock::Moment;
 use inet_sum::sum;
 use ipv4::{Addr, Endpoint};
@@ -8,7 +8,7 @@ use std::alloc::Global;
 use std::process::Abort;
 use tcp_segment::{Flags, Head, Seq, TcpView};
 use tcp_state::Fate::{self, Stays};
-use tcp_state::{Buffers, CAPACITY, Connection, Due, MOST_SEGMENT, Received, Refusal, State};
+use tcp_state::{Buffers, CAPACITY, Connection, Due, Info, MOST_SEGMENT, Received, Refusal, State};
 
 pub(super) const CALLER: Endpoint = Endpoint {
     addr: Addr([10, 0, 0, 1]),
@@ -44,6 +44,8 @@ pub(super) enum Act {
     Recv(Result<Received, Refusal>),
     /// Its caller closes its side.
     Shutdown,
+    /// Its caller wants no delay, or does not, from this moment on.
+    SetNoDelay(u64, bool),
     /// Its caller closes the connection at this moment.
     Close(u64, Fate),
     /// Its caller aborts the connection.
@@ -64,6 +66,8 @@ pub(super) enum Act {
     HasSent(&'static [u8]),
     /// Its state.
     State(State),
+    /// What is told of it.
+    Info(Info),
     /// The segment that it has due.
     Due(Option<Due>),
     /// When a tick would do something.
@@ -187,6 +191,10 @@ fn is_answered(end: &mut End, other: &mut End, act: Act) -> bool {
         Act::Send(octets, want) => connection.send(Moment(0), octets) == want,
         Act::Recv(want) => connection.recv(&mut [0; 9]) == want,
         Act::Shutdown => connection.shutdown(Moment(0)) == Ok(()),
+        Act::SetNoDelay(now, on) => {
+            connection.set_nodelay(Moment(now), on);
+            true
+        }
         Act::Close(now, want) => connection.close(Moment(now)) == want,
         Act::Abort(want) => connection.abort(Moment(0)) == want,
         Act::Tick(now, want) => connection.tick(Moment(now)) == want,
@@ -203,6 +211,7 @@ fn is_answered(end: &mut End, other: &mut End, act: Act) -> bool {
         }
         Act::HasSent(octets) => end.sent() == octets,
         Act::State(want) => connection.state() == want,
+        Act::Info(want) => connection.info() == want,
         Act::Due(want) => connection.due() == want,
         Act::Deadline(want) => connection.deadline() == want,
         Act::Error(want) => connection.error() == Some(want),
@@ -238,11 +247,12 @@ fn plays(rt: &impl Abort, alloc: Global, scenario: &Scenario) {
 }
 
 /// All scenarios.
-const SCENARIOS: [&[Scenario]; 4] = [
+const SCENARIOS: [&[Scenario]; 5] = [
     opening::SCENARIOS,
     closing::SCENARIOS,
     resets::SCENARIOS,
     simultaneous::SCENARIOS,
+    delays::SCENARIOS,
 ];
 
 #[test]

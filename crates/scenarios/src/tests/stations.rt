@@ -13,7 +13,7 @@ use routes::{Hop, Routes};
 use std::alloc::Global;
 use std::process::Abort;
 use tcp_segment::Seq;
-use tcp_state::Received;
+use tcp_state::{Received, Refusal as Told};
 
 const A: Addr = Addr([10, 0, 0, 1]);
 
@@ -97,6 +97,8 @@ pub(super) enum Act {
     Close(SocketId),
     /// The state of a socket.
     State(SocketId, Result<SocketState, Refusal>),
+    /// The error and the octets that can be read, as what is told of a socket's connection has them.
+    Info(SocketId, Result<(Option<Told>, usize), Refusal>),
     /// The local end of a socket.
     SockName(SocketId, Result<Endpoint, Refusal>),
     /// The peer of a socket's connection.
@@ -349,6 +351,10 @@ impl Station {
         self.host.state(id) == want
     }
 
+    fn has_info(&self, id: SocketId, want: Result<(Option<Told>, usize), Refusal>) -> bool {
+        self.host.info(id).map(|info| (info.error, info.readable)) == want
+    }
+
     fn has_name(&self, id: SocketId, want: Result<Endpoint, Refusal>) -> bool {
         self.host.sockname(id) == want
     }
@@ -437,6 +443,7 @@ fn is_answered(station: &mut Station, other: &mut Station, act: Act) -> bool {
         Act::RecvFrom(id, octets, want) => station.receives(id, octets, want),
         Act::Close(id) => station.closes(id),
         Act::State(id, want) => station.has_state(id, want),
+        Act::Info(id, want) => station.has_info(id, want),
         Act::SockName(id, want) => station.has_name(id, want),
         Act::PeerName(id, want) => station.has_peer(id, want),
         Act::Pair(id, want) => station.has_pair(id, want),

@@ -107,6 +107,7 @@ unsent-on c sound u =
       sends = λ octets taken now open_ other. inl u;
       reads = λ len other. inl u;
       shuts = λ now other. inl (shut-opening c.state u.0, u.1);
+      delays = λ on now other. inl u;
       leaves = λ now lives other. inl (shut-opening c.state u.0, u.1);
       aborts = λ e now moment cause lives other. inr refl;
       refused = λ number hit other. inr refl;

@@ -16,7 +16,7 @@ use Rattle.tcp_state.specs.declared.emission.Due.{Due}
 use Rattle.tcp_state.specs.declared.emission.Due.TheVariants.{Rst, Syn, Text, Probe}
 use Rattle.tcp_state.specs.declared.state.State.{State}
 use Rattle.tcp_state.specs.Calls.{shutdown_refusal, after_shutdown}
-use Rattle.tcp_state.specs.New.{sends_new, sends_fin}
+use Rattle.tcp_state.specs.New.{sends_new, sends_fin, waits_no_longer}
 use Rattle.tcp_state.specs.Due.{first_due, new_octets, fin_alone as fin_alone_of, ack_due, again_from, new_due}
 use Rattle.tcp_state.specs.Duties.{IsShut}
 use Rattle.tcp_state.specs.Edges as edge
@@ -65,7 +65,7 @@ pub fin_due_first : (w : View) (n : ℕ) → n < 2 ^ 32 → w.owes_reset ≡ fal
 fin_due_first w n small reset opened awaits mark una nxt held room =
     let none : outstanding w.sending ≡ 0 = ap (λ m. past m w.sending.una) nxt ∙ (ap (past n) una ∙ same_numbers n small) in
     let least : sendable w.sending w.congestion.cwnd ≡ 0 = omega (arith, ap length held) in
-    let none_new : sends_new w ≡ false = ap (λ m. nat_lt 0 m && is_worth_sending w.sending w.congestion.cwnd w.resend.overridden) least in
+    let none_new : sends_new w ≡ false = ap (λ m. nat_lt 0 m && is_worth_sending w.sending w.congestion.cwnd (waits_no_longer w)) least in
     let fin : sends_fin w ≡ true =
     ap (λ b. b && (outstanding w.sending == length w.sending.held) && nat_lt (outstanding w.sending) w.sending.window) awaits
     ∙ (ap (λ m. (m == length w.sending.held) && nat_lt m w.sending.window) none ∙ (ap (λ xs. (0 == length xs) && nat_lt 0 w.sending.window) held ∙ lt-ltb 0 w.sending.window room)) in

@@ -16,7 +16,7 @@ use Rattle.tcp_state.specs.Arrival.{octets_outstanding, fate, is_lost, is_reject
 use Rattle.tcp_state.specs.Edges.{Hears, after_event}
 use Rattle.tcp_state.specs.Said.{segment_of, IsClosedBy}
 use Rattle.tcp_state.specs.View.{View, IsSound, is_opening, is_closed, is_over, is_syn_sent, is_syn_received, awaits_fin_ack, is_write_closed}
-use Rattle.tcp_state.specs.New.{sends_new, sends_fin}
+use Rattle.tcp_state.specs.New.{sends_new, sends_fin, waits_no_longer}
 use Rattle.tcp_state.specs.Due.{ack_number, first_due, new_octets, fin_alone as fin_alone_of, ack_due, again_from, new_due}
 use Rattle.tcp_state.specs.Timing.{has_unacknowledged, probes}
 use Rattle.tcp_halves.specs.Windows.{window_in, hears_next, sendable, is_worth_sending, has_grown}
@@ -84,7 +84,7 @@ opening_out v sound opens out =
 pub ack_due_first : (w : View) → w.owes_reset ≡ false → is_opening w.state ≡ false → awaits_fin_ack w.state ≡ false → w.resend.mark ≡ None → w.sending.held ≡ [] → w.owes_ack ≡ true → first_due w ≡ Some Ack
 ack_due_first w reset opened fin mark held owes =
     let least : sendable w.sending w.congestion.cwnd ≡ 0 = omega (arith, ap length held) in
-    let none_new : sends_new w ≡ false = ap (λ n. nat_lt 0 n && is_worth_sending w.sending w.congestion.cwnd w.resend.overridden) least in
+    let none_new : sends_new w ≡ false = ap (λ n. nat_lt 0 n && is_worth_sending w.sending w.congestion.cwnd (waits_no_longer w)) least in
     let no_fin : sends_fin w ≡ false = ap (λ b. b && (outstanding w.sending == length w.sending.held) && nat_lt (outstanding w.sending) w.sending.window) fin in
     let none_left : has_unacknowledged w ≡ false = ap (λ n. not (n == 0) || awaits_fin_ack w.state) (ap length held) ∙ fin in
     let unprobed : (w.resend.owes_probe && probes w) ≡ false = ap (λ b. w.resend.owes_probe && (not (is_opening w.state) && (w.sending.window == 0) && b)) none_left ∙ never w.resend.owes_probe (not (is_opening w.state)) (w.sending.window == 0) in
