@@ -23,14 +23,15 @@ use Rattle.sockets.specs.declared.entry.SocketId.{SocketId}
 use Rattle.sockets.specs.declared.entry.Entry.{Entry}
 use Rattle.sockets.specs.declared.refusal.Refusal.{Refusal}
 use Rattle.sockets.specs.declared.refusal.Refusal.TheVariants.{EBADF, EMSGSIZE, EAGAIN, EADDRINUSE, EOPNOTSUPP}
+use Rattle.sockets.specs.declared.role.Leave.{Leave}
 use Rattle.sockets.specs.declared.role.Role.{Role}
 use Rattle.sockets.specs.declared.role.Role.TheVariants.{Idle, Listener, Connected, Datagrams}
 use Rattle.sockets.specs.Arrival.{arrival_with_reply}
-use Rattle.sockets.specs.Calls.{after_bind, after_connect, after_close, after_socket_closed, of_socket, port_bound, port_connected, reach_refusal}
-use Rattle.sockets.specs.Causes.{Event, Makes, MakesDatagrams, Binds, Listens, Accepts, Connects, Sends, Receives, Shuts, Closes, Ticks, Hears, Emits, GivesUp, Unreachable, SendsTo, ReceivesFrom, HearsDatagram, after_arrival, after_event}
+use Rattle.sockets.specs.Calls.{after_bind, after_connect, after_leaving, after_socket_left, of_socket, port_bound, port_connected, reach_refusal}
+use Rattle.sockets.specs.Causes.{Event, Makes, MakesDatagrams, Binds, Listens, Accepts, Connects, Sends, Receives, Shuts, Leaves, Ticks, Hears, Emits, GivesUp, Unreachable, SendsTo, ReceivesFrom, HearsDatagram, after_arrival, after_event}
 use Rattle.sockets.specs.Datagrams.{after_reception, after_sendto, end_sent_from, sending_end}
 use Rattle.sockets.specs.Emission.{after_segment_sent}
-use Rattle.sockets.specs.Entries.{close_fate_of, entries_after_step, has_room_to_receive, has_room_to_send, is_between, is_datagrams_at, is_kept, is_socket, on_connection, on_datagrams, role_after_accept, role_after_bind, role_after_close, role_after_connect, role_after_emission, role_after_listen, role_after_listener_close, role_after_reception, role_after_sendto, role_after_unreachable, sends, waits_at, with_first, with_role}
+use Rattle.sockets.specs.Entries.{leaving_fate_of, entries_after_step, has_room_to_receive, has_room_to_send, is_between, is_datagrams_at, is_kept, is_socket, on_connection, on_datagrams, role_after_accept, role_after_bind, role_after_leaving, role_after_connect, role_after_emission, role_after_listen, role_after_listener_close, role_after_reception, role_after_sendto, role_after_unreachable, sends, waits_at, with_first, with_role}
 use Rattle.sockets.specs.Lists.{change_first, remove_first}
 use Rattle.sockets.specs.Lost.{role_after_giving_up}
 use Rattle.sockets.specs.Offered.{IsReached}
@@ -267,12 +268,12 @@ connected-fit h isn id peer routed all = by_port (port_connected h id peer route
     by_port (Err refusal) given = rw given all
     by_port (Ok port) given = rw given (changed-fit (is_socket id) _ (connect-keeps _ peer isn h.kept) h.entries all)
 
-closed-fit : (h : SocketsView) (id : SocketId) → Filled h → Filled (after_close h id)
-closed-fit h id all = retained-fit _ _ (forsaken-keeps h.kept id) (let w : SocketsView = after_socket_closed h id in w.entries) (by_role (role_of h id))
+left-fit : (h : SocketsView) (how : Leave) (id : SocketId) → Filled h → Filled (after_leaving h how id)
+left-fit h how id all = retained-fit _ _ (forsaken-keeps h.kept id) (let w : SocketsView = after_socket_left h how id in w.entries) (by_role (role_of h id))
   where
-    by_role : (o : Option Role) → Filled (of_socket h (λ role. record h { entries = entries_after_step (close_fate_of role) (is_socket id) (role_after_close h.kept) h.entries }) o)
+    by_role : (o : Option Role) → Filled (of_socket h (λ role. record h { entries = entries_after_step (leaving_fate_of how h.kept role) (is_socket id) (role_after_leaving how h.kept) h.entries }) o)
     by_role None = all
-    by_role (Some role) = stepped-fit (close_fate_of role) (is_socket id) (role_after_close h.kept) (connection-keeps _) h.entries all
+    by_role (Some role) = stepped-fit (leaving_fate_of how h.kept role) (is_socket id) (role_after_leaving how h.kept) (connection-keeps _) h.entries all
 
 heard-fit : (h : SocketsView) (now : Moment) (isn : ℕ) (source : Addr) (s : Segment) → Filled h → Filled (after_event h (Hears now isn source s))
 heard-fit h now isn source s all =
@@ -386,7 +387,7 @@ event-fit h (Connects isn id peer routed) all = connected-fit h isn id peer rout
 event-fit h (Sends id octets) all = changed-fit _ _ (connection-keeps _) h.entries all
 event-fit h (Receives id len) all = changed-fit _ _ (connection-keeps _) h.entries all
 event-fit h (Shuts id) all = changed-fit _ _ (connection-keeps _) h.entries all
-event-fit h (Closes id) all = closed-fit h id all
+event-fit h (Leaves how id) all = left-fit h how id all
 event-fit h (Ticks now) all = retained-fit _ _ (connection-keeps _) h.entries all
 event-fit h (Hears now isn source s) all = heard-fit h now isn source s all
 event-fit h (Emits goes now) all = emitted-fit h goes now all

@@ -13,7 +13,7 @@ use tcp_state::Received;
 
 impl Host {
     ghost use Rattle.host.specs.HostView.{with_sockets};
-    ghost use Rattle.sockets.specs.Calls.{is_table_full, IsMade, bind_refusal, after_bind, listen_refusal, after_listen, accept_answer, after_accept, connect_refusal, after_connect, pair_connected, send_answer, after_send, recv_answer, recv_front, after_recv, shutdown_refusal, after_shutdown, close_refusal, after_close, state_answer, sockname_answer, peername_answer};
+    ghost use Rattle.sockets.specs.Calls.{is_table_full, IsMade, bind_refusal, after_bind, listen_refusal, after_listen, accept_answer, after_accept, connect_refusal, after_connect, pair_connected, send_answer, after_send, recv_answer, recv_front, after_recv, shutdown_refusal, after_shutdown, close_refusal, after_close, after_abort, state_answer, sockname_answer, peername_answer};
     ghost use Rattle.sockets.specs.Datagrams.{sendto_answer, after_sendto, recvfrom_answer, recvfrom_front, after_recvfrom};
 
     /// Makes a socket of this kind. EMFILE, ENOMEM. See `Sockets::socket`.
@@ -156,6 +156,16 @@ impl Host {
     {
         self.sound();
         self.layers.sockets.close(id)
+    }
+
+    /// Aborts a socket: its id names none any more, and the peer of its connection is owed a reset. EBADF. See `Sockets::abort`.
+    pub fn abort(&mut self, id: SocketId) -> Result<(), Refusal>
+        ensures refused { result_err result ≡ close_refusal self.old.sockets id }
+        ensures ok { OnOk result (self.new ≡ with_sockets self.old (after_abort self.old.sockets id)) }
+        ensures err { OnErr result (self.new ≡ self.old) }
+    {
+        self.sound();
+        self.layers.sockets.abort(id)
     }
 
     /// The state of a socket. EBADF. See `Sockets::state`.

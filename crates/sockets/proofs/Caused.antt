@@ -25,19 +25,20 @@ use Rattle.sockets.specs.declared.state.SocketState.{SocketState}
 use Rattle.sockets.specs.declared.state.SocketState.TheVariants.{Datagram, Stream}
 use Rattle.sockets.specs.declared.entry.SocketId.{SocketId}
 use Rattle.sockets.specs.declared.entry.Entry.{Entry}
+use Rattle.sockets.specs.declared.role.Leave.{Leave}
 use Rattle.sockets.specs.declared.role.Role.{Role}
 use Rattle.sockets.specs.declared.role.Role.TheVariants.{Connected}
-use Rattle.sockets.specs.Entries.{in_connection, is_socket, is_between, sends, has_socket, shown_state, is_kept}
+use Rattle.sockets.specs.Entries.{in_connection, is_closed_by, is_socket, is_between, sends, has_socket, shown_state, is_kept}
 use Rattle.sockets.specs.SocketsView.{SocketsView, later_moment}
 use Rattle.sockets.specs.Arrival.{local_end, peer_end}
 use Rattle.sockets.specs.Lost.{is_given_up}
 use Rattle.sockets.specs.Sound.{IsSoundConnection, IsSoundRole, IsSoundTable}
-use Rattle.sockets.specs.Causes.{Event, after_event, is_close_cause, is_cause_for, is_closed_state, IsEdge, reports_to, is_next_out, IsAdded, IsStep, Follows}
+use Rattle.sockets.specs.Causes.{Event, after_event, is_leaving_cause, is_cause_for, is_closed_state, IsEdge, reports_to, is_next_out, IsAdded, IsStep, Follows}
 use Rattle.sockets.proofs.Ends.{eqb-same, same_end-same}
 use Rattle.sockets.proofs.Emitting.{segment_sends}
 use Rattle.sockets.proofs.Opened.{found_passes}
 use Rattle.sockets.proofs.Followed.{IsNothing, by_test, joined_by, follows_map}
-use Rattle.sockets.proofs.Steps.{IsEventOf, closes_it, aborts_it, ticks_it, comes_to_it, goes_out, tells_it, loses_it, entry, IsStepOf, stays, moves, ends, binds, listens, opens, accepted, requeues, binds_datagrams, closed, given_up, IsJoining, made, made_datagrams, called, IsStepped, followed, joined, stepped}
+use Rattle.sockets.proofs.Steps.{IsEventOf, closes_it, resets_it, aborts_it, ticks_it, comes_to_it, goes_out, tells_it, loses_it, entry, IsStepOf, stays, moves, ends, binds, listens, opens, accepted, requeues, binds_datagrams, closed, given_up, IsJoining, made, made_datagrams, called, IsStepped, followed, joined, stepped}
 
 -- One connection.
 
@@ -99,9 +100,14 @@ comes_next : (h : SocketsView) (goes : Addr → Bool) (x : Entry) → find (send
 comes_next h goes x found = rw found (eqb-same x.id.0)
 
 module _ (h : SocketsView) (id : SocketId) (c : View) (l : Option SocketId) where
+  -- its caller's leaving is a close or an abort
+  left_by : (how : Leave) (b : Bool) → is_closed_by how c ≡ b → edge.is_cause c (if b then edge.Closes h.kept else edge.Aborts h.kept) ≡ true → is_leaving_cause how h.kept (Connected c l) ≡ true
+  left_by how b so cause = ap (λ (t : Bool). edge.is_cause c (if t then edge.Closes h.kept else edge.Aborts h.kept)) so ∙ cause
+
   cause_for : (e : Event) (ev : edge.Event) → IsEventOf h (entry id (Connected c l)) e ev → edge.is_cause c ev ≡ true → is_cause_for h e (entry id (Connected c l)) ≡ true
-  cause_for _ _ (closes_it named socket) cause = or_left _ _ (both _ _ socket cause)
-  cause_for _ _ (aborts_it named waits) cause = or_right (is_socket named (entry id (Connected c l)) && is_close_cause h.kept (Connected c l)) _ waits
+  cause_for _ _ (closes_it how named socket so) cause = or_left _ _ (both _ _ socket (left_by how true so cause))
+  cause_for _ _ (resets_it how named socket so) cause = or_left _ _ (both _ _ socket (left_by how false so cause))
+  cause_for _ _ (aborts_it how named waits) cause = or_right (is_socket named (entry id (Connected c l)) && is_leaving_cause how h.kept (Connected c l)) _ waits
   cause_for _ _ (ticks_it now) cause = cause
   cause_for _ _ (comes_to_it now isn source s between) cause = both _ _ between cause
   cause_for _ _ (goes_out goes now found) cause = both _ _ (comes_next h goes (entry id (Connected c l)) found) cause
@@ -116,8 +122,9 @@ module _ (h : SocketsView) (id : SocketId) (c : View) (l : Option SocketId) wher
       live local peer between = not_over c (not_true _ (and_left _ _ between))
 
       caused : (e : Event) (ev : edge.Event) → IsEventOf h (entry id (Connected c l)) e ev → edge.fate_by c ev ≡ Removed → edge.is_cause c ev ≡ true
-      caused _ _ (closes_it named socket) removed = removed_caused c (edge.Closes h.kept) (held_not_over c l (and_right _ _ socket)) removed
-      caused _ _ (aborts_it named waits) removed = refl
+      caused _ _ (closes_it how named socket so) removed = removed_caused c (edge.Closes h.kept) (held_not_over c l (and_right _ _ socket)) removed
+      caused _ _ (resets_it how named socket so) removed = refl
+      caused _ _ (aborts_it how named waits) removed = refl
       caused _ _ (ticks_it now) removed = tick_caused c (later_moment h now) removed
       caused _ _ (comes_to_it now isn source s between) removed = removed_caused c (edge.Hears s (later_moment h now)) (live (local_end h s) (peer_end source s) between) removed
       caused _ _ (goes_out goes now found) removed = removed_caused c (edge.Emits (later_moment h now)) (due_not_over c sound.sound (segment_sends goes c l (found_passes (sends goes) h.entries (entry id (Connected c l)) found))) removed
@@ -132,10 +139,10 @@ module _ (h : SocketsView) (id : SocketId) (c : View) (l : Option SocketId) wher
   report_for _ _ error (loses_it lost now hopless) raises = both _ _ hopless raises
   report_for _ _ error _ raises = cc
 
--- a socket without a connection is gone by its close
-alone_caused : (now : Moment) (role : Role) → in_connection true (λ c. false) role ≡ true → is_close_cause now role ≡ true
-alone_caused now (Connected c l) alone = cc
-alone_caused now _ alone = refl
+-- a socket without a connection is gone once its caller leaves it
+alone_caused : (how : Leave) (now : Moment) (role : Role) → in_connection true (λ c. false) role ≡ true → is_leaving_cause how now role ≡ true
+alone_caused how now (Connected c l) alone = cc
+alone_caused how now _ alone = refl
 
 -- Each step has its causes.
 
@@ -161,7 +168,7 @@ step_caused h _ _ _ sound (opens isn named peer routed id buffers bound local so
 step_caused h _ _ _ sound (accepted named id c l next) = (refl, inl refl, λ closes. let none = never (is_closed c.state) in cc, λ error told. inl told)
 step_caused h e _ _ sound (requeues id bound before after) = (refl, tt, λ closes. cc, λ error told. inl told)
 step_caused h e _ _ sound (binds_datagrams id bound local before after takes) = (refl, tt, λ closes. cc, λ error told. inl told)
-step_caused h _ _ _ sound (closed named id role socket alone) = or_left _ _ (both _ _ socket (alone_caused h.kept role alone))
+step_caused h _ _ _ sound (closed how named id role socket alone) = or_left _ _ (both _ _ socket (alone_caused how h.kept role alone))
 step_caused h _ _ _ sound (given_up lost now x gone) = or_left _ _ gone
 
 -- what is added is what an event may add

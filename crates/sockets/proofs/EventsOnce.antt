@@ -15,6 +15,7 @@ use Rattle.tcp_state.proofs.Unchanged.{rejected_leaves_at}
 use Rattle.sockets.specs.declared.entry.SocketId.{SocketId}
 use Rattle.sockets.specs.declared.entry.Entry.{Entry}
 use Rattle.sockets.specs.declared.emission.Outgoing.{Outgoing}
+use Rattle.sockets.specs.declared.role.Leave.{Leave}
 use Rattle.sockets.specs.declared.role.Role.{Role}
 use Rattle.sockets.specs.declared.role.Role.TheVariants.{Idle, Listener, Connected, Datagrams}
 use Rattle.sockets.specs.Lists.{change_first}
@@ -23,14 +24,14 @@ use Rattle.sockets.specs.Entries as role
 use Rattle.sockets.specs.SocketsView.{SocketsView, later_moment}
 use Rattle.tcp_state.specs.Hop.{hopless_fate}
 use Rattle.sockets.specs.Lost.{is_given_up, is_hopless, give_up_fate_of, role_after_giving_up}
-use Rattle.sockets.specs.Calls.{after_socket_closed, after_close}
+use Rattle.sockets.specs.Calls.{after_socket_left, after_leaving}
 use Rattle.sockets.specs.Arrival.{local_end, peer_end, arrival_with_reply}
-use Rattle.sockets.specs.Causes.{Event, Makes, MakesDatagrams, Binds, Listens, Accepts, Connects, Sends, Receives, Shuts, Closes, Ticks, Hears, Emits, GivesUp, Unreachable, SendsTo, ReceivesFrom, HearsDatagram, after_arrival, after_event, is_next_out, IsAdded, Follows}
+use Rattle.sockets.specs.Causes.{Event, Makes, MakesDatagrams, Binds, Listens, Accepts, Connects, Sends, Receives, Shuts, Leaves, Ticks, Hears, Emits, GivesUp, Unreachable, SendsTo, ReceivesFrom, HearsDatagram, after_arrival, after_event, is_next_out, IsAdded, Follows}
 use Rattle.sockets.specs.Steps.{connected, closes_socket, remains, changes, closes, IsLeft, IsOneEvent}
 use Rattle.sockets.specs.Order.{IsOrdered}
 use Rattle.sockets.proofs.Arrivals.{by_arrival, IsReply, refusing, to_stray, at_listener}
 use Rattle.sockets.proofs.Caused.{joining_added}
-use Rattle.sockets.proofs.Closed.{closed-found}
+use Rattle.sockets.proofs.Closed.{left-found}
 use Rattle.sockets.proofs.Emitting.{found_due, segment_sent-found, segment_sent-none}
 use Rattle.sockets.proofs.Ends.{eqb-same}
 use Rattle.sockets.proofs.Opened.{found_passes}
@@ -44,82 +45,82 @@ use Rattle.udp_socket.specs.SocketView.{after_read}
 use Rattle.udp_socket.specs.Emission.{after_part}
 use Rattle.sockets.proofs.EachOnce.{bound_once, listens, connected_once, queues_change, sent_once, received_once, sends_once, reads_once, shuts_once, accepts_once}
 
--- Closing.
+-- Leaving.
 
--- a socket is closed: the connection of none other
-abbrev IsClosing : SocketsView → SocketId → Entry → Option Entry → Type 0
-IsClosing h id x None = IsOneEvent h (Closes id) x None
-IsClosing h id x (Some y) = ((y ≡ x) × (is_socket id x ≡ false)) ⊎ (IsOneEvent h (Closes id) x (Some y) × (waits_at id y.role ≡ false))
+-- a socket is left: the connection of none other
+abbrev IsLeaving : SocketsView → Leave → SocketId → Entry → Option Entry → Type 0
+IsLeaving h how id x None = IsOneEvent h (Leaves how id) x None
+IsLeaving h how id x (Some y) = ((y ≡ x) × (is_socket id x ≡ false)) ⊎ (IsOneEvent h (Leaves how id) x (Some y) × (waits_at id y.role ≡ false))
 
 -- and what waits at it is aborted
-abbrev IsForsaking : SocketsView → SocketId → Entry → Option Entry → Type 0
-IsForsaking h id y left = (is_socket id y ≡ false → IsOneEvent h (Closes id) y left) × (waits_at id y.role ≡ false → left ≡ Some y)
+abbrev IsForsaking : SocketsView → Leave → SocketId → Entry → Option Entry → Type 0
+IsForsaking h how id y left = (is_socket id y ≡ false → IsOneEvent h (Leaves how id) y left) × (waits_at id y.role ≡ false → left ≡ Some y)
 
-module _ (h : SocketsView) (id : SocketId) (o : IsOrdered h) where
-  closing : (x : Entry) → is_socket id x ≡ true → is_kept (role.close_fate_of x.role) ≡ true → IsClosing h id x (Some (with_role (role.role_after_close h.kept) x))
-  closing x named kept = by_role x.role named kept
+module _ (h : SocketsView) (how : Leave) (id : SocketId) (o : IsOrdered h) where
+  leaving : (x : Entry) → is_socket id x ≡ true → is_kept (role.leaving_fate_of how h.kept x.role) ≡ true → IsLeaving h how id x (Some (with_role (role.role_after_leaving how h.kept) x))
+  leaving x named kept = by_role x.role named kept
     where
-      by_role : (r : Role) → is_socket id (entry x.id r) ≡ true → is_kept (role.close_fate_of r) ≡ true → IsClosing h id (entry x.id r) (Some (entry x.id (role.role_after_close h.kept r)))
+      by_role : (r : Role) → is_socket id (entry x.id r) ≡ true → is_kept (role.leaving_fate_of how h.kept r) ≡ true → IsLeaving h how id (entry x.id r) (Some (entry x.id (role.role_after_leaving how h.kept r)))
       by_role (Connected c None) named kept =
-          inr (took h (Closes id) (λ y l. (refl, refl)) (edge.Closes h.kept) (λ d. edge.after_event d (edge.Closes h.kept)) (λ d. refl) (connected x.id c None) (rw named refl) kept refl, refl)
+          inr (took h (Leaves how id) (λ y l. (refl, refl)) (role.leaving_event how h.kept c) (λ d. edge.after_event d (role.leaving_event how h.kept c)) (λ d. refl) (connected x.id c None) (rw named refl) kept refl, refl)
       by_role (Connected c (Some l)) named kept = let bad : false ≡ true = and_right (x.id.0 == id.0) false named in cc
       by_role _ named kept = cc
 
-  taken : (x : Entry) → is_socket id x ≡ true → is_kept (role.close_fate_of x.role) ≡ false → IsClosing h id x None
+  taken : (x : Entry) → is_socket id x ≡ true → is_kept (role.leaving_fate_of how h.kept x.role) ≡ false → IsLeaving h how id x None
   taken x named gone = by_role x.role named gone
     where
-      by_role : (r : Role) → is_socket id (entry x.id r) ≡ true → is_kept (role.close_fate_of r) ≡ false → IsClosing h id (entry x.id r) None
-      by_role (Connected c l) named gone = taken_out h (Closes id) (λ y k. (refl, refl)) (edge.Closes h.kept) (connected x.id c l) (rw named refl) gone
-      by_role (Idle buffers bound) named gone = closes id (entry x.id (Idle buffers bound)) named
-      by_role (Listener l b) named gone = closes id (entry x.id (Listener l b)) named
-      by_role (Datagrams bound queues) named gone = closes id (entry x.id (Datagrams bound queues)) named
+      by_role : (r : Role) → is_socket id (entry x.id r) ≡ true → is_kept (role.leaving_fate_of how h.kept r) ≡ false → IsLeaving h how id (entry x.id r) None
+      by_role (Connected c l) named gone = taken_out h (Leaves how id) (λ y k. (refl, refl)) (role.leaving_event how h.kept c) (connected x.id c l) (rw named refl) gone
+      by_role (Idle buffers bound) named gone = closes how id (entry x.id (Idle buffers bound)) named
+      by_role (Listener l b) named gone = closes how id (entry x.id (Listener l b)) named
+      by_role (Datagrams bound queues) named gone = closes how id (entry x.id (Datagrams bound queues)) named
 
-  socket_closed : Follows (IsClosing h id) IsNothing h.entries (let w = after_socket_closed h id in w.entries)
-  socket_closed =
+  socket_left : Follows (IsLeaving h how id) IsNothing h.entries (let w = after_socket_left h how id in w.entries)
+  socket_left =
       by_option (find (is_socket id) h.entries)
-      (λ none. let same : after_socket_closed h id ≡ h = rw none refl in
-      subst (λ (w : SocketsView). Follows (IsClosing h id) IsNothing h.entries w.entries) (sym same)
-      (untouched (IsClosing h id) (is_socket id) (λ x other. inl (refl, other)) h.entries (count_unfound (is_socket id) h.entries none)))
+      (λ none. let same : after_socket_left h how id ≡ h = rw none refl in
+      subst (λ (w : SocketsView). Follows (IsLeaving h how id) IsNothing h.entries w.entries) (sym same)
+      (untouched (IsLeaving h how id) (is_socket id) (λ x other. inl (refl, other)) h.entries (count_unfound (is_socket id) h.entries none)))
       (λ first found.
       let named : is_socket id first ≡ true = found_passes (is_socket id) h.entries first found in
-      subst (λ (w : SocketsView). Follows (IsClosing h id) IsNothing h.entries w.entries) (sym (closed-found h id first found))
-      (once_settled (IsClosing h id) (is_socket id) (λ x other. inl (refl, other)) (is_socket id) first named (role.close_fate_of first.role) (role.role_after_close h.kept) (closing first named) (taken first named) h.entries found (socket_once h id o)))
+      subst (λ (w : SocketsView). Follows (IsLeaving h how id) IsNothing h.entries w.entries) (sym (left-found h how id first found))
+      (once_settled (IsLeaving h how id) (is_socket id) (λ x other. inl (refl, other)) (is_socket id) first named (role.leaving_fate_of how h.kept first.role) (role.role_after_leaving how h.kept) (leaving first named) (taken first named) h.entries found (socket_once h id o)))
 
-  -- the close of one socket is that of no other
-  other_stays : (y : Entry) → is_socket id y ≡ false → closes_socket (Closes id) y ≡ false
+  -- who leaves one socket leaves no other
+  other_stays : (y : Entry) → is_socket id y ≡ false → closes_socket (Leaves how id) y ≡ false
   other_stays y apart = by_first (in_connection true (λ (c : View). false) y.role)
     where
       by_first : (b : Bool) → (b && is_socket id y) ≡ false
       by_first true = apart
       by_first false = refl
 
-  forsaking : (y : Entry) → is_kept (role.listener_close_fate_of id y.role) ≡ true → IsForsaking h id y (Some (with_role (role.role_after_listener_close h.kept id) y))
+  forsaking : (y : Entry) → is_kept (role.listener_close_fate_of id y.role) ≡ true → IsForsaking h how id y (Some (with_role (role.role_after_listener_close h.kept id) y))
   forsaking y kept =
       by_test (waits_at id y.role)
       (λ waits. rw waits (
-        λ no. took h (Closes id) (λ x l. (refl, refl)) (edge.Aborts h.kept) (λ (c : View). edge.after_event c (edge.Aborts h.kept)) (λ c. refl) y (rw (no, waits) refl) (rw waits at kept) (other_stays y no),
+        λ no. took h (Leaves how id) (λ x l. (refl, refl)) (edge.Aborts h.kept) (λ (c : View). edge.after_event c (edge.Aborts h.kept)) (λ c. refl) y (rw (no, waits) refl) (rw waits at kept) (other_stays y no),
         λ other. cc,
       ))
-      (λ other. rw other (λ no. passed h (Closes id) (λ x l. (refl, refl)) y (rw (no, other) refl) (other_stays y no), λ e. refl))
+      (λ other. rw other (λ no. passed h (Leaves how id) (λ x l. (refl, refl)) y (rw (no, other) refl) (other_stays y no), λ e. refl))
 
-  forsaken : (y : Entry) → is_kept (role.listener_close_fate_of id y.role) ≡ false → IsForsaking h id y None
+  forsaken : (y : Entry) → is_kept (role.listener_close_fate_of id y.role) ≡ false → IsForsaking h how id y None
   forsaken y gone =
       by_test (waits_at id y.role)
       (λ waits. (
-        λ no. taken_out h (Closes id) (λ x l. (refl, refl)) (edge.Aborts h.kept) y (rw (no, waits) refl) (rw waits at gone),
+        λ no. taken_out h (Leaves how id) (λ x l. (refl, refl)) (edge.Aborts h.kept) y (rw (no, waits) refl) (rw waits at gone),
         λ other. let bad : true ≡ false = sym waits ∙ other in cc,
       ))
       (λ other. let kept : is_kept (role.listener_close_fate_of id y.role) ≡ true = rw other in cc)
 
-  pub closes_once : Follows (IsOneEvent h (Closes id)) IsNothing h.entries (let w = after_close h id in w.entries)
-  closes_once =
-      let closed : SocketsView = after_socket_closed h id in
-      steps_joined (IsClosing h id) (IsForsaking h id) (IsOneEvent h (Closes id)) (λ x gone. gone) joins h.entries closed.entries _ socket_closed
-      (each_followed (IsForsaking h id) IsNothing refl (λ y. is_kept (role.listener_close_fate_of id y.role)) (with_role (role.role_after_listener_close h.kept id)) closed.entries forsaking forsaken)
+  pub leaves_once : Follows (IsOneEvent h (Leaves how id)) IsNothing h.entries (let w = after_leaving h how id in w.entries)
+  leaves_once =
+      let gone : SocketsView = after_socket_left h how id in
+      steps_joined (IsLeaving h how id) (IsForsaking h how id) (IsOneEvent h (Leaves how id)) (λ x out. out) joins h.entries gone.entries _ socket_left
+      (each_followed (IsForsaking h how id) IsNothing refl (λ y. is_kept (role.listener_close_fate_of id y.role)) (with_role (role.role_after_listener_close h.kept id)) gone.entries forsaking forsaken)
     where
-      joins : (x y : Entry) (left : Option Entry) → IsClosing h id x (Some y) → IsForsaking h id y left → IsOneEvent h (Closes id) x left
-      joins x y left (inl same) step = (subst (λ (z : Entry). IsForsaking h id z left) same.0 step).0 same.1
-      joins x y left (inr socket) step = subst (λ (z : Option Entry). IsOneEvent h (Closes id) x z) (sym (step.1 socket.1)) socket.0
+      joins : (x y : Entry) (left : Option Entry) → IsLeaving h how id x (Some y) → IsForsaking h how id y left → IsOneEvent h (Leaves how id) x left
+      joins x y left (inl same) step = (subst (λ (z : Entry). IsForsaking h how id z left) same.0 step).0 same.1
+      joins x y left (inr socket) step = subst (λ (z : Option Entry). IsOneEvent h (Leaves how id) x z) (sym (step.1 socket.1)) socket.0
 
 -- The clock.
 
@@ -271,7 +272,7 @@ one_event h (Connects isn id peer routed) o = plain h (Connects isn id peer rout
 one_event h (Sends id octets) o = plain h (Sends id octets) refl (sends_once h o id octets)
 one_event h (Receives id len) o = plain h (Receives id len) refl (reads_once h o id len)
 one_event h (Shuts id) o = plain h (Shuts id) refl (shuts_once h o id)
-one_event h (Closes id) o = plain h (Closes id) refl (closes_once h id o)
+one_event h (Leaves how id) o = plain h (Leaves how id) refl (leaves_once h how id o)
 one_event h (Ticks now) o = plain h (Ticks now) refl (ticks_once h now)
 one_event h (Hears now isn source s) o = hears_once h now isn source s o
 one_event h (Emits goes now) o = plain h (Emits goes now) refl (emits_once h goes now o)

@@ -14,10 +14,11 @@ use Rattle.sockets.specs.declared.entry.SocketId.{SocketId}
 use Rattle.sockets.specs.declared.entry.Entry.{Entry}
 use Rattle.sockets.specs.declared.emission.Outgoing.{Outgoing}
 use Rattle.sockets.specs.declared.index.Filed.{Filed}
+use Rattle.sockets.specs.declared.role.Leave.{Leave}
 use Rattle.sockets.specs.declared.role.Role.{Role}
 use Rattle.sockets.specs.declared.role.Role.TheVariants.{Idle, Connected, Datagrams}
 use Rattle.tcp_state.specs.Edges as edge
-use Rattle.sockets.specs.Entries.{on_connection, on_datagrams, has_socket, is_socket, waits_at, with_role, role_after_connect, role_after_bind, role_after_listen, role_after_accept, role_after_send, role_after_recv, role_after_shutdown, role_after_sendto, role_after_recvfrom, role_after_reception, role_after_tick, role_after_segment, role_after_unreachable, role_after_close, role_after_listener_close, role_after_emission}
+use Rattle.sockets.specs.Entries.{on_connection, on_datagrams, has_socket, is_socket, waits_at, with_role, role_after_connect, role_after_bind, role_after_listen, role_after_accept, role_after_send, role_after_recv, role_after_shutdown, role_after_sendto, role_after_recvfrom, role_after_reception, role_after_tick, role_after_segment, role_after_unreachable, leaving_event, role_after_leaving, role_after_listener_close, role_after_emission}
 use Rattle.sockets.specs.Calls.{open_answer}
 use Rattle.sockets.specs.Index.{filed_at, filed_as, filed, inserted, index_of}
 use Rattle.sockets.proofs.Connected.{had_opens_none}
@@ -59,8 +60,9 @@ filed-segment now s r = filed-changed _ (edge.Hears s now) (λ c. inr refl) r
 pub filed-unreachable : (number : ℕ) (r : Role) → IsFiledAs r (role_after_unreachable number r)
 filed-unreachable number r = filed-changed _ (edge.Unreachable number) (λ c. inr refl) r
 
-pub filed-close : (now : Moment) (r : Role) → IsFiledAs r (role_after_close now r)
-filed-close now r = filed-changed _ (edge.Closes now) (λ c. inr refl) r
+pub filed-leaving : (how : Leave) (now : Moment) (r : Role) → IsFiledAs r (role_after_leaving how now r)
+filed-leaving how now (Connected c l) id = filed-kept c (edge.after_event c (leaving_event how now c)) l l (keeps-event c (leaving_event how now c)) id
+filed-leaving how now _ id = refl
 
 pub filed-listener_close : (now : Moment) (listener : SocketId) (r : Role) → IsFiledAs r (role_after_listener_close now listener r)
 filed-listener_close now listener r id = by_test (waits_at listener r) (λ waits. rw waits (filed-changed _ (edge.Aborts now) (λ c. inr refl) r id)) (λ other. rw other refl)

@@ -9,7 +9,7 @@ use Rattle.tcp_segment.specs.declared.head.Head.{Head}
 use Rattle.tcp_segment.specs.Segment.{Segment}
 use Rattle.clock.specs.declared.moment.Moment.{Moment}
 use Rattle.tcp_state.specs.View.{View}
-use Rattle.tcp_state.specs.Calls as connection
+use Rattle.tcp_state.specs.Edges as edge
 use Rattle.tcp_state.specs.Arrival.{opened_passively}
 use Rattle.tcp_state.specs.declared.connection.Fate.{Fate}
 use Rattle.tcp_state.proofs.Edges.{and_right}
@@ -18,17 +18,18 @@ use Rattle.sockets.specs.declared.datagrams.Reception.TheVariants.{Queued}
 use Rattle.sockets.specs.declared.entry.SocketId.{SocketId}
 use Rattle.sockets.specs.declared.entry.Entry.{Entry}
 use Rattle.sockets.specs.declared.emission.Outgoing.{Outgoing}
+use Rattle.sockets.specs.declared.role.Leave.{Leave}
 use Rattle.sockets.specs.declared.role.Role.{Role}
-use Rattle.sockets.specs.Entries.{is_socket, waits_at, is_waiting_at, is_waiting_as, is_waiting_id, backlog_of, is_between, is_listening_at, sends, is_kept, is_offered_by, entries_after_step, entries_after_steps, fate_of, role_after_segment, role_after_unreachable, unreachable_fate_of, role_after_tick, tick_fate_of, role_after_emission, emission_fate_of, role_after_listener_close, listener_close_fate_of, role_after_close, close_fate_of, role_after_bind, role_after_listen, role_after_connect, role_after_accept, new_socket, new_datagram_socket, new_waiting, on_connection, on_datagrams, is_datagrams_at, with_role}
+use Rattle.sockets.specs.Entries.{is_socket, waits_at, is_waiting_at, is_waiting_as, is_waiting_id, backlog_of, is_between, is_listening_at, sends, is_kept, is_offered_by, entries_after_step, entries_after_steps, fate_of, role_after_segment, role_after_unreachable, unreachable_fate_of, role_after_tick, tick_fate_of, role_after_emission, emission_fate_of, role_after_listener_close, listener_close_fate_of, leaving_event, role_after_leaving, leaving_fate_of, role_after_bind, role_after_listen, role_after_connect, role_after_accept, new_socket, new_datagram_socket, new_waiting, on_connection, on_datagrams, is_datagrams_at, with_role}
 use Rattle.sockets.specs.SocketsView.{SocketsView, later_moment, with_socket}
 use Rattle.sockets.specs.Lost.{role_after_giving_up, give_up_fate_of}
 use Rattle.sockets.specs.Emission.{after_segment_sent}
 use Rattle.sockets.specs.Unreachable.{after_unreachable}
-use Rattle.sockets.specs.Calls.{is_table_full, port_bound, after_bind, next_offered, is_next_at, after_accept, port_connected, after_connect, after_socket_closed, after_close}
+use Rattle.sockets.specs.Calls.{is_table_full, port_bound, after_bind, next_offered, is_next_at, after_accept, port_connected, after_connect, after_socket_left, after_leaving}
 use Rattle.sockets.specs.Datagrams.{end_sent_from, after_sendto, reception, after_reception}
 use Rattle.sockets.specs.Arrival.{room_for, local_end, peer_end, has_no_room, arrival_with_reply, offered_with, arrival, after_opening}
 use Rattle.sockets.specs.Lists.{change_first, remove_first}
-use Rattle.sockets.specs.Causes.{Event, Makes, MakesDatagrams, Binds, Listens, Accepts, Connects, Sends, Receives, Shuts, Closes, Ticks, Hears, Emits, GivesUp, Unreachable, SendsTo, ReceivesFrom, HearsDatagram, Follows, after_arrival, after_event}
+use Rattle.sockets.specs.Causes.{Event, Makes, MakesDatagrams, Binds, Listens, Accepts, Connects, Sends, Receives, Shuts, Leaves, Ticks, Hears, Emits, GivesUp, Unreachable, SendsTo, ReceivesFrom, HearsDatagram, Follows, after_arrival, after_event}
 use Rattle.sockets.specs.Order.{IsAllowed}
 use Rattle.sockets.specs.Offered.{is_ready}
 use Rattle.sockets.proofs.Offered.{next-test, next-none}
@@ -113,7 +114,7 @@ pub record IsTaken (h w : SocketsView) : Type 0 where
   pub entries : w.entries ≡ change_first (is_waiting_as listener id) (with_role role_after_accept) h.entries
   pub follows : Follows IsCarried IsNothing h.entries w.entries
 
--- a listener goes: its socket is closed, and those that wait at it are aborted then
+-- a listener goes: its socket is left, and those that wait at it are aborted then
 pub record IsLeft (h w : SocketsView) : Type 0 where
   pub listener : SocketId
   pub between : SocketsView
@@ -240,28 +241,28 @@ accept-outcome h id =
     unremoved test [] none = refl
     unremoved test (x ∷ xs) none = by_test (test x) (λ here. let some = (rw here at none) in cc) (λ there. rw there (ap (λ (ys : List SocketId). x ∷ ys) (unremoved test xs (rw there at none))))
 
--- Closing.
+-- Leaving.
 
 -- the socket itself goes, or its connection goes on without it
-socket-closed : (h : SocketsView) (id : SocketId) → IsStill h (after_socket_closed h id)
-socket-closed h id =
+socket-left : (h : SocketsView) (how : Leave) (id : SocketId) → IsStill h (after_socket_left h how id)
+socket-left h how id =
     by_option (find (is_socket id) h.entries) (λ none. rw none (record { last = refl; offered = refl; follows = as_it_was IsCalm IsNothing refl calm h.entries }))
     (λ e found. rw found (record {
       last = refl;
       offered = refl;
-      follows = settled (is_socket id) close_fate_of (role_after_close h.kept) h.entries e found
-          (λ x passes kept same. socket-stays (λ c. connection.after_close c h.kept) x.role (and_right _ _ passes)) (λ x passes gone. socket-unready x.role (and_right _ _ passes));
+      follows = settled (is_socket id) (leaving_fate_of how h.kept) (role_after_leaving how h.kept) h.entries e found
+          (λ x passes kept same. socket-stays (λ c. edge.after_event c (leaving_event how h.kept c)) x.role (and_right _ _ passes)) (λ x passes gone. socket-unready x.role (and_right _ _ passes));
     }))
 
-close-outcome : (h : SocketsView) (id : SocketId) → Outcome h (after_close h id)
-close-outcome h id =
-    let closed = after_socket_closed h id in
+leaving-outcome : (h : SocketsView) (how : Leave) (id : SocketId) → Outcome h (after_leaving h how id)
+leaving-outcome h how id =
+    let alone = after_socket_left h how id in
     Left (record {
       listener = id;
-      between = closed;
-      first = socket-closed h id;
+      between = alone;
+      first = socket-left h how id;
       last = refl;
-      then_follows = each_followed (IsForsaken id) IsNothing refl (λ x. is_kept (listener_close_fate_of id x.role)) (with_role (role_after_listener_close h.kept id)) closed.entries
+      then_follows = each_followed (IsForsaken id) IsNothing refl (λ x. is_kept (listener_close_fate_of id x.role)) (with_role (role_after_listener_close h.kept id)) alone.entries
           (λ x kept. (refl, forsaken-withdrawn h.kept id x.role kept)) (λ x gone p. rw (forsaken-gone id x.role gone));
       offered = refl;
     })
@@ -334,7 +335,7 @@ outcome h (Connects isn id peer routed) allowed = connect-outcome h isn id peer 
 outcome h (Sends id octets) allowed = called h id _
 outcome h (Receives id len) allowed = called h id _
 outcome h (Shuts id) allowed = called h id _
-outcome h (Closes id) allowed = close-outcome h id
+outcome h (Leaves how id) allowed = leaving-outcome h how id
 outcome h (Ticks now) allowed = let later = later_moment h now in still h _ refl refl (all-settled (tick_fate_of later) (role_after_tick later) h.entries (tick-stays later) (tick-gone later))
 outcome h (Hears now isn source s) allowed = segment-outcome h now isn source s
 outcome h (Emits goes now) allowed = emission-outcome h goes now

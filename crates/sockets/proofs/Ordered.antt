@@ -52,7 +52,7 @@ step_keeps h _ own free _ _ (opens isn named peer routed id buffers bound local 
 step_keeps h _ own free _ _ (accepted named id c l next) = (refl, keeps_connection c c l None (keeps-nothing c) own)
 step_keeps h e own free _ _ (requeues id bound before after) = (refl, keeps_queues bound before after own)
 step_keeps h e own free _ _ (binds_datagrams id bound local before after takes) = let bad : true ≡ false = sym takes ∙ free in cc
-step_keeps h _ own free _ _ (closed named id role socket alone) = tt
+step_keeps h _ own free _ _ (closed how named id role socket alone) = tt
 step_keeps h _ own free _ _ (given_up lost now x gone) = tt
 
 followed_ordered : (h : SocketsView) (e : Event) (w : SocketsView) → takes_end e ≡ false → IsFollowed h e w → IsOrdered h → IsOrdered w

@@ -25,19 +25,20 @@ use Rattle.sockets.specs.declared.datagrams.Reception.TheVariants.{Queued, NoRoo
 use Rattle.sockets.specs.declared.entry.SocketId.{SocketId}
 use Rattle.sockets.specs.declared.entry.Entry.{Entry}
 use Rattle.sockets.specs.declared.emission.Outgoing.{Outgoing}
+use Rattle.sockets.specs.declared.role.Leave.{Leave}
 use Rattle.sockets.specs.declared.role.Role.{Role}
 use Rattle.sockets.specs.declared.role.Role.TheVariants.{Idle, Listener, Connected, Datagrams}
-use Rattle.sockets.specs.Entries.{on_connection, in_connection, on_datagrams, is_socket, waits_at, is_waiting_at, is_waiting_id, is_between, sends, new_socket, new_datagram_socket, new_waiting, is_kept, entries_after_step, entries_after_steps, role_after_bind, role_after_listen, role_after_connect, role_after_accept, role_after_close, close_fate_of, role_after_listener_close, listener_close_fate_of, role_after_tick, tick_fate_of, with_first, role_after_emission, emission_fate_of, is_datagrams_at, with_role}
+use Rattle.sockets.specs.Entries.{on_connection, in_connection, on_datagrams, is_socket, waits_at, is_waiting_at, is_waiting_id, is_between, sends, new_socket, new_datagram_socket, new_waiting, is_kept, entries_after_step, entries_after_steps, role_after_bind, role_after_listen, role_after_connect, role_after_accept, is_closed_by, leaving_event, role_after_leaving, leaving_fate_of, role_after_listener_close, listener_close_fate_of, role_after_tick, tick_fate_of, with_first, role_after_emission, emission_fate_of, is_datagrams_at, with_role}
 use Rattle.sockets.specs.SocketsView.{SocketsView, later_moment, role_of, with_socket}
 use Rattle.sockets.specs.Lists.{change_first}
 use Rattle.tcp_state.specs.Hop.{hopless_fate}
 use Rattle.sockets.specs.Lost.{is_given_up, is_hopless, loses_hop, role_after_giving_up, give_up_fate_of}
 use Rattle.sockets.specs.Emission.{after_segment_sent}
 use Rattle.sockets.specs.Unreachable.{after_unreachable}
-use Rattle.sockets.specs.Calls.{port_bound, after_bind, is_next_at, port_connected, after_connect, after_socket_closed, after_close}
+use Rattle.sockets.specs.Calls.{port_bound, after_bind, is_next_at, port_connected, after_connect, after_socket_left, after_leaving}
 use Rattle.sockets.specs.Datagrams.{end_sent_from, after_sendto, reception, after_reception}
 use Rattle.sockets.specs.Arrival.{room_for, local_end, peer_end, arrival_with_reply}
-use Rattle.sockets.specs.Causes.{Event, Makes, MakesDatagrams, Binds, Listens, Accepts, Connects, Sends, Receives, Shuts, Closes, Ticks, Hears, Emits, GivesUp, Unreachable, SendsTo, ReceivesFrom, HearsDatagram, after_arrival, after_event, IsAdded, Follows}
+use Rattle.sockets.specs.Causes.{Event, Makes, MakesDatagrams, Binds, Listens, Accepts, Connects, Sends, Receives, Shuts, Leaves, Ticks, Hears, Emits, GivesUp, Unreachable, SendsTo, ReceivesFrom, HearsDatagram, after_arrival, after_event, IsAdded, Follows}
 use Rattle.sockets.specs.Timing.{IsUpTo}
 use Rattle.sockets.specs.Traffic.{datagrams_taken}
 use Rattle.sockets.proofs.Arrivals.{IsCalled, by_arrival}
@@ -46,14 +47,15 @@ use Rattle.sockets.proofs.Queues.{sendto-refused, sendto-given, queued-change, n
 use Rattle.sockets.proofs.Told.{told-found, told-none}
 use Rattle.sockets.proofs.Followed.{IsNothing, by_test, some_same, as_it_was, first_changed, each_followed, settled_followed, steps_joined}
 
--- An event of the table that is one of an entry's connection: a call of its socket, the close of the listener that it waits at, a tick, a segment of its
+-- An event of the table that is one of an entry's connection: a call of its socket, the close or the abort of the listener that it waits at, a tick, a segment of its
 -- two ends, that something of it goes out, a hard error about a segment between its two ends, or the loss of its hop.
 pub data IsEventOf (h : SocketsView) (x : Entry) : Event → edge.Event → Type 0 where
   sends_it : (id : SocketId) (octets : List ℕ) → is_socket id x ≡ true → IsEventOf h x (Sends id octets) (edge.Sends octets h.kept)
   reads_it : (id : SocketId) (len : ℕ) → is_socket id x ≡ true → IsEventOf h x (Receives id len) (edge.Receives len)
   shuts_it : (id : SocketId) → is_socket id x ≡ true → IsEventOf h x (Shuts id) (edge.Shuts h.kept)
-  closes_it : (id : SocketId) → is_socket id x ≡ true → IsEventOf h x (Closes id) (edge.Closes h.kept)
-  aborts_it : (id : SocketId) → is_waiting_at id x ≡ true → IsEventOf h x (Closes id) (edge.Aborts h.kept)
+  closes_it : (how : Leave) (id : SocketId) → is_socket id x ≡ true → in_connection true (is_closed_by how) x.role ≡ true → IsEventOf h x (Leaves how id) (edge.Closes h.kept)
+  resets_it : (how : Leave) (id : SocketId) → is_socket id x ≡ true → in_connection true (is_closed_by how) x.role ≡ false → IsEventOf h x (Leaves how id) (edge.Aborts h.kept)
+  aborts_it : (how : Leave) (id : SocketId) → is_waiting_at id x ≡ true → IsEventOf h x (Leaves how id) (edge.Aborts h.kept)
   ticks_it : (now : Moment) → IsEventOf h x (Ticks now) (edge.Ticks (later_moment h now))
   comes_to_it : (now : Moment) (isn : ℕ) (source : Addr) (s : Segment) → is_between (local_end h s) (peer_end source s) x ≡ true → IsEventOf h x (Hears now isn source s) (edge.Hears s (later_moment h now))
   goes_out : (goes : Addr → Bool) (now : Moment) → find (sends goes) h.entries ≡ Some x → IsEventOf h x (Emits goes now) (edge.Emits (later_moment h now))
@@ -73,7 +75,7 @@ takes_end _ = false
 
 -- An entry, and what an event leaves of it. A connection goes on by one event of its own, or is taken out by it; an idle socket is bound, listens, or opens a
 -- connection; a connection is accepted; and the queues of a UDP socket change, or it is bound. Without an event of its connection an entry is taken out where
--- its socket without one is closed, or its reset is given up. Any other stays as it was.
+-- its socket without one is closed or aborted, or its reset is given up. Any other stays as it was.
 pub data IsStepOf (h : SocketsView) : Event → Entry → Option Entry → Type 0 where
   stays : {e : Event} {x : Entry} → IsStepOf h e x (Some x)
   moves : {e : Event} (ev : edge.Event) (id : SocketId) (c : View) (l : Option SocketId) → IsEventOf h (entry id (Connected c l)) e ev → is_kept (edge.fate_by c ev) ≡ true
@@ -88,7 +90,7 @@ pub data IsStepOf (h : SocketsView) : Event → Entry → Option Entry → Type 
   accepted : (named id : SocketId) (c : View) (l : Option SocketId) → is_next_at h named (entry id (Connected c l)) ≡ true → IsStepOf h (Accepts named) (entry id (Connected c l)) (Some (entry id (Connected c None)))
   requeues : {e : Event} (id : SocketId) (bound : Option Endpoint) (before after : Queues) → IsStepOf h e (entry id (Datagrams bound before)) (Some (entry id (Datagrams bound after)))
   binds_datagrams : {e : Event} (id : SocketId) (bound : Option Endpoint) (local : Endpoint) (before after : Queues) → takes_end e ≡ true → IsStepOf h e (entry id (Datagrams bound before)) (Some (entry id (Datagrams (Some local) after)))
-  closed : (named id : SocketId) (role : Role) → is_socket named (entry id role) ≡ true → in_connection true (λ c. false) role ≡ true → IsStepOf h (Closes named) (entry id role) None
+  closed : (how : Leave) (named id : SocketId) (role : Role) → is_socket named (entry id role) ≡ true → in_connection true (λ c. false) role ≡ true → IsStepOf h (Leaves how named) (entry id role) None
   given_up : (lost : Addr → Bool) (now : Moment) (x : Entry) → is_given_up lost (later_moment h now) x.role ≡ true → IsStepOf h (GivesUp lost now) x None
 
 -- what an event adds: a socket, or a connection that a segment opens where none is
@@ -243,85 +245,91 @@ shut_either c now =
     by_test (is_some c.pending_error || is_opening c.state) (λ refused. inl (rw refused refl))
     (λ shuts. let taken : is_some (shutdown_refusal c) ≡ false = grind (arith, common_steps) in inr (rw (shuts, taken) refl))
 
--- Closing.
+-- Leaving.
 
--- a socket is closed: what waits at a listener is none
-abbrev IsClosing : SocketsView → SocketId → Entry → Option Entry → Type 0
-IsClosing h id x None = IsStepOf h (Closes id) x None
-IsClosing h id x (Some y) = (y ≡ x) ⊎ (IsStepOf h (Closes id) x (Some y) × (waits_at id y.role ≡ false))
+-- what its caller's leaving is to a connection
+left_it : (h : SocketsView) (how : Leave) (named id : SocketId) (c : View) (l : Option SocketId) → is_socket named (entry id (Connected c l)) ≡ true → IsEventOf h (entry id (Connected c l)) (Leaves how named) (leaving_event how h.kept c)
+left_it h how named id c l socket =
+    let P : Bool → Type 0 = λ b. IsEventOf h (entry id (Connected c l)) (Leaves how named) (if b then edge.Closes h.kept else edge.Aborts h.kept) in
+    by_test (is_closed_by how c) (λ closes. subst P (sym closes) (closes_it how named socket closes)) (λ aborts. subst P (sym aborts) (resets_it how named socket aborts))
+
+-- a socket is left: what waits at a listener is none
+abbrev IsLeaving : SocketsView → Leave → SocketId → Entry → Option Entry → Type 0
+IsLeaving h how id x None = IsStepOf h (Leaves how id) x None
+IsLeaving h how id x (Some y) = (y ≡ x) ⊎ (IsStepOf h (Leaves how id) x (Some y) × (waits_at id y.role ≡ false))
 
 -- .. and its connection goes on
-closing : (h : SocketsView) (id : SocketId) (x : Entry) → is_socket id x ≡ true → is_kept (close_fate_of x.role) ≡ true → IsClosing h id x (Some (with_role (role_after_close h.kept) x))
-closing h id x named kept = by_role x.role named kept
+leaving : (h : SocketsView) (how : Leave) (id : SocketId) (x : Entry) → is_socket id x ≡ true → is_kept (leaving_fate_of how h.kept x.role) ≡ true → IsLeaving h how id x (Some (with_role (role_after_leaving how h.kept) x))
+leaving h how id x named kept = by_role x.role named kept
   where
-    by_role : (r : Role) → is_socket id (entry x.id r) ≡ true → is_kept (close_fate_of r) ≡ true → IsClosing h id (entry x.id r) (Some (entry x.id (role_after_close h.kept r)))
-    by_role (Connected c None) named kept = inr (moves (edge.Closes h.kept) x.id c None (closes_it id named) kept, refl)
+    by_role : (r : Role) → is_socket id (entry x.id r) ≡ true → is_kept (leaving_fate_of how h.kept r) ≡ true → IsLeaving h how id (entry x.id r) (Some (entry x.id (role_after_leaving how h.kept r)))
+    by_role (Connected c None) named kept = inr (moves (leaving_event how h.kept c) x.id c None (left_it h how id x.id c None named) kept, refl)
     by_role (Connected c (Some l)) named kept = let bad : false ≡ true = and_right (x.id.0 == id.0) false named in cc
     by_role _ named kept = cc
 
 -- .. or nothing is left of it
-taken_out : (h : SocketsView) (id : SocketId) (x : Entry) → is_socket id x ≡ true → is_kept (close_fate_of x.role) ≡ false → IsStepOf h (Closes id) x None
-taken_out h id x named gone = by_role x.role named gone
+taken_out : (h : SocketsView) (how : Leave) (id : SocketId) (x : Entry) → is_socket id x ≡ true → is_kept (leaving_fate_of how h.kept x.role) ≡ false → IsStepOf h (Leaves how id) x None
+taken_out h how id x named gone = by_role x.role named gone
   where
-    by_role : (r : Role) → is_socket id (entry x.id r) ≡ true → is_kept (close_fate_of r) ≡ false → IsStepOf h (Closes id) (entry x.id r) None
-    by_role (Connected c l) named gone = ends (edge.Closes h.kept) x.id c l (closes_it id named) (gone_removed _ gone)
-    by_role (Idle buffers before) named gone = closed id x.id (Idle buffers before) named refl
-    by_role (Listener l b) named gone = closed id x.id (Listener l b) named refl
-    by_role (Datagrams before queues) named gone = closed id x.id (Datagrams before queues) named refl
+    by_role : (r : Role) → is_socket id (entry x.id r) ≡ true → is_kept (leaving_fate_of how h.kept r) ≡ false → IsStepOf h (Leaves how id) (entry x.id r) None
+    by_role (Connected c l) named gone = ends (leaving_event how h.kept c) x.id c l (left_it h how id x.id c l named) (gone_removed _ gone)
+    by_role (Idle buffers before) named gone = closed how id x.id (Idle buffers before) named refl
+    by_role (Listener l b) named gone = closed how id x.id (Listener l b) named refl
+    by_role (Datagrams before queues) named gone = closed how id x.id (Datagrams before queues) named refl
 
--- the table once the socket is closed
-record IsClosed (h : SocketsView) (id : SocketId) : Type 0 where
+-- the table once the socket is left
+record IsLeftAt (h : SocketsView) (how : Leave) (id : SocketId) : Type 0 where
   left : List Entry
-  is : after_socket_closed h id ≡ record h { entries = left }
-  follows : Follows (IsClosing h id) IsNothing h.entries left
+  is : after_socket_left h how id ≡ record h { entries = left }
+  follows : Follows (IsLeaving h how id) IsNothing h.entries left
 
-socket_closed : (h : SocketsView) (id : SocketId) → IsClosed h id
-socket_closed h id = by_role (role_of h id) refl
+socket_left : (h : SocketsView) (how : Leave) (id : SocketId) → IsLeftAt h how id
+socket_left h how id = by_role (role_of h id) refl
   where
     same_role : (role : Role) (x : Entry) → role_of h id ≡ Some role → find (is_socket id) h.entries ≡ Some x → x.role ≡ role
     same_role role x is found = some_same (role_of h id) x.role role (ap (λ (o : Option Entry). option_map (λ (e : Entry). e.role) o) found) is
 
-    by_role : (o : Option Role) → role_of h id ≡ o → IsClosed h id
-    by_role None is = record { left = h.entries; is = rw is refl; follows = as_it_was (IsClosing h id) IsNothing refl (λ x. inl refl) h.entries }
+    by_role : (o : Option Role) → role_of h id ≡ o → IsLeftAt h how id
+    by_role None is = record { left = h.entries; is = rw is refl; follows = as_it_was (IsLeaving h how id) IsNothing refl (λ x. inl refl) h.entries }
     by_role (Some role) is = record {
-      left = entries_after_step (close_fate_of role) (is_socket id) (role_after_close h.kept) h.entries;
+      left = entries_after_step (leaving_fate_of how h.kept role) (is_socket id) (role_after_leaving how h.kept) h.entries;
       is = rw is refl;
-      follows = settled_followed (IsClosing h id) IsNothing refl (close_fate_of role) (is_socket id) (role_after_close h.kept) h.entries (λ x. inl refl)
-          (λ kept x passes found. closing h id x passes (ap (λ (r : Role). is_kept (close_fate_of r)) (same_role role x is found) ∙ kept))
-          (λ gone x passes found. taken_out h id x passes (ap (λ (r : Role). is_kept (close_fate_of r)) (same_role role x is found) ∙ gone));
+      follows = settled_followed (IsLeaving h how id) IsNothing refl (leaving_fate_of how h.kept role) (is_socket id) (role_after_leaving how h.kept) h.entries (λ x. inl refl)
+          (λ kept x passes found. leaving h how id x passes (ap (λ (r : Role). is_kept (leaving_fate_of how h.kept r)) (same_role role x is found) ∙ kept))
+          (λ gone x passes found. taken_out h how id x passes (ap (λ (r : Role). is_kept (leaving_fate_of how h.kept r)) (same_role role x is found) ∙ gone));
     }
 
 -- and each that waits at it is aborted
-abbrev IsForsaking : SocketsView → SocketId → Entry → Option Entry → Type 0
-IsForsaking h id y None = IsStepOf h (Closes id) y None × (waits_at id y.role ≡ true)
-IsForsaking h id y (Some z) = IsStepOf h (Closes id) y (Some z) × (waits_at id y.role ≡ false → z ≡ y)
+abbrev IsForsaking : SocketsView → Leave → SocketId → Entry → Option Entry → Type 0
+IsForsaking h how id y None = IsStepOf h (Leaves how id) y None × (waits_at id y.role ≡ true)
+IsForsaking h how id y (Some z) = IsStepOf h (Leaves how id) y (Some z) × (waits_at id y.role ≡ false → z ≡ y)
 
-forsaking : (h : SocketsView) (id : SocketId) (y : Entry) → is_kept (listener_close_fate_of id y.role) ≡ true → IsForsaking h id y (Some (with_role (role_after_listener_close h.kept id) y))
-forsaking h id y kept =
+forsaking : (h : SocketsView) (how : Leave) (id : SocketId) (y : Entry) → is_kept (listener_close_fate_of id y.role) ≡ true → IsForsaking h how id y (Some (with_role (role_after_listener_close h.kept id) y))
+forsaking h how id y kept =
     by_test (waits_at id y.role)
-    (λ waits. rw waits (moved h (Closes id) (λ (c : View). edge.after_event c (edge.Aborts h.kept)) (edge.Aborts h.kept) (λ c. inr refl) y (aborts_it id waits) (rw waits at kept), λ other. cc))
+    (λ waits. rw waits (moved h (Leaves how id) (λ (c : View). edge.after_event c (edge.Aborts h.kept)) (edge.Aborts h.kept) (λ c. inr refl) y (aborts_it how id waits) (rw waits at kept), λ other. cc))
     (λ other. rw other (stays, λ e. refl))
 
-forsaken : (h : SocketsView) (id : SocketId) (y : Entry) → is_kept (listener_close_fate_of id y.role) ≡ false → IsForsaking h id y None
-forsaken h id y gone =
+forsaken : (h : SocketsView) (how : Leave) (id : SocketId) (y : Entry) → is_kept (listener_close_fate_of id y.role) ≡ false → IsForsaking h how id y None
+forsaken h how id y gone =
     by_test (waits_at id y.role)
-    (λ waits. (ended h (Closes id) (edge.Aborts h.kept) y (aborts_it id waits) (gone_removed _ (rw waits at gone)), waits))
+    (λ waits. (ended h (Leaves how id) (edge.Aborts h.kept) y (aborts_it how id waits) (gone_removed _ (rw waits at gone)), waits))
     (λ other. let kept : is_kept (listener_close_fate_of id y.role) ≡ true = rw other in cc)
 
-close_stepped : (h : SocketsView) (id : SocketId) → IsStepped h (Closes id) (after_close h id)
-close_stepped h id =
-    let c = socket_closed h id in
-    let P : SocketsView → Type 0 = λ w. IsStepped h (Closes id) (record w { entries = entries_after_steps (listener_close_fate_of id) (role_after_listener_close h.kept id) w.entries; offered = filter (λ x. not (is_waiting_id w.entries id x)) w.offered }) in
+leaving_stepped : (h : SocketsView) (how : Leave) (id : SocketId) → IsStepped h (Leaves how id) (after_leaving h how id)
+leaving_stepped h how id =
+    let c = socket_left h how id in
+    let P : SocketsView → Type 0 = λ w. IsStepped h (Leaves how id) (record w { entries = entries_after_steps (listener_close_fate_of id) (role_after_listener_close h.kept id) w.entries; offered = filter (λ x. not (is_waiting_id w.entries id x)) w.offered }) in
     subst P (sym c.is)
-    (plain h (Closes id) _ _ refl
-    (steps_joined (IsClosing h id) (IsForsaking h id) (IsStepOf h (Closes id)) (λ x gone. gone) joins h.entries c.left _ c.follows
-    (each_followed (IsForsaking h id) IsNothing refl (λ y. is_kept (listener_close_fate_of id y.role)) (with_role (role_after_listener_close h.kept id)) c.left (forsaking h id) (forsaken h id))))
+    (plain h (Leaves how id) _ _ refl
+    (steps_joined (IsLeaving h how id) (IsForsaking h how id) (IsStepOf h (Leaves how id)) (λ x gone. gone) joins h.entries c.left _ c.follows
+    (each_followed (IsForsaking h how id) IsNothing refl (λ y. is_kept (listener_close_fate_of id y.role)) (with_role (role_after_listener_close h.kept id)) c.left (forsaking h how id) (forsaken h how id))))
   where
-    joins : (x y : Entry) (o : Option Entry) → IsClosing h id x (Some y) → IsForsaking h id y o → IsStepOf h (Closes id) x o
-    joins x y None (inl same) step = subst (λ (z : Entry). IsStepOf h (Closes id) z None) same step.0
+    joins : (x y : Entry) (o : Option Entry) → IsLeaving h how id x (Some y) → IsForsaking h how id y o → IsStepOf h (Leaves how id) x o
+    joins x y None (inl same) step = subst (λ (z : Entry). IsStepOf h (Leaves how id) z None) same step.0
     joins x y None (inr socket) step = let bad : true ≡ false = sym step.1 ∙ socket.1 in cc
-    joins x y (Some z) (inl same) step = subst (λ (w : Entry). IsStepOf h (Closes id) w (Some z)) same step.0
-    joins x y (Some z) (inr socket) step = subst (λ (w : Entry). IsStepOf h (Closes id) x (Some w)) (sym (step.1 socket.1)) socket.0
+    joins x y (Some z) (inl same) step = subst (λ (w : Entry). IsStepOf h (Leaves how id) w (Some z)) same step.0
+    joins x y (Some z) (inr socket) step = subst (λ (w : Entry). IsStepOf h (Leaves how id) x (Some w)) (sym (step.1 socket.1)) socket.0
 
 -- The clock.
 
@@ -463,7 +471,7 @@ stepped h (Connects isn id peer routed) = connect_stepped h isn id peer routed
 stepped h (Sends id octets) = calls h (Sends id octets) id _ (edge.Sends octets h.kept) refl (λ c. inr refl) (λ x named. sends_it id octets named) staying
 stepped h (Receives id len) = calls h (Receives id len) id _ (edge.Receives len) refl (λ c. read_either c len) (λ x named. reads_it id len named) staying
 stepped h (Shuts id) = calls h (Shuts id) id _ (edge.Shuts h.kept) refl (λ c. shut_either c h.kept) (λ x named. shuts_it id named) staying
-stepped h (Closes id) = close_stepped h id
+stepped h (Leaves how id) = leaving_stepped h how id
 stepped h (Ticks now) = tick_stepped h now
 stepped h (Hears now isn source s) = segment_stepped h now isn source s
 stepped h (Emits goes now) = emission_stepped h goes now

@@ -21,12 +21,14 @@ use Rattle.sockets.specs.declared.entry.Kind.{Kind}
 use Rattle.sockets.specs.declared.entry.Kind.TheVariants.{Tcp, Udp}
 use Rattle.sockets.specs.declared.state.SocketState.{SocketState}
 use Rattle.sockets.specs.declared.entry.Entry.{Entry}
+use Rattle.sockets.specs.declared.role.Leave.{Leave}
+use Rattle.sockets.specs.declared.role.Leave.TheVariants.{Close, Abort}
 use Rattle.sockets.specs.declared.role.Role.{Role}
 use Rattle.sockets.specs.declared.role.Role.TheVariants.{Idle, Listener, Connected, Datagrams}
 use Rattle.sockets.specs.declared.refusal.Refusal.{Refusal}
 use Rattle.sockets.specs.declared.refusal.Refusal.TheVariants.{EBADF, EINVAL, EADDRINUSE, EADDRNOTAVAIL, EISCONN, ENOTCONN, EALREADY, EAGAIN, ENETUNREACH, EOPNOTSUPP, ECONNREFUSED, ECONNRESET, ETIMEDOUT, EPIPE, EDESTADDRREQ}
 use Rattle.sockets.specs.Ports.{first_port, is_free_port, is_unused_port, is_free_datagram_port}
-use Rattle.sockets.specs.Entries.{is_socket, is_between, is_waiting_as, is_waiting_id, peer_of, shown_state, new_socket, new_datagram_socket, role_after_bind, role_after_listen, role_after_connect, role_after_accept, role_after_send, role_after_recv, role_after_shutdown, role_after_close, close_fate_of, role_after_listener_close, listener_close_fate_of, entries_after_step, entries_after_steps, with_role}
+use Rattle.sockets.specs.Entries.{is_socket, is_between, is_waiting_as, is_waiting_id, peer_of, shown_state, new_socket, new_datagram_socket, role_after_bind, role_after_listen, role_after_connect, role_after_accept, role_after_send, role_after_recv, role_after_shutdown, role_after_leaving, leaving_fate_of, role_after_listener_close, listener_close_fate_of, entries_after_step, entries_after_steps, with_role}
 use Rattle.sockets.specs.SocketsView.{SocketsView, role_of, with_socket, room_of}
 use Rattle.sockets.specs.Lists.{change_first, remove_first}
 
@@ -249,23 +251,29 @@ shutdown_refusal h id = refusal_at h id role_shutdown_refusal
 abbrev pub after_shutdown : SocketsView → SocketId → SocketsView
 after_shutdown h id = with_socket h id (role_after_shutdown h.kept)
 
--- close is refused only where the id names no socket
+-- close and abort are refused only where the id names no socket
 abbrev pub close_refusal : SocketsView → SocketId → Option Refusal
 close_refusal h id = refusal_at h id (λ role. None)
 
--- The socket is gone. Nothing is left of one without a connection; a connection goes on without a socket, or is aborted, or is gone,
--- as its own rules say (RFC 9293 section 3.10.4; 3.6.1 where octets are unread; own in SYN-RECEIVED and at a listener).
-abbrev pub after_socket_closed : SocketsView → SocketId → SocketsView
-after_socket_closed h id = of_socket h (λ role. record h { entries = entries_after_step (close_fate_of role) (is_socket id) (role_after_close h.kept) h.entries }) (role_of h id)
+-- Its caller has left the socket, which is gone. Nothing is left of one without a connection; a connection goes on without a socket, or is aborted, or is gone,
+-- as its own rules say (RFC 9293 sections 3.10.4 and 3.10.5; 3.6.1 where octets are unread; own in SYN-RECEIVED and at a listener).
+abbrev pub after_socket_left : SocketsView → Leave → SocketId → SocketsView
+after_socket_left h how id = of_socket h (λ role. record h { entries = entries_after_step (leaving_fate_of how h.kept role) (is_socket id) (role_after_leaving how h.kept) h.entries }) (role_of h id)
 
 -- and each connection that waits at it, where it listens, is aborted, and offered no longer
-abbrev pub after_close : SocketsView → SocketId → SocketsView
-after_close h id =
-    let closed_socket = after_socket_closed h id in
-    record closed_socket {
-      entries = entries_after_steps (listener_close_fate_of id) (role_after_listener_close h.kept id) closed_socket.entries;
-      offered = filter (λ x. not (is_waiting_id closed_socket.entries id x)) closed_socket.offered;
+abbrev pub after_leaving : SocketsView → Leave → SocketId → SocketsView
+after_leaving h how id =
+    let left_socket = after_socket_left h how id in
+    record left_socket {
+      entries = entries_after_steps (listener_close_fate_of id) (role_after_listener_close h.kept id) left_socket.entries;
+      offered = filter (λ x. not (is_waiting_id left_socket.entries id x)) left_socket.offered;
     }
+
+abbrev pub after_close : SocketsView → SocketId → SocketsView
+after_close h id = after_leaving h Close id
+
+abbrev pub after_abort : SocketsView → SocketId → SocketsView
+after_abort h id = after_leaving h Abort id
 
 -- a connection from our port to the peer is in the table, in any state but CLOSED
 abbrev pub is_pair_held : SocketsView → ℕ → Endpoint → Bool

@@ -13,16 +13,17 @@ use Rattle.tcp_state.specs.declared.calls.Refusal.{Refusal as Error}
 use Rattle.tcp_state.specs.Edges as edge
 use Rattle.sockets.specs.declared.entry.SocketId.{SocketId}
 use Rattle.sockets.specs.declared.entry.Entry.{Entry}
+use Rattle.sockets.specs.declared.role.Leave.{Leave}
 use Rattle.sockets.specs.declared.role.Role.{Role}
 use Rattle.sockets.specs.declared.state.SocketState.{SocketState}
 use Rattle.sockets.specs.declared.state.SocketState.TheVariants.{Datagram, Stream}
-use Rattle.sockets.specs.Entries.{in_connection, is_socket, is_waiting_at, is_between, is_listening_at, sends, shown_state, new_socket, new_datagram_socket}
+use Rattle.sockets.specs.Entries.{in_connection, is_socket, is_waiting_at, is_between, is_listening_at, sends, shown_state, leaving_event, new_socket, new_datagram_socket}
 use Rattle.sockets.specs.SocketsView.{SocketsView, later_moment}
 use Rattle.sockets.specs.Ticks.{after_tick}
 use Rattle.sockets.specs.Lost.{is_given_up, loses_hop, after_giving_up}
 use Rattle.sockets.specs.Emission.{after_segment_sent}
 use Rattle.sockets.specs.Unreachable.{after_unreachable}
-use Rattle.sockets.specs.Calls.{after_socket, after_datagram_socket, after_bind, after_listen, after_accept, after_connect, after_send, after_recv, after_shutdown, after_close}
+use Rattle.sockets.specs.Calls.{after_socket, after_datagram_socket, after_bind, after_listen, after_accept, after_connect, after_send, after_recv, after_shutdown, after_leaving}
 use Rattle.sockets.specs.Datagrams.{after_sendto, after_recvfrom, after_reception}
 use Rattle.sockets.specs.Arrival.{Arrival, Becomes, Opens, NoRoom, Answers, local_end, peer_end, is_opening, arrival}
 
@@ -38,7 +39,7 @@ pub data Event : Type 0 where
   Sends : SocketId → List ℕ → Event
   Receives : SocketId → ℕ → Event
   Shuts : SocketId → Event
-  Closes : SocketId → Event
+  Leaves : Leave → SocketId → Event
   Ticks : Moment → Event
   Hears : Moment → ℕ → Addr → Segment → Event
   Emits : (Addr → Bool) → Moment → Event
@@ -65,7 +66,7 @@ after_event h (Connects isn id peer routed) = after_connect h isn id peer routed
 after_event h (Sends id octets) = after_send h id octets
 after_event h (Receives id len) = after_recv h id len
 after_event h (Shuts id) = after_shutdown h id
-after_event h (Closes id) = after_close h id
+after_event h (Leaves how id) = after_leaving h how id
 after_event h (Ticks now) = after_tick h now
 after_event h (Hears now isn source s) = after_arrival h (arrival h now isn source s)
 after_event h (Emits goes now) = after_segment_sent h goes now
@@ -87,15 +88,15 @@ is_next_out h goes x = of_entry (find (sends goes) h.entries)
     of_entry None = false
     of_entry (Some first) = first.id.0 == x.id.0
 
--- a close of the socket ends it: nothing is left of one without a connection, and a connection ends as its own rules say
-abbrev pub is_close_cause : Moment → Role → Bool
-is_close_cause now role = in_connection true (λ c. edge.is_cause c (edge.Closes now)) role
+-- its caller's leaving ends it: nothing is left of a socket without a connection, and a connection ends as its own rules say
+abbrev pub is_leaving_cause : Leave → Moment → Role → Bool
+is_leaving_cause how now role = in_connection true (λ c. edge.is_cause c (leaving_event how now c)) role
 
--- What ends an entry: that its socket is closed, as its role says, or the listener that it waits at; and for a connection a segment of its two
+-- What ends an entry: that its socket is closed or aborted, as its role says, or the listener that it waits at; and for a connection a segment of its two
 -- ends, a tick, the going out of its segment, a hard error about a segment between its two ends or the loss of its hop, each as its own rules say, or
 -- that its reset is given up. No datagram ends one.
 abbrev pub is_cause_for : SocketsView → Event → Entry → Bool
-is_cause_for h (Closes id) x = (is_socket id x && is_close_cause h.kept x.role) || is_waiting_at id x
+is_cause_for h (Leaves how id) x = (is_socket id x && is_leaving_cause how h.kept x.role) || is_waiting_at id x
 is_cause_for h (Ticks now) x = is_connection_cause (edge.Ticks (later_moment h now)) x.role
 is_cause_for h (Hears now isn source s) x = is_between (local_end h s) (peer_end source s) x && is_connection_cause (edge.Hears s (later_moment h now)) x.role
 is_cause_for h (Emits goes now) x = is_next_out h goes x && is_connection_cause (edge.Emits (later_moment h now)) x.role

@@ -6,17 +6,18 @@ use Rattle.ipv4.specs.declared.addr.Endpoint.{Endpoint}
 use Rattle.ipv4.specs.declared.addr.Pair.{Pair}
 use Rattle.tcp_state.specs.declared.state.State.TheVariants.{Closed, Listen}
 use Rattle.clock.specs.declared.moment.Moment.{Moment}
-use Rattle.tcp_state.specs.View.{View, is_opening, is_closed, is_syn_received, is_over, opened_actively, reset_since}
+use Rattle.tcp_state.specs.View.{View, is_opening, is_closed, is_syn_sent, is_syn_received, is_over, opened_actively, reset_since}
 use Rattle.tcp_state.specs.Timing.{after_tick, tick_fate, deadline}
 use Rattle.tcp_segment.specs.Segment.{Segment}
 use Rattle.tcp_state.specs.declared.connection.Fate.{Fate}
 use Rattle.tcp_state.specs.declared.connection.Fate.TheVariants.{Stays, Removed, Rejected}
 use Rattle.tcp_state.specs.Arrival.{after_segment_at, fate}
-use Rattle.tcp_state.specs.Calls.{after_send, after_recv, after_shutdown, after_close, close_fate, after_abort, abort_fate}
+use Rattle.tcp_state.specs.Calls.{after_send, after_recv, after_shutdown, after_abort, abort_fate}
 use Rattle.tcp_state.specs.Unreachable.{after_unreachable, unreachable_fate}
 use Rattle.tcp_state.specs.declared.emission.Due.{Due}
 use Rattle.tcp_state.specs.Due.{first_due, emitted_len, segment_octets}
 use Rattle.tcp_state.specs.Edges.{after_first}
+use Rattle.tcp_state.specs.Edges as edge
 use Rattle.tcp_halves.specs.declared.buffers.Buffers.{Buffers}
 use Rattle.udp_socket.specs.SocketView.{with_sent, with_received, after_read, has_room_in, has_room_out}
 use Rattle.udp_socket.specs.SocketView as datagrams
@@ -24,6 +25,8 @@ use Rattle.udp_socket.specs.Emission as datagrams_out
 use Rattle.sockets.specs.declared.entry.SocketId.{SocketId}
 use Rattle.sockets.specs.declared.entry.Entry.{Entry}
 use Rattle.ipv4.specs.Addresses.{same_end}
+use Rattle.sockets.specs.declared.role.Leave.{Leave}
+use Rattle.sockets.specs.declared.role.Leave.TheVariants.{Close, Abort}
 use Rattle.sockets.specs.declared.role.Role.{Role}
 use Rattle.sockets.specs.declared.role.Role.TheVariants.{Idle, Listener, Connected, Datagrams}
 use Rattle.sockets.specs.declared.state.SocketState.{SocketState}
@@ -319,12 +322,21 @@ role_after_unreachable number role = on_connection (λ c. after_unreachable c nu
 abbrev pub unreachable_fate_of : ℕ → Role → Fate
 unreachable_fate_of number role = in_connection Stays (λ c. unreachable_fate c number) role
 
--- the caller closes the socket, and nothing is left of one without a connection
-abbrev pub role_after_close : Moment → Role → Role
-role_after_close now role = on_connection (λ c. after_close c now) role
+-- Its caller's leaving closes a connection: by `close`; and by `abort` in SYN-SENT, where no peer is owed a reset (RFC 9293 section 3.10.5).
+abbrev pub is_closed_by : Leave → View → Bool
+is_closed_by Close c = true
+is_closed_by Abort c = is_syn_sent c.state
 
-abbrev pub close_fate_of : Role → Fate
-close_fate_of role = in_connection Removed close_fate role
+-- .. and else aborts it
+abbrev pub leaving_event : Leave → Moment → View → edge.Event
+leaving_event how now c = if is_closed_by how c then edge.Closes now else edge.Aborts now
+
+-- the caller leaves the socket, and nothing is left of one without a connection
+abbrev pub role_after_leaving : Leave → Moment → Role → Role
+role_after_leaving how now role = on_connection (λ c. edge.after_event c (leaving_event how now c)) role
+
+abbrev pub leaving_fate_of : Leave → Moment → Role → Fate
+leaving_fate_of how now role = in_connection Removed (λ c. edge.fate_by c (leaving_event how now c)) role
 
 -- the connection is aborted
 abbrev pub role_after_abort : Moment → Role → Role

@@ -1,16 +1,17 @@
-//! Closing a socket (POSIX.1-2017 close, RFC 9293 section 3.10.4).
+//! Leaving a socket: closing it (POSIX.1-2017 close, RFC 9293 section 3.10.4), or aborting it (section 3.10.5).
 
 ghost use Rattle.std.specs.Prelude.{◌≡◌};
 ghost use Rattle.std.specs.Result.{result_err, OnOk, OnErr};
 
 use crate::entry::SocketId;
 use crate::refusal::Refusal;
+use crate::role::Leave;
 use crate::sockets::Sockets;
 use crate::table;
 
 #[tactic(auto, using(crate::proofs::Firsts::firsts))]
 impl Sockets {
-    ghost use Rattle.sockets.specs.Calls.{close_refusal, after_close, after_socket_closed};
+    ghost use Rattle.sockets.specs.Calls.{close_refusal, after_close, after_abort, after_leaving, after_socket_left};
 
     /// Closes a socket: its id names none any more. EBADF.
     ///
@@ -22,21 +23,41 @@ impl Sockets {
         ensures ok { OnOk result (self.new ≡ after_close self.old id) }
         ensures err { OnErr result (self.new ≡ self.old) }
     {
-        self.close_socket(id)?;
+        self.leave(Leave::Close, id)
+    }
+
+    /// Aborts a socket: its id names none any more. EBADF.
+    ///
+    /// A connection past SYN-SENT is aborted, whatever is unread or waits to go out: one reset is owed to its peer, <SEQ=SND.NXT><CTL=RST>. All else goes as by `close`.
+    pub fn abort(&mut self, id: SocketId) -> Result<(), Refusal>
+        ensures refused { result_err result ≡ close_refusal self.old id }
+        ensures ok { OnOk result (self.new ≡ after_abort self.old id) }
+        ensures err { OnErr result (self.new ≡ self.old) }
+    {
+        self.leave(Leave::Abort, id)
+    }
+
+    /// Its caller leaves a socket. EBADF.
+    fn leave(&mut self, how: Leave, id: SocketId) -> Result<(), Refusal>
+        ensures refused { result_err result ≡ close_refusal self.old id }
+        ensures ok { OnOk result (self.new ≡ after_leaving self.old how id) }
+        ensures err { OnErr result (self.new ≡ self.old) }
+    {
+        self.leave_socket(how, id)?;
         table::offer_no_more(&mut self.offered, &self.entries, id);
         table::forsake(&mut self.entries, &mut self.ends, self.kept, id);
         Ok(())
     }
 
-    /// Closes a socket alone, and not what waits at it. EBADF.
-    fn close_socket(&mut self, id: SocketId) -> Result<(), Refusal>
+    /// Leaves a socket alone, and not what waits at it. EBADF.
+    fn leave_socket(&mut self, how: Leave, id: SocketId) -> Result<(), Refusal>
         ensures refused { result_err result ≡ close_refusal self.old id }
-        ensures ok { OnOk result (self.new ≡ after_socket_closed self.old id) }
+        ensures ok { OnOk result (self.new ≡ after_socket_left self.old how id) }
         ensures err { OnErr result (self.new ≡ self.old) }
     {
         let place = self.socket_place(id)?;
         let kept = self.kept;
-        let fate = self.entries[place].role.close(kept);
+        let fate = self.entries[place].role.leave(how, kept);
         table::settle(&mut self.entries, &mut self.ends, place, fate);
         Ok(())
     }

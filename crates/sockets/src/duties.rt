@@ -17,6 +17,7 @@ ghost use Rattle.tcp_state.specs.Counted.{IsGivenUp};
 ghost use Rattle.tcp_state.specs.View.{View, is_opening, is_closed, is_syn_sent, is_syn_received, is_write_closed};
 ghost use Rattle.sockets.specs.declared.entry.SocketId.{SocketId};
 ghost use Rattle.sockets.specs.declared.entry.Entry.{Entry};
+ghost use Rattle.sockets.specs.declared.role.Leave.{Leave};
 ghost use Rattle.sockets.specs.declared.role.Role.{Role};
 ghost use Rattle.sockets.specs.declared.role.Role.TheVariants.{Idle, Listener, Connected, Datagrams};
 ghost use Rattle.sockets.specs.declared.refusal.Refusal.TheVariants.{EINVAL, EADDRINUSE, EAGAIN};
@@ -26,7 +27,7 @@ ghost use Rattle.sockets.specs.Ports.{tcp_port, udp_port, is_port};
 ghost use Rattle.sockets.specs.Sound.{IsSoundTable};
 ghost use Rattle.sockets.specs.SocketsView.{SocketsView, later_moment, role_of};
 ghost use Rattle.sockets.specs.Timing.{EachKeepsTime};
-ghost use Rattle.sockets.specs.Calls.{any_addr, bind_refusal, listen_refusal, after_listen, send_answer, after_send, recv_answer, recv_front, after_recv, after_shutdown, after_close};
+ghost use Rattle.sockets.specs.Calls.{any_addr, bind_refusal, listen_refusal, after_listen, send_answer, after_send, recv_answer, recv_front, after_recv, after_shutdown, after_leaving, after_close, after_abort};
 ghost use Rattle.sockets.specs.Arrival.{Becomes, Opens, NoRoom, Answers, local_end, peer_end, arrival};
 ghost use Rattle.sockets.specs.Causes.{IsOpenedBy};
 ghost use Rattle.sockets.specs.Closing.{entry_of, IsAborted, IsGoingOn};
@@ -35,23 +36,32 @@ ghost use Rattle.sockets.specs.Order.{IsOrdered};
 ghost use Rattle.sockets.specs.Steps.{connected};
 ghost use Rattle.sockets.specs.Strays.{IsResetOf};
 
-/// What a close leaves (RFC 9293 section 3.10.4), by what the socket is. Of one that has no connection nothing is left, nor of one whose connection is CLOSED or in SYN-SENT. A connection in
-/// SYN-RECEIVED, or with octets that its caller has not read (section 3.6.1), is aborted: its reset waits from the kept moment on. Any other goes on: all that is held goes out, and a FIN behind it.
-/// Each connection that waits at a listener that is closed is aborted with it, and taken out where it is CLOSED already. Every other entry stays, and so do those offered, but for those that wait at
-/// it. The id names no socket any more.
+/// What is left of a socket that its caller closes or aborts, by what the socket is. Of one that has no connection nothing is left, nor of one whose connection is CLOSED or in SYN-SENT. Each connection
+/// that waits at a listener is aborted with it, and taken out where it is CLOSED already. Every other entry stays, and so do those offered, but for those that wait at it. The id names no socket any more.
+pub fn sockets_are_left()
+    ensures alone { (h : SocketsView) (how : Leave) (id : SocketId) (role : Role) → IsOrdered h → role_of h id ≡ Some role → in_connection None (λ c. Some c) role ≡ None → entry_of (after_leaving h how id) id ≡ None }
+    ensures ended { (h : SocketsView) (how : Leave) (id : SocketId) (c : View) → IsOrdered h → role_of h id ≡ Some (Connected c None) → (is_closed c.state || is_syn_sent c.state) ≡ true → entry_of (after_leaving h how id) id ≡ None }
+    ensures waiting_closed { (h : SocketsView) (how : Leave) (id waits : SocketId) (c : View) → IsOrdered h → entry_of h waits ≡ Some (connected waits c (Some id)) → is_closed c.state ≡ true → entry_of (after_leaving h how id) waits ≡ None }
+    ensures waiting { (h : SocketsView) (how : Leave) (id waits : SocketId) (c : View) → IsOrdered h → entry_of h waits ≡ Some (connected waits c (Some id)) → is_closed c.state ≡ false
+        → (d : View) × (entry_of (after_leaving h how id) waits ≡ Some (connected waits d (Some id))) × IsAborted h.kept c d }
+    ensures others { (h : SocketsView) (how : Leave) (id other : SocketId) (x : Entry) → IsOrdered h → entry_of h other ≡ Some x → is_socket id x ≡ false → is_waiting_at id x ≡ false → entry_of (after_leaving h how id) other ≡ Some x }
+    ensures offered { (h : SocketsView) (how : Leave) (id : SocketId) → let after = after_leaving h how id in after.offered ≡ filter (λ x. not (is_waiting_id h.entries id x)) h.offered }
+    ensures nameless { (h : SocketsView) (how : Leave) (id : SocketId) (role : Role) → IsOrdered h → role_of h id ≡ Some role → role_of (after_leaving h how id) id ≡ None }
+{}
+
+/// What a close leaves of a connection past SYN-SENT (RFC 9293 section 3.10.4). One in SYN-RECEIVED, or with octets that its caller has not read (section 3.6.1), is aborted: its reset waits from the kept
+/// moment on. Any other goes on: all that is held goes out, and a FIN behind it.
 pub fn closes_leave()
-    ensures alone { (h : SocketsView) (id : SocketId) (role : Role) → IsOrdered h → role_of h id ≡ Some role → in_connection None (λ c. Some c) role ≡ None → entry_of (after_close h id) id ≡ None }
-    ensures ended { (h : SocketsView) (id : SocketId) (c : View) → IsOrdered h → role_of h id ≡ Some (Connected c None) → (is_closed c.state || is_syn_sent c.state) ≡ true → entry_of (after_close h id) id ≡ None }
     ensures aborted { (h : SocketsView) (id : SocketId) (c : View) → IsOrdered h → role_of h id ≡ Some (Connected c None) → (is_closed c.state || is_syn_sent c.state) ≡ false
         → (is_syn_received c.state || not (length c.receiving.readable == 0)) ≡ true → (d : View) × (entry_of (after_close h id) id ≡ Some (connected id d None)) × IsAborted h.kept c d }
     ensures going_on { (h : SocketsView) (id : SocketId) (c : View) → IsOrdered h → role_of h id ≡ Some (Connected c None) → (is_closed c.state || is_syn_sent c.state) ≡ false
         → (is_syn_received c.state || not (length c.receiving.readable == 0)) ≡ false → (d : View) × (entry_of (after_close h id) id ≡ Some (connected id d None)) × IsGoingOn c d }
-    ensures waiting_closed { (h : SocketsView) (id waits : SocketId) (c : View) → IsOrdered h → entry_of h waits ≡ Some (connected waits c (Some id)) → is_closed c.state ≡ true → entry_of (after_close h id) waits ≡ None }
-    ensures waiting { (h : SocketsView) (id waits : SocketId) (c : View) → IsOrdered h → entry_of h waits ≡ Some (connected waits c (Some id)) → is_closed c.state ≡ false
-        → (d : View) × (entry_of (after_close h id) waits ≡ Some (connected waits d (Some id))) × IsAborted h.kept c d }
-    ensures others { (h : SocketsView) (id other : SocketId) (x : Entry) → IsOrdered h → entry_of h other ≡ Some x → is_socket id x ≡ false → is_waiting_at id x ≡ false → entry_of (after_close h id) other ≡ Some x }
-    ensures offered { (h : SocketsView) (id : SocketId) → let after = after_close h id in after.offered ≡ filter (λ x. not (is_waiting_id h.entries id x)) h.offered }
-    ensures nameless { (h : SocketsView) (id : SocketId) (role : Role) → IsOrdered h → role_of h id ≡ Some role → role_of (after_close h id) id ≡ None }
+{}
+
+/// What an abort leaves of a connection past SYN-SENT (RFC 9293 section 3.10.5), whatever is unread or held: it is aborted, and its reset waits from the kept moment on.
+pub fn aborts_leave()
+    ensures { (h : SocketsView) (id : SocketId) (c : View) → IsOrdered h → role_of h id ≡ Some (Connected c None) → (is_closed c.state || is_syn_sent c.state) ≡ false
+        → (d : View) × (entry_of (after_abort h id) id ≡ Some (connected id d None)) × IsAborted h.kept c d }
 {}
 
 /// What becomes of a connection whose peer's address is lost and that owes no reset (RFC 1122 section 4.2.3.5, RFC 9293 section 3.8.3). Where what takes numbers has been due for 483,000 ms, and nothing of

@@ -66,7 +66,7 @@ pub fn connects_are_foreseen()
 {}
 
 /// The state of an entry stays, or goes along an edge of the table of states. An entry becomes CLOSED, or is taken out of the table, only
-/// by a cause: its close or that of the listener that it waits at, an event of its connection that ends it, or that its reset is given up. Every other one keeps its
+/// by a cause: its close or abort or that of the listener that it waits at, an event of its connection that ends it, or that its reset is given up. Every other one keeps its
 /// place. An error that its connection tells was told before, or a reset or a hard error tells it in a state that has it. Behind them a new entry stands only
 /// where a socket was made, or a segment opened a connection at a listener.
 pub fn ends_have_causes()
@@ -74,7 +74,7 @@ pub fn ends_have_causes()
 {}
 
 /// An event of the table is at most one event of each connection in it, the one that `event_of` names (RFC 9293 section 3.10). What is left of a connection is exactly what that one leaves of it, and
-/// all of it where there is none: so a tick is a tick of each, and a call, a close, a segment or an error is one of its own connection alone. A socket has a connection then that it had not before
+/// all of it where there is none: so a tick is a tick of each, and a call, a close or an abort, a segment or an error is one of its own connection alone. A socket has a connection then that it had not before
 /// only by a `connect` of its own; any other that is new stands behind the entries, where a segment opened it.
 pub fn an_event_is_one_of_each_connection()
     ensures { (h : SocketsView) (e : Event) → IsOrdered h → Follows (IsOneEvent h e) (IsAdded h e) h.entries (let after = after_event h e in after.entries) }
@@ -199,7 +199,7 @@ pub fn errors_are_reported_first()
 {}
 
 /// The error that a connection tells it tells for good, over each event and over every list of them: whatever entry has its id then is one of a connection that tells it, whether a socket names the
-/// connection or not, and none but its close or its removal ends that. So each call of its socket that is told the error (`errors_are_reported_first`) is told it again, as often as it is made.
+/// connection or not, and none but its close, its abort or its removal ends that. So each call of its socket that is told the error (`errors_are_reported_first`) is told it again, as often as it is made.
 pub fn errors_told_stay()
     ensures event { (h : SocketsView) (e : Event) (id : SocketId) (error : Error) → IsSoundTable h → EachKeepsTime h → id.0 ≤ h.last_id → TellsStill id error h → TellsStill id error (after_event h e) }
     ensures over { (h : SocketsView) (events : List Event) (id : SocketId) (error : Error) → AreSound h events → EachKeepsTime h → id.0 ≤ h.last_id → TellsStill id error h → TellsStill id error (after_events h events) }

@@ -29,6 +29,7 @@ pub use datagrams::Reception;
 pub use emission::{Emitted, Outgoing};
 pub use entry::{Entry, Kind, SocketId};
 pub use refusal::Refusal;
+pub use role::Leave;
 pub use sockets::Sockets;
 pub use state::SocketState;
 pub use table::ENTRIES;

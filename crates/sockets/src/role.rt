@@ -6,7 +6,7 @@ ghost use Rattle.ipv4.specs.declared.addr.Addr.{Addr};
 ghost use Rattle.sockets.specs.Calls.{own_end};
 ghost use Rattle.sockets.specs.Emission.{IsWithin};
 ghost use Rattle.sockets.specs.Lost.{is_hopless, waits_until};
-ghost use Rattle.sockets.specs.Entries.{is_pending, is_left, has_socket, is_live_between, joins, uses_port, uses_datagram_port, waits_at, is_in_syn_received, peer_of, shown_state, deadline_of, dues_of, HasOutgoing, reset_wait, backlog_of, listens_at, is_kept, source_of};
+ghost use Rattle.sockets.specs.Entries.{is_closed_by, is_pending, is_left, has_socket, is_live_between, joins, uses_port, uses_datagram_port, waits_at, is_in_syn_received, peer_of, shown_state, deadline_of, dues_of, HasOutgoing, reset_wait, backlog_of, listens_at, is_kept, source_of};
 
 use crate::emission::{Emitted, Outgoing};
 use crate::entry::SocketId;
@@ -25,6 +25,15 @@ const UNBOUND: Endpoint = Endpoint {
     addr: Addr([0; 4]),
     port: 0,
 };
+
+/// How its caller leaves a socket: which call an event of the table is.
+#[derive(Clone, Copy, PartialEq, Eq, Debug)]
+pub enum Leave {
+    /// By `close` (RFC 9293 section 3.10.4).
+    Close,
+    /// By `abort` (section 3.10.5).
+    Abort,
+}
 
 /// What an entry is.
 #[derive(Drop)]
@@ -94,6 +103,16 @@ fn is_hopless<F: Fn(Addr) -> bool>(connection: &Connection, lost: &F) -> bool
     ensures { (test : Addr → Bool) → ((addr : Addr) (answer : Bool) → F.post lost.now addr answer → answer ≡ test addr) → result ≡ is_hopless test connection.now }
 {
     connection.reset_since().is_none() && lost(connection.peer().addr)
+}
+
+/// Whether its caller, who leaves it so, closes the connection: else it is aborted.
+fn is_closed_by(connection: &Connection, how: Leave) -> bool
+    ensures { result ≡ is_closed_by how connection.now }
+{
+    match how {
+        Leave::Close => true,
+        Leave::Abort => matches!(connection.state(), State::SynSent),
+    }
 }
 
 /// What a role shows.
@@ -365,7 +384,7 @@ impl Role {
 /// What the calls, a segment, an error, the clock and an emission make of a role. Each names the role that it is for, and leaves any other.
 impl Role {
     ghost use Rattle.sockets.specs.Index.{filed_as};
-    ghost use Rattle.sockets.specs.Entries.{role_after_bind, role_after_listen, role_after_connect, role_after_accept, role_after_send, role_after_recv, role_after_shutdown, role_after_segment, fate_of, role_after_unreachable, unreachable_fate_of, role_after_tick, tick_fate_of, role_after_emission, emission_fate_of, due_emitted, due_front, has_room_to_send, role_after_sendto, role_after_recvfrom, has_room_to_receive, role_after_reception, role_after_close, close_fate_of, role_after_abort, abort_fate_of, role_after_listener_close, listener_close_fate_of};
+    ghost use Rattle.sockets.specs.Entries.{role_after_bind, role_after_listen, role_after_connect, role_after_accept, role_after_send, role_after_recv, role_after_shutdown, role_after_segment, fate_of, role_after_unreachable, unreachable_fate_of, role_after_tick, tick_fate_of, role_after_emission, emission_fate_of, due_emitted, due_front, has_room_to_send, role_after_sendto, role_after_recvfrom, has_room_to_receive, role_after_reception, role_after_leaving, leaving_fate_of, role_after_abort, abort_fate_of, role_after_listener_close, listener_close_fate_of};
     ghost use Rattle.sockets.specs.Calls.{role_send_answer, role_recv_answer, role_shutdown_refusal, read_front};
     ghost use Rattle.sockets.specs.Datagrams.{role_recvfrom_answer, datagram_front};
     ghost use Rattle.sockets.specs.Lost.{give_up_fate_of, role_after_giving_up};
@@ -515,13 +534,16 @@ impl Role {
         }
     }
 
-    /// The caller closes the socket. Answers what becomes of the entry: nothing is left of a socket without a connection.
-    pub(crate) fn close(&mut self, now: Moment) -> Fate
-        ensures fate { result ≡ close_fate_of self.old }
-        ensures after { self.new ≡ role_after_close now self.old }
+    /// The caller leaves the socket. Answers what becomes of the entry: nothing is left of a socket without a connection.
+    pub(crate) fn leave(&mut self, how: Leave, now: Moment) -> Fate
+        ensures fate { result ≡ leaving_fate_of how now self.old }
+        ensures after { self.new ≡ role_after_leaving how now self.old }
     {
         match self {
-            Role::Connected { connection, .. } => connection.close(now),
+            Role::Connected { connection, .. } if is_closed_by(connection, how) => {
+                connection.close(now)
+            }
+            Role::Connected { connection, .. } => connection.abort(now),
             _ => Fate::Removed,
         }
     }

@@ -3,7 +3,7 @@ use Rattle.std.proofs.Common.{refl}
 use Rattle.sockets.specs.declared.entry.Entry.{Entry}
 use Rattle.sockets.specs.Entries.{is_kept, listener_close_fate_of, role_after_listener_close, with_role}
 use Rattle.sockets.proofs.Ascending.{lent_in_order, ascends_stepped}
-use Rattle.sockets.proofs.sockets.Sockets.close.Goals as goal
+use Rattle.sockets.proofs.sockets.Sockets.leave.Goals as goal
 
 pub offer_no_more-requires : goal.offer_no_more-requires
 offer_no_more-requires c = lent_in_order _ _ _ c.deref.ensures.0 c.self.invariant.1

@@ -4,16 +4,16 @@ use Rattle.std.specs.List.{find}
 use Rattle.tcp_state.specs.declared.connection.Fate.{Fate}
 use Rattle.clock.specs.declared.moment.Moment.{Moment}
 use Rattle.sockets.specs.declared.entry.Entry.{Entry}
-use Rattle.sockets.specs.Entries.{is_socket, role_after_close, close_fate_of, entries_after_step}
+use Rattle.sockets.specs.Entries.{is_socket, role_after_leaving, leaving_fate_of, entries_after_step}
 use Rattle.sockets.specs.SocketsView.{SocketsView}
 use Rattle.sockets.proofs.Arrived.{entry_settled}
-use Rattle.sockets.proofs.Closed.{closed-found, close-allowed}
+use Rattle.sockets.proofs.Closed.{left-found, close-allowed}
 use Rattle.sockets.proofs.Written.{found_lent, role_changed}
 use Rattle.sockets.proofs.Firsts.{found_by_place}
 use Rattle.sockets.proofs.Ascending.{ascends_written, ascends_settled}
 use Rattle.sockets.proofs.Filed.{index_written}
-use Rattle.sockets.proofs.KeptFiled.{filed_role, filed-close}
-use Rattle.sockets.proofs.sockets.Sockets.close_socket.Goals as goal
+use Rattle.sockets.proofs.KeptFiled.{filed_role, filed-leaving}
+use Rattle.sockets.proofs.sockets.Sockets.leave_socket.Goals as goal
 
 pub returns-clause-ok : goal.returns-clause-ok
 returns-clause-ok c =
@@ -21,11 +21,11 @@ returns-clause-ok c =
     let kept = ap (λ (w : SocketsView). w.kept) c.self.view_is in
     let x : Entry = c.index-deref_mut-place.result in
     let found : find (is_socket c.args.id) h.entries ≡ Some x = found_lent _ h (is_socket c.args.id) _ _ x c.self.view_is c.in_ok-place.ensures.place c.deref_mut.ensures.value c.index-deref_mut-place.is in
-    let fates : c.close-fate.result ≡ close_fate_of x.role = c.close-fate.ensures.fate ∙ ap (λ (e : Entry). close_fate_of e.role) (sym c.index-deref_mut-place.is) in
-    entry_settled _ _ (is_socket c.args.id) (role_after_close c.self.inside.kept) _ _ _ _ _ c.close-fate.result c.self.view_is c.in_ok-place.ensures.place c.deref_mut.ensures.value c.index-deref_mut-place.is (role_changed (role_after_close c.self.inside.kept) _ _ c.close-fate.ensures.after) c.settle.ensures.entries
-    ∙ ap (λ (r : Fate). let w : SocketsView = record h { entries = entries_after_step r (is_socket c.args.id) (role_after_close c.self.inside.kept) h.entries } in w) fates
-    ∙ ap (λ (m : Moment). let w : SocketsView = record h { entries = entries_after_step (close_fate_of x.role) (is_socket c.args.id) (role_after_close m) h.entries } in w) kept
-    ∙ sym (closed-found h c.args.id x found)
+    let fates : c.leave-fate.result ≡ leaving_fate_of c.args.how c.self.inside.kept x.role = c.leave-fate.ensures.fate ∙ ap (λ (e : Entry). leaving_fate_of c.args.how c.self.inside.kept e.role) (sym c.index-deref_mut-place.is) in
+    entry_settled _ _ (is_socket c.args.id) (role_after_leaving c.args.how c.self.inside.kept) _ _ _ _ _ c.leave-fate.result c.self.view_is c.in_ok-place.ensures.place c.deref_mut.ensures.value c.index-deref_mut-place.is (role_changed (role_after_leaving c.args.how c.self.inside.kept) _ _ c.leave-fate.ensures.after) c.settle.ensures.entries
+    ∙ ap (λ (r : Fate). let w : SocketsView = record h { entries = entries_after_step r (is_socket c.args.id) (role_after_leaving c.args.how c.self.inside.kept) h.entries } in w) fates
+    ∙ ap (λ (m : Moment). let w : SocketsView = record h { entries = entries_after_step (leaving_fate_of c.args.how m x.role) (is_socket c.args.id) (role_after_leaving c.args.how m) h.entries } in w) kept
+    ∙ sym (left-found h c.args.how c.args.id x found)
 
 pub returns-clause-refused : goal.returns-clause-refused
 returns-clause-refused c =
@@ -34,11 +34,11 @@ returns-clause-refused c =
 
 -- the entry keeps its id, or is taken out
 pub invariant_of-self : goal.invariant_of-self
-invariant_of-self c = (c.self.invariant.0, ascends_settled _ c.close-fate.result _ _ _ (ascends_written _ _ _ _ _ c.index-deref_mut-place.result c.self.invariant.1 c.deref_mut.ensures.value refl) c.settle.ensures.entries, c.settle.ensures.index)
+invariant_of-self c = (c.self.invariant.0, ascends_settled _ c.leave-fate.result _ _ _ (ascends_written _ _ _ _ _ c.index-deref_mut-place.result c.self.invariant.1 c.deref_mut.ensures.value refl) c.settle.ensures.entries, c.settle.ensures.index)
 
 -- its connection stays filed by its ends
 pub settle-requires-clause-order : goal.settle-requires-clause-order
 settle-requires-clause-order c = (c.self.inside.last_id, ascends_written _ _ _ _ _ c.index-deref_mut-place.result c.self.invariant.1 c.deref_mut.ensures.value refl)
 
 pub settle-requires-clause-index : goal.settle-requires-clause-index
-settle-requires-clause-index c = index_written _ _ _ _ _ c.index-deref_mut-place.result c.self.invariant.2 c.deref_mut.ensures.value (filed_role (role_after_close c.self.inside.kept) _ _ (filed-close _ _) c.close-fate.ensures.after)
+settle-requires-clause-index c = index_written _ _ _ _ _ c.index-deref_mut-place.result c.self.invariant.2 c.deref_mut.ensures.value (filed_role (role_after_leaving c.args.how c.self.inside.kept) _ _ (filed-leaving _ _ _) c.leave-fate.ensures.after)
