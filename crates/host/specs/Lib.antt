@@ -2,6 +2,7 @@ pub mod ConfigView
 pub mod HostView
 pub mod Messages
 pub mod Arrival
+pub mod Concerned
 pub mod Emission
 pub mod Ticks
 pub mod Sound

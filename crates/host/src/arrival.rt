@@ -133,7 +133,7 @@ impl Layers {
 }
 
 /// What a hard error quotes of a segment; none where the message is another one, or quotes something else.
-fn refused_quote(message: &IcmpView<'_>) -> Option<Quote>
+pub(crate) fn refused_quote(message: &IcmpView<'_>) -> Option<Quote>
     ensures { result ≡ refused_quote message.now }
 {
     if is_hard(message) {

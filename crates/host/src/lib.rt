@@ -13,9 +13,10 @@ mod host;
 mod info;
 pub mod laws;
 mod layers;
+mod ready;
 mod ticks;
 
 pub use config::Config;
 pub use frames::DropCause;
 pub use host::Host;
-pub use sockets::{Info, Kind, Refusal, SocketId, SocketState};
+pub use sockets::{Info, Kind, Ready, Refusal, SocketId, SocketState};

@@ -20,10 +20,10 @@ use Rattle.sockets.proofs.OfferCounts.{by_option}
 use Rattle.sockets.proofs.Opened.{found_passes}
 
 -- what is found behind the first that fails
-found_behind : (test : Entry → Bool) (x : Entry) (xs : List Entry) (o : Option Entry) → test x ≡ false → find test (x ∷ xs) ≡ o → find test xs ≡ o
+pub found_behind : (test : Entry → Bool) (x : Entry) (xs : List Entry) (o : Option Entry) → test x ≡ false → find test (x ∷ xs) ≡ o → find test xs ≡ o
 found_behind test x xs o fails found = ap (λ b. cond b (Some x) (find test xs)) (sym fails) ∙ found
 
-found_first : (test : Entry → Bool) (x y : Entry) (xs : List Entry) → test x ≡ true → find test (x ∷ xs) ≡ Some y → x ≡ y
+pub found_first : (test : Entry → Bool) (x y : Entry) (xs : List Entry) → test x ≡ true → find test (x ∷ xs) ≡ Some y → x ≡ y
 found_first test x y xs passes found = let one : Some x ≡ Some y = ap (λ b. cond b (Some x) (find test xs)) (sym passes) ∙ found in cc
 
 -- an id up to the one before is none of theirs
@@ -58,7 +58,7 @@ module _ (Step : Entry → Option Entry → Type 0) (ids : (x y : Entry) → Ste
 
 -- Sockets.
 
-found_above : (test : Entry → Bool) (before last : ℕ) (xs : List Entry) (x : Entry) → AreAscending before last xs → find test xs ≡ Some x → before < x.id.0
+pub found_above : (test : Entry → Bool) (before last : ℕ) (xs : List Entry) (x : Entry) → AreAscending before last xs → find test xs ≡ Some x → before < x.id.0
 found_above test before last [] x ids found = cc
 found_above test before last (y ∷ ys) x ids found =
     by_test (test y)

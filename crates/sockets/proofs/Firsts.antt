@@ -1,5 +1,5 @@
 -- The first element of a list that passes a test, by its place.
-use Rattle.std.proofs.Common.{◌≡◌, ℕ, zero, suc, ◌<◌, ◌≤◌, Bool, true, false, cond, nat_lt, List, [], ◌∷◌, ◌++◌, length, take, drop, get_or, set, Some, None, refl, sym, ◌∙◌, ap, arith, length-set}
+use Rattle.std.proofs.Common.{◌≡◌, ℕ, zero, suc, ◌<◌, ◌≤◌, Bool, true, false, cond, nat_lt, List, [], ◌∷◌, ◌++◌, length, take, drop, get_or, set, Option, Some, None, is_some, refl, sym, ◌∙◌, ap, arith, length-set}
 use Rattle.std.specs.List.{find, position, position_or_len, slice_get, AllWithin}
 use Rattle.std.proofs.lemmas.List.Quantifiers.{position-Some}
 use Rattle.std.proofs.lemmas.List.Folds.{find_at}
@@ -122,3 +122,11 @@ pub remove-set : {X : Type 0} (xs : List X) (i : ℕ) (y : X) → remove (set xs
 remove-set [] i y = refl
 remove-set (x ∷ xs) zero y = refl
 remove-set (x ∷ xs) (suc i) y = ap (λ ys. x ∷ ys) (remove-set xs i y)
+
+-- an element is found exactly where it has a place
+pub some-place : {X : Type 0} (p : X → Bool) (xs : List X) → is_some (position p xs) ≡ is_some (find p xs)
+some-place p xs = by_place (position p xs) refl
+  where
+    by_place : (o : Option ℕ) → position p xs ≡ o → is_some o ≡ is_some (find p xs)
+    by_place None none = rw (find-position_none p xs none) refl
+    by_place (Some i) at = let found = found_by_place p xs i at in rw found.1 refl

@@ -42,6 +42,7 @@ pub mod Accepted
 pub mod OfferOrder
 pub mod OfferTurns
 pub mod OfferAccepted
+pub mod Foretold
 pub mod Filed
 pub mod KeptFiled
 pub mod ResetWaits
@@ -59,6 +60,7 @@ pub mod OneEvent
 pub mod EachOnce
 pub mod EventsOnce
 pub mod ByIds
+pub mod FirstReady
 pub mod Hopless
 pub mod HopEnds
 pub mod HopOver

@@ -18,12 +18,12 @@ use Rattle.sockets.proofs.OfferHeld.{next-ready, reached-holds}
 use Rattle.sockets.proofs.OfferOrder.{accepted-next, waits-offered}
 
 -- what waits at a listener is a connection, which has a peer
-has-peer : (l : SocketId) (r : Role) → waits_at l r ≡ true → (p : Endpoint) × (peer_of r ≡ Some p)
+pub has-peer : (l : SocketId) (r : Role) → waits_at l r ≡ true → (p : Endpoint) × (peer_of r ≡ Some p)
 has-peer l (Connected c listener) waits = (c.peer, refl)
 has-peer l r waits = cc
 
 -- a listener that finds one answers it
-answers : (h : SocketsView) (l : SocketId) (b : Endpoint) (n : ℕ) (e : Entry) (p : Endpoint) → role_of h l ≡ Some (Listener b n) → find (is_next_at h l) h.entries ≡ Some e → peer_of e.role ≡ Some p → is_ok (accept_answer h l) ≡ true
+pub answers : (h : SocketsView) (l : SocketId) (b : Endpoint) (n : ℕ) (e : Entry) (p : Endpoint) → role_of h l ≡ Some (Listener b n) → find (is_next_at h l) h.entries ≡ Some e → peer_of e.role ≡ Some p → is_ok (accept_answer h l) ≡ true
 answers h l b n e p is found peer = rw (is, found, peer)
 
 pub some-accepted : (h : SocketsView) (listener x : SocketId) (bound : Endpoint) (backlog : ℕ) → IsReached h → role_of h listener ≡ Some (Listener bound backlog) → list_any (is_ready_at listener x) h.entries ≡ true → is_ok (accept_answer h listener) ≡ true

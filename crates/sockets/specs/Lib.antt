@@ -11,6 +11,7 @@ pub mod Calls
 pub mod Datagrams
 pub mod Arrival
 pub mod Pairs
+pub mod Ready
 pub mod Unreachable
 pub mod Emission
 pub mod Sound

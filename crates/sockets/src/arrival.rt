@@ -163,7 +163,7 @@ impl Sockets {
     }
 
     /// The local and the foreign end of a segment that came from this address.
-    fn ends(&self, source: Addr, segment: &TcpView<'_>) -> (Endpoint, Endpoint)
+    pub(crate) fn ends(&self, source: Addr, segment: &TcpView<'_>) -> (Endpoint, Endpoint)
         ensures local { result.0 ≡ local_end self.now segment.now }
         ensures peer { result.1 ≡ peer_end source segment.now }
     {
@@ -206,7 +206,7 @@ fn half_open(
 }
 
 /// Whether a segment opens a connection at a listener (RFC 9293 section 3.10.7.2): SYN with neither RST nor ACK.
-fn is_opening(segment: &TcpView<'_>) -> bool
+pub(crate) fn is_opening(segment: &TcpView<'_>) -> bool
     ensures { result ≡ is_opening segment.now.flags }
 {
     let flags = segment.flags();

@@ -67,7 +67,7 @@ impl Sockets {
     }
 
     /// Where a socket sends from: where it is bound, else our address and a dynamic port. EADDRINUSE where none is free.
-    fn sending_end(&self, bound: Option<Endpoint>) -> Result<Endpoint, Refusal>
+    pub(crate) fn sending_end(&self, bound: Option<Endpoint>) -> Result<Endpoint, Refusal>
         ensures dynamic { bound ≡ None → IfOk result (λ local. 49152 ≤ local.port) }
         ensures value { result ≡ ok_or (sending_end self.now bound) Refusal.EADDRINUSE }
     {

@@ -71,18 +71,18 @@ impl Receiver {
         self.size
     }
 
+    /// How many octets the caller may read: those that came in order and were not read.
+    pub fn readable_len(&self) -> usize
+        ensures { result ≡ length self.now.readable }
+    {
+        self.buffer.readable_len()
+    }
+
     /// Whether the caller has read all that came in order.
     pub fn is_empty(&self) -> bool
         ensures { result ≡ (length self.now.readable == 0) }
     {
         self.buffer.readable_len() == 0
-    }
-
-    /// How many octets came in order that the caller has not read.
-    pub fn readable_len(&self) -> usize
-        ensures { result ≡ length self.now.readable }
-    {
-        self.buffer.readable_len()
     }
 
     /// How many octets are kept ahead of a gap.

@@ -11,6 +11,7 @@ pub mod Timing
 pub mod Hop
 pub mod Names
 pub mod Calls
+pub mod Asking
 pub mod Arrival
 pub mod Due
 pub mod Most

@@ -3,6 +3,7 @@
 #![tactic(auto)]
 
 mod arrival;
+mod asking;
 mod calls;
 mod connection;
 pub mod counting;

@@ -1,6 +1,7 @@
 pub mod Beside
 pub mod Due
 pub mod Rooms
+pub mod Asked
 pub mod Lost
 pub mod GivingUp
 pub mod Histories

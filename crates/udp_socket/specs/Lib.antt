@@ -1,4 +1,5 @@
 pub mod SocketView
+pub mod Asking
 pub mod Emission
 pub mod Waits
 pub mod Events

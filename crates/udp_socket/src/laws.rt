@@ -1,6 +1,6 @@
 //! Laws of the definitions that the contracts of this crate cite: each is the contract of a function that does nothing.
 
-ghost use Rattle.std.specs.Prelude.{◌≡◌, ℕ, ◌+◌, ◌<◌, ◌↔◌, ◌&&◌, nat_le, not, Bool, false, IsTrue, if◌then◌else◌, List, [], ◌∷◌, ◌++◌, length, map, take, drop, filter, slice_get, Some, None};
+ghost use Rattle.std.specs.Prelude.{◌≡◌, ℕ, ◌+◌, ◌<◌, ◌≤◌, ◌↔◌, ◌&&◌, nat_le, not, Bool, false, IsTrue, if◌then◌else◌, List, [], ◌∷◌, ◌++◌, length, map, take, drop, filter, slice_get, Some, None};
 ghost use Rattle.std.specs.List.{AllByRecursion, flat_map};
 ghost use Rattle.std.specs.List.Sorted.{IsPermutation};
 ghost use Rattle.clock.specs.declared.moment.Moment.{Moment};
@@ -9,6 +9,7 @@ ghost use Rattle.ipv4.specs.declared.addr.Endpoint.{Endpoint};
 ghost use Rattle.udp.specs.Datagram.{spelling};
 ghost use Rattle.udp.specs.Waiting.{HasRoom, Waiting};
 ghost use Rattle.udp_socket.specs.declared.socket.TheConstants.{MOST_OCTETS};
+ghost use Rattle.udp_socket.specs.Asking.{room_out};
 ghost use Rattle.udp_socket.specs.Emission.{brought, datagram_of, due_peer, due_peer_to, first_that, peer_at, waits_at};
 ghost use Rattle.udp_socket.specs.Waits.{after_giving_up, is_given_up};
 ghost use Rattle.udp_socket.specs.SocketView.{Outgoing, SocketView, new_socket, line_of, waiting_of, read_answer, read_buffer, has_room_in, has_room_out};
@@ -24,6 +25,11 @@ pub fn constants()
 pub fn room()
     ensures received { (s : SocketView) (len : ℕ) → IsTrue (has_room_in s len) ↔ HasRoom (line_of s.inbox) len }
     ensures sent { (s : SocketView) (len : ℕ) → IsTrue (has_room_out s len) ↔ HasRoom (line_of (map waiting_of s.outbox)) len }
+{}
+
+/// A datagram of an octet or more, and of no more than a datagram may have, has room to be sent exactly where it has no more than `room` tells.
+pub fn room_is_the_most()
+    ensures { (s : SocketView) (len : ℕ) → 0 < len → len ≤ MOST_OCTETS → has_room_out s len ≡ nat_le len (room_out s) }
 {}
 
 /// Whatever befalls a socket, what is read, and then what waits to be, is what was received, in the order in which it came: none is

@@ -44,6 +44,7 @@ impl Model for UdpSocket {
 impl UdpSocket {
     ghost use Rattle.ipv4.specs.Datagram.{HasPlace};
     ghost use Rattle.udp_socket.specs.SocketView.{has_room_in, has_room_out, new_socket, with_received, with_sent, read_answer, read_buffer, after_read};
+    ghost use Rattle.udp_socket.specs.Asking.{first_len, room_out};
     ghost use Rattle.udp_socket.specs.Emission.{peer_at, brought, due_part, due_octets, has_more, after_part};
     ghost use Rattle.udp_socket.specs.Stored.{first_if};
     ghost use Rattle.udp_socket.specs.Waits.{is_given_up, after_giving_up, deadline};
@@ -107,6 +108,24 @@ impl UdpSocket {
         self.inbox.copy_at(0, &mut buffer[..len]);
         self.inbox.pop();
         Some((len, first.endpoint))
+    }
+
+    /// How many octets the first datagram has that came and was not read. None where none waits.
+    pub fn first_len(&self) -> Option<usize>
+        ensures { result ≡ first_len self.now.inbox }
+    {
+        let first = self.inbox.first()?;
+        Some(first.len)
+    }
+
+    /// How many octets a further datagram to be sent may have at most, 65,507 in an empty socket: 0 where one of a single octet has no room.
+    pub fn room(&self) -> usize
+        ensures { result ≡ room_out self.now }
+    {
+        match self.datagrams.room() {
+            Some(room) => room.min(MOST_OCTETS),
+            None => 0,
+        }
     }
 
     /// How many datagrams wait to go out.
