@@ -13,6 +13,9 @@
  *     the socket calls of the program
  *     while ((len = host_next_frame(&host, now, frame)) > 0) send these len octets on the link
  *
+ * LANGUAGE. It is C99, and C++11. A freestanding program needs stddef.h and stdint.h for it, and no header of a C library. docs/PORTING.md says what
+ * the library wants of a machine.
+ *
  * ANSWERS. An int64_t that is not negative is a call's answer. A negative one is a refusal (HOST_EBADF ..), and that of host_deliver a drop
  * (HOST_DROP_SHORT ..). Each call's refusals stand below in the order in which they are tested. A refused call changes nothing: neither
  * the host, nor what its pointers lead to.
@@ -32,21 +35,28 @@
  * any. So a host takes some 135 MB at the most. It writes to a page of a connection's buffers only as octets pass through that page: where the system
  * gives memory page by page, an idle connection costs next to none. Where malloc gives memory that is there at once, as on a machine
  * without virtual memory, have the option off (no_window_scale of struct host_config): then a connection takes 131,070 octets, and a host some 9.2 MB
- * at the most; so does a connection whose peer's SYN is without the option, in host_deliver. Of the stack host_new wants some 365 kB, since it makes
- * the host there before it moves it to its place; every other call wants less than 4 kB. Where memory is refused the call is refused (HOST_ENOMEM,
+ * at the most; so does a connection whose peer's SYN is without the option, in host_deliver. Of the stack host_new wants up to 500 kB, since it makes
+ * the host there before it moves it to its place, and host_free 125 kB; every other call wants less than 6 kB. Where memory is refused the call is refused (HOST_ENOMEM,
  * HOST_DROP_NO_ROOM), and the program goes on. host_free gives all of it back. Of the C library the calls use these three and memcpy, memmove, memset
  * and memcmp, and no variable of their own outlives a call.
  */
 #ifndef HOST_H
 #define HOST_H
 
+#if __STDC_HOSTED__
 #include <errno.h>
+#endif
 #include <stddef.h>
 #include <stdint.h>
 
 #ifdef __cplusplus
 extern "C" {
 #endif
+
+/* The version of this header: as text, and as a number, 65,536 for the first part of it, 256 for the second and 1 for the third. host_version
+ * answers the library's. */
+#define HOST_VERSION_STRING "0.2.0"
+#define HOST_VERSION 0x000200
 
 /* The most octets of a frame that goes out, and of one that arrives; those of one that goes out are 60 at least. */
 #define HOST_FRAME_SIZE 1514
@@ -215,6 +225,9 @@ static inline int64_t host_new_with(struct host *host, const struct host_config 
  * switched off. The handle is all zero then. Of a handle that holds no host: nothing. */
 void host_free(struct host *host);
 
+/* Answers HOST_VERSION of the library. One of the same first two parts has all that this header names. */
+uint32_t host_version(void);
+
 /* ---- Socket calls ---------------------------------------------------------------------------------------------------------------------- *
  * `id` is what host_socket or host_accept answered. Ids count from 1 and are never used again. */
 
@@ -352,9 +365,13 @@ static inline int64_t host_info(struct host *host, uint64_t id, struct host_info
 
 /* ---- Numbers and names ----------------------------------------------------------------------------------------------------------------- */
 
-/* The system's own number (errno.h) of a refusal; 0 of an answer that is none, and EINVAL of a number that no call answers. */
+/* The system's own number (errno.h) of a refusal; 0 of an answer that is none, and EINVAL of a number that no call answers. In a freestanding program
+ * it is the refusal's own number without its sign, as 8 of HOST_EAGAIN. */
 static inline int host_errno(int64_t answer)
 {
+#if !__STDC_HOSTED__
+    return answer >= 0 ? 0 : answer >= HOST_EDESTADDRREQ ? (int)-answer : -HOST_EINVAL;
+#else
     switch (answer) {
     case HOST_EBADF: return EBADF;
     case HOST_EINVAL: return EINVAL;
@@ -376,6 +393,7 @@ static inline int host_errno(int64_t answer)
     case HOST_EDESTADDRREQ: return EDESTADDRREQ;
     default: return answer < 0 ? EINVAL : 0;
     }
+#endif
 }
 
 /* The name of a refusal, as "EAGAIN"; "?" of any other number. */

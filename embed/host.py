@@ -6,11 +6,12 @@ nothing: each call returns at once, and a test can hold the network and the cloc
 Addresses are text (`"10.0.0.1"`) or numbers with the first octet highest, and come back as text. An endpoint is a tuple of address and port,
 as in Python's own `socket`. Moments are milliseconds, frames and data are `bytes`. A refused call changes nothing, and raises OSError with the
 system's number, in the class that Python has for it: BlockingIOError for EAGAIN, ConnectionRefusedError, ConnectionResetError, BrokenPipeError.
+`try_recv` and its like answer None in place of BlockingIOError, and are faster.
 
 Use a host on one thread. `free` it, or leave that to `with` or to Python.
 
-The library is `libhostc.so`: the file that the variable HOST_LIBRARY of the environment names, or the one beside this file or in its
-folder `out`, or the one that the system's loader finds. `embed/build` makes it of `libhostc.a`.
+The library is `libhostc.so`: the file that the variable HOST_LIBRARY of the environment names, or the one beside this file, in its folder `out`
+or in `lib` of Python's prefix, or the one that the system's loader finds. `embed/build` makes it of `libhostc.a`.
 """
 
 from __future__ import annotations
@@ -22,11 +23,17 @@ import errno
 import ipaddress
 import os
 import sys
+from typing import Any, Iterator, Mapping, NoReturn, Optional, Tuple, Union
 
 __all__ = ["Drop", "Host", "Info", "Kind", "State"]
 
+VERSION = "0.2.0"
 FRAME_SIZE = 1514
 DATAGRAM_SIZE = 65507
+
+Address = Union[str, int]
+Endpoint = Tuple[str, int]
+Octets = Union[bytes, bytearray, memoryview]
 
 
 class Kind(enum.IntEnum):
@@ -85,6 +92,9 @@ _ERRNO = [
         "ENETUNREACH EMFILE ENOMEM EOPNOTSUPP EDESTADDRREQ"
     ).split()
 ]
+_EAGAIN = -8
+# The most octets that one call reads.
+_MOST = 1 << 20
 
 
 class _Handle(ctypes.Structure):
@@ -94,7 +104,7 @@ class _Handle(ctypes.Structure):
 class _Endpoint(ctypes.Structure):
     _fields_ = [("addr", ctypes.c_uint32), ("port", ctypes.c_uint16)]
 
-    def __iter__(self):
+    def __iter__(self) -> Iterator[Any]:
         return iter((str(ipaddress.IPv4Address(self.addr)), self.port))
 
 
@@ -151,26 +161,34 @@ class NoLibrary(ImportError):
     """There is no library to load. Where nothing catches it, Python says so in a line."""
 
 
-def _say(kind, error, trace, otherwise=sys.excepthook):
+def _say(kind: Any, error: Any, trace: Any, otherwise: Any = sys.excepthook) -> None:
     if kind is NoLibrary:
         print(error, file=sys.stderr)
     else:
         otherwise(kind, error, trace)
 
 
-def _load():
+def _refuse(why: str) -> NoReturn:
+    sys.excepthook = _say
+    raise NoLibrary(f"host: the library {why}") from None
+
+
+def _load() -> Any:
     """The library, with the types of its calls. PyDLL keeps the interpreter's lock in a call, so no two calls ever overlap."""
     here = os.path.dirname(os.path.abspath(__file__))
-    paths = [os.environ.get("HOST_LIBRARY"), os.path.join(here, "libhostc.so"), os.path.join(here, "out", "libhostc.so")]
-    found = [path for path in paths if path and (os.path.exists(path) or path == paths[0])]
+    named = os.environ.get("HOST_LIBRARY")
+    paths = [named, *(os.path.join(at, "libhostc.so") for at in (here, os.path.join(here, "out"), os.path.join(sys.prefix, "lib")))]
+    found = [path for path in paths if path and (os.path.exists(path) or path == named)]
     try:
         library = ctypes.PyDLL(found[0] if found else "libhostc.so")
     except OSError as error:
-        sys.excepthook = _say
-        why = f"can't be loaded: {error}" if found else "isn't there; embed/build makes it, or the variable HOST_LIBRARY names it"
-        raise NoLibrary(f"host: the library {found[0] if found else 'libhostc.so'} {why}") from None
+        if found:
+            _refuse(f"{found[0]} can't be loaded: {error}")
+        _refuse("libhostc.so isn't there; embed/build makes it, in seconds, or the variable HOST_LIBRARY names it")
     for name, arguments in _CALLS.items():
-        call = getattr(library, name)
+        call = getattr(library, name, None)
+        if call is None:
+            _refuse(f"{found[0] if found else 'libhostc.so'} has no {name}, so it is older than host.py; embed/build makes it anew")
         call.argtypes = [_HANDLE, *arguments]
         call.restype = None if name in _SILENT else ctypes.c_int64
     return library
@@ -179,23 +197,30 @@ def _load():
 _LIBRARY = _load()
 
 
-def _addr(addr):
+def _addr(addr: Address) -> int:
     return int(ipaddress.IPv4Address(addr))
 
 
-def _number(value, bits, what):
+def _number(value: int, bits: int, what: str) -> int:
     """`value`, where it is a number of so many bits: ctypes would cut it to them in silence."""
     if not 0 <= value < 1 << bits:
         raise OverflowError(f"{what} must be 0 to {(1 << bits) - 1}, not {value}")
     return value
 
 
-def _answer(number):
+def _answer(number: int) -> int:
     """What a call answered, where it isn't refused."""
     if number >= 0:
         return number
     code = _ERRNO[-number - 1]
     raise OSError(code, os.strerror(code))
+
+
+def _done(answer: Any) -> Any:
+    """What a `try_` call answered, where there was something to do."""
+    if answer is None:
+        _answer(_EAGAIN)
+    return answer
 
 
 class Host:
@@ -206,8 +231,10 @@ class Host:
     of a `with`, or when nothing names it any more.
     """
 
-    def __init__(self, mac, addr, routes, scale=True):
+    def __init__(self, mac: Union[str, bytes], addr: Address, routes: Mapping[str, Optional[Address]], scale: bool = True) -> None:
         self._handle = _Handle()
+        # What is read stands here first: it is made once, and once more for a call that asks for more octets than any before.
+        self._buffer = ctypes.create_string_buffer(FRAME_SIZE)
         if isinstance(mac, str):
             mac = bytes.fromhex(mac.replace(":", ""))
         if len(mac) != 6:
@@ -220,88 +247,117 @@ class Host:
         config = _Config(ctypes.sizeof(_Config), None, len(routes), _addr(addr), tuple(mac), not scale)
         self._call("host_new_from", bytes(config), config.size, rows, len(routes))
 
-    def _call(self, name, *arguments):
+    def _call(self, name: str, *arguments: Any) -> int:
         return _answer(getattr(_LIBRARY, name)(self._handle, *arguments))
 
-    def free(self):
+    def _try(self, name: str, *arguments: Any) -> Optional[int]:
+        """What a call answered; None where that is EAGAIN."""
+        number = getattr(_LIBRARY, name)(self._handle, *arguments)
+        return None if number == _EAGAIN else _answer(number)
+
+    def _room(self, size: int) -> int:
+        """How many octets of the buffer a call may fill that asks for so many."""
+        size = min(_number(size, 63, "a size"), _MOST)
+        if size > len(self._buffer):
+            self._buffer = ctypes.create_string_buffer(size)
+        return size
+
+    def free(self) -> None:
         """Ends the host and gives its memory back; again: nothing. Every later call raises EBADF, and `deliver` answers NO_HOST."""
         _LIBRARY.host_free(self._handle)
 
-    def __enter__(self):
+    def __enter__(self) -> Host:
         return self
 
-    def __exit__(self, *_raised):
+    def __exit__(self, *_raised: object) -> None:
         self.free()
 
-    def __del__(self):
+    def __del__(self) -> None:
         if _LIBRARY is not None and hasattr(self, "_handle"):
             self.free()
 
     # Socket calls.
 
-    def socket(self, kind=Kind.TCP):
+    def socket(self, kind: int = Kind.TCP) -> int:
         """A new socket's id."""
         return self._call("host_socket", _number(kind, 32, "a kind"))
 
-    def bind(self, id, local):
+    def bind(self, id: int, local: Tuple[Address, int]) -> None:
         """Binds a socket to a local endpoint, at our address or at "0.0.0.0", which stands for it; port 0 takes a dynamic port."""
         self._call("host_bind", _id(id), *_ends(local))
 
-    def listen(self, id, backlog=1):
+    def listen(self, id: int, backlog: int = 1) -> None:
         """Lets a bound socket take connections, of which `backlog` may wait to be accepted."""
         self._call("host_listen", _id(id), _number(backlog, 64, "a backlog"))
 
-    def accept(self, id):
+    def accept(self, id: int) -> Tuple[int, Endpoint]:
         """The id of the connection that was open first of those that wait at a listener, and its peer."""
-        peer = _Endpoint()
-        accepted = self._call("host_accept", _id(id), peer)
-        return accepted, tuple(peer)
+        return _done(self.try_accept(id))
 
-    def connect(self, now, isn, id, peer):
+    def try_accept(self, id: int) -> Optional[Tuple[int, Endpoint]]:
+        """`accept`, or None where none waits."""
+        peer = _Endpoint()
+        accepted = self._try("host_accept", _id(id), peer)
+        return None if accepted is None else (accepted, tuple(peer))
+
+    def connect(self, now: int, isn: int, id: int, peer: Tuple[Address, int]) -> None:
         """Begins to open a connection, with the initial number `isn`."""
         self._call("host_connect", _moment(now), _isn(isn), _id(id), *_ends(peer))
 
-    def send(self, id, octets):
+    def send(self, id: int, octets: Octets) -> int:
         """Gives octets to a connection: how many it took, the first that find room."""
+        return _done(self.try_send(id, octets))
+
+    def try_send(self, id: int, octets: Octets) -> Optional[int]:
+        """`send`, or None where there is no room or the connection is opening."""
         octets = bytes(octets)
-        return self._call("host_send", _id(id), octets, len(octets))
+        return self._try("host_send", _id(id), octets, len(octets))
 
-    def recv(self, id, size):
+    def recv(self, id: int, size: int) -> bytes:
         """The next octets of a connection, at most `size`; b"" is the end of the stream."""
-        buffer = ctypes.create_string_buffer(size)
-        length = self._call("host_recv", _id(id), buffer, size)
-        return buffer.raw[:length]
+        return _done(self.try_recv(id, size))
 
-    def shutdown_write(self, id):
+    def try_recv(self, id: int, size: int) -> Optional[bytes]:
+        """`recv`, or None where there is nothing to read yet."""
+        if not 0 <= size <= FRAME_SIZE:
+            size = self._room(size)
+        length = _LIBRARY.host_recv(self._handle, _id(id), self._buffer, size)
+        return None if length == _EAGAIN else ctypes.string_at(self._buffer, _answer(length))
+
+    def shutdown_write(self, id: int) -> None:
         """Closes our side of a connection, behind all octets that were given."""
         self._call("host_shutdown_write", _id(id))
 
-    def close(self, id):
+    def close(self, id: int) -> None:
         """Takes a socket away. (`free` ends the host.)"""
         self._call("host_close", _id(id))
 
-    def sendto(self, id, peer, octets):
+    def sendto(self, id: int, peer: Tuple[Address, int], octets: Octets) -> int:
         """Gives a datagram to a UDP socket: its length."""
         octets = bytes(octets)
         return self._call("host_sendto", _id(id), *_ends(peer), octets, len(octets))
 
-    def recvfrom(self, id, size=DATAGRAM_SIZE):
+    def recvfrom(self, id: int, size: int = DATAGRAM_SIZE) -> Tuple[bytes, Endpoint]:
         """The first datagram that came, cut to `size` octets, and the endpoint that it is from."""
-        buffer, source = ctypes.create_string_buffer(size), _Endpoint()
-        length = self._call("host_recvfrom", _id(id), buffer, size, source)
-        return buffer.raw[:length], tuple(source)
+        return _done(self.try_recvfrom(id, size))
 
-    def state(self, id):
+    def try_recvfrom(self, id: int, size: int = DATAGRAM_SIZE) -> Optional[Tuple[bytes, Endpoint]]:
+        """`recvfrom`, or None where none came."""
+        size, source = self._room(size), _Endpoint()
+        length = self._try("host_recvfrom", _id(id), self._buffer, size, source)
+        return None if length is None else (ctypes.string_at(self._buffer, length), tuple(source))
+
+    def state(self, id: int) -> State:
         """The State of a socket."""
         return State(self._call("host_state", _id(id)))
 
-    def sockname(self, id):
+    def sockname(self, id: int) -> Endpoint:
         """Where a socket is: our end of its connection, else where it is bound; ("0.0.0.0", 0) where it isn't."""
         end = _Endpoint()
         self._call("host_sockname", _id(id), end)
         return tuple(end)
 
-    def peername(self, id):
+    def peername(self, id: int) -> Endpoint:
         """The other end of a socket's connection, also of one that is over."""
         end = _Endpoint()
         self._call("host_peername", _id(id), end)
@@ -309,7 +365,7 @@ class Host:
 
     # Questions that change nothing.
 
-    def info(self, id):
+    def info(self, id: int) -> Info:
         """The Info of a socket's connection, in any state. `error` is the system's number of what every call raises."""
         names = [field.name for field in dataclasses.fields(Info)]
         numbers = (ctypes.c_int64 * len(names))()
@@ -322,53 +378,52 @@ class Host:
         told["error"] = _ERRNO[-told["error"] - 1] if told["error"] else None
         return Info(**{**told, "state": State(told["state"])})
 
-    def would_connect(self, id, peer):
+    def would_connect(self, id: int, peer: Tuple[Address, int]) -> Optional[Tuple[Endpoint, Endpoint]]:
         """The two endpoints of the connection that `connect` would open now, the lesser first; None where it would be refused."""
         pair = (_Endpoint * 2)()
         return tuple(map(tuple, pair)) if self._call("host_would_connect", _id(id), *_ends(peer), pair) else None
 
-    def would_open(self, frame):
+    def would_open(self, frame: Octets) -> Optional[Tuple[Endpoint, Endpoint]]:
         """The two endpoints of the connection that delivering this frame would open; None where it would open none."""
         frame, pair = bytes(frame), (_Endpoint * 2)()
         return tuple(map(tuple, pair)) if self._call("host_would_open", frame, len(frame), pair) else None
 
     # Time and frames.
 
-    def tick(self, now):
+    def tick(self, now: int) -> None:
         """Lets time pass: each timer acts whose moment has come."""
         _LIBRARY.host_tick(self._handle, _moment(now))
 
-    def next_deadline(self):
+    def next_deadline(self) -> Optional[int]:
         """The moment at which `tick` is wanted at the latest, or None. A program that takes frames until there is none, and ticks then, never sleeps
         for ever over octets that a peer to whom a route leads has not acknowledged."""
         moment = _U64()
         return moment.value if self._call("host_next_deadline", moment) else None
 
-    def deliver(self, now, isn, frame):
+    def deliver(self, now: int, isn: int, frame: Octets) -> Optional[Drop]:
         """Hands a frame that arrived to the host: None where it was taken, else the Drop. `isn` is used where it opens a connection."""
         frame = bytes(frame)
         answer = _LIBRARY.host_deliver(self._handle, _moment(now), _isn(isn), frame, len(frame))
         return None if answer == 0 else Drop(-answer)
 
-    def next_frame(self, now):
+    def next_frame(self, now: int) -> Optional[bytes]:
         """The next frame that is due, or None."""
-        out = ctypes.create_string_buffer(FRAME_SIZE)
-        length = self._call("host_next_frame", _moment(now), out)
-        return out.raw[:length] or None
+        length = _LIBRARY.host_next_frame(self._handle, _moment(now), self._buffer)
+        return ctypes.string_at(self._buffer, _answer(length)) if length else None
 
 
-def _id(id):
-    return _number(id, 64, "an id")
+def _id(id: int) -> int:
+    return id if 0 <= id < 1 << 64 else _number(id, 64, "an id")
 
 
-def _moment(now):
-    return _number(now, 64, "a moment")
+def _moment(now: int) -> int:
+    return now if 0 <= now < 1 << 64 else _number(now, 64, "a moment")
 
 
-def _isn(isn):
-    return _number(isn, 32, "an initial number")
+def _isn(isn: int) -> int:
+    return isn if 0 <= isn < 1 << 32 else _number(isn, 32, "an initial number")
 
 
-def _ends(endpoint):
+def _ends(endpoint: Tuple[Address, int]) -> Tuple[int, int]:
     addr, port = endpoint
     return _addr(addr), _number(port, 16, "a port")

@@ -13,6 +13,7 @@ mod parts;
 mod questions;
 mod setup;
 mod types;
+mod version;
 
 pub use config::Config;
 pub use handle::Handle;

@@ -1,4 +1,4 @@
-//! The Rust of `docs/EMBEDDING.md`, as it stands there. By it a client and a listener come to a connection.
+//! A client with its loop, to which `docs/EMBEDDING.md` leads. By it a client and a listener come to a connection.
 
 use super::stations::{CLIENT, ONE, SERVER, Side, Station, TWO, config};
 use clock::Moment;

@@ -1,0 +1,265 @@
+//! The host, and its calls.
+
+use crate::c;
+use crate::error::{DropCause, Error};
+use crate::{FRAME_SIZE, ROUTES};
+use core::mem::size_of;
+use core::net::{Ipv4Addr, SocketAddrV4};
+use core::ptr::null_mut;
+
+/// What a socket is of.
+#[derive(Clone, Copy, Debug, PartialEq, Eq, Hash)]
+pub enum Kind {
+    /// A stream.
+    Tcp = 1,
+    /// Datagrams.
+    Udp = 2,
+}
+
+/// The id of a socket. Ids count from 1 and are never used again.
+#[derive(Clone, Copy, Debug, PartialEq, Eq, PartialOrd, Ord, Hash)]
+pub struct SocketId(pub u64);
+
+/// The state of a socket: those of RFC 9293 section 3.3.2, and that of every UDP socket.
+#[derive(Clone, Copy, Debug, PartialEq, Eq, Hash)]
+#[allow(missing_docs)]
+pub enum State {
+    Closed,
+    Listen,
+    SynSent,
+    SynReceived,
+    Established,
+    FinWait1,
+    FinWait2,
+    CloseWait,
+    Closing,
+    LastAck,
+    TimeWait,
+    Datagram,
+}
+
+/// The states, in the order of their numbers.
+const STATES: [State; 12] = [
+    State::Closed,
+    State::Listen,
+    State::SynSent,
+    State::SynReceived,
+    State::Established,
+    State::FinWait1,
+    State::FinWait2,
+    State::CloseWait,
+    State::Closing,
+    State::LastAck,
+    State::TimeWait,
+    State::Datagram,
+];
+
+/// Both ends of a connection, the one with the lesser address first, of equal ones that with the lesser port.
+pub type Pair = [SocketAddrV4; 2];
+
+/// A route: to the addresses that share the first `length` bits of `prefix`, whose other bits are 0, by the gateway, or without one where they are on
+/// the link. The longest prefix that an address has counts.
+#[derive(Clone, Copy, Debug, PartialEq, Eq)]
+pub struct Route {
+    /// The first address.
+    pub prefix: Ipv4Addr,
+    /// How many bits the prefix has.
+    pub length: u8,
+    /// Who passes datagrams on.
+    pub gateway: Option<Ipv4Addr>,
+}
+
+/// How a host is set up.
+#[derive(Clone, Copy, Debug)]
+pub struct Config<'a> {
+    mac: [u8; 6],
+    addr: Ipv4Addr,
+    routes: &'a [Route],
+    scales: bool,
+}
+
+impl<'a> Config<'a> {
+    /// A host at `addr`, whose interface has this MAC, with these routes. It uses the window scale option (RFC 7323 section 2).
+    pub fn new(mac: [u8; 6], addr: Ipv4Addr, routes: &'a [Route]) -> Config<'a> {
+        let scales = true;
+        Config { mac, addr, routes, scales }
+    }
+
+    /// With the window scale option a connection holds 1,048,576 octets each way, and else 65,535.
+    pub fn with_scale(self, scales: bool) -> Config<'a> {
+        Config { scales, ..self }
+    }
+}
+
+/// A host on a link. It gives back what it holds when it is dropped. It may move to another thread; hosts share nothing.
+pub struct Host(c::Host);
+
+// A handle is used by one thread at a time, and it owns what it leads to.
+unsafe impl Send for Host {}
+
+impl Host {
+    /// A host with no sockets.
+    ///
+    /// EINVAL: the address isn't unicast, the MAC is one of a group, a prefix is longer than 32 bits or has bits set past its length, two routes have the
+    /// same prefix, or there are over 32. ENOMEM.
+    pub fn new(config: &Config) -> Result<Host, Error> {
+        let mut routes = [c::Route::default(); ROUTES];
+        if config.routes.len() > ROUTES {
+            return Err(Error::EINVAL);
+        }
+        for (to, from) in routes.iter_mut().zip(config.routes) {
+            to.prefix = from.prefix.into();
+            to.gateway = from.gateway.map_or(0, u32::from);
+            to.length = from.length;
+        }
+        let given = c::Config {
+            size: size_of::<c::Config>(),
+            routes: routes.as_ptr(),
+            count: config.routes.len(),
+            addr: config.addr.into(),
+            mac: config.mac,
+            no_window_scale: u8::from(!config.scales),
+            zero: [0; 5],
+        };
+        let mut host = Host(c::Host { at: null_mut() });
+        Error::check(unsafe { c::host_new_from(&mut host.0, &given, given.size, given.routes, given.count) })?;
+        Ok(host)
+    }
+
+    /// A new socket. EMFILE, ENOMEM.
+    pub fn socket(&mut self, kind: Kind) -> Result<SocketId, Error> {
+        Error::check(unsafe { c::host_socket(&mut self.0, kind as u32) }).map(SocketId)
+    }
+
+    /// Binds a socket to a local endpoint, at our address or at 0.0.0.0, which stands for it; port 0 takes a dynamic port.
+    pub fn bind(&mut self, id: SocketId, local: SocketAddrV4) -> Result<(), Error> {
+        done(unsafe { c::host_bind(&mut self.0, id.0, addr_of(local), local.port()) })
+    }
+
+    /// Lets a bound socket take connections, of which `backlog` may wait to be accepted, 1 to 8.
+    pub fn listen(&mut self, id: SocketId, backlog: usize) -> Result<(), Error> {
+        done(unsafe { c::host_listen(&mut self.0, id.0, backlog) })
+    }
+
+    /// The connection that was open first of those that wait at a listener, and its peer. EAGAIN where none waits.
+    pub fn accept(&mut self, id: SocketId) -> Result<(SocketId, SocketAddrV4), Error> {
+        let mut peer = c::Endpoint::default();
+        let accepted = Error::check(unsafe { c::host_accept(&mut self.0, id.0, &mut peer) })?;
+        Ok((SocketId(accepted), end_of(peer)))
+    }
+
+    /// Begins to open a connection, with the initial number `isn`. It is open once its state is neither SynSent nor SynReceived.
+    pub fn connect(&mut self, now: u64, isn: u32, id: SocketId, peer: SocketAddrV4) -> Result<(), Error> {
+        done(unsafe { c::host_connect(&mut self.0, now, isn, id.0, addr_of(peer), peer.port()) })
+    }
+
+    /// Gives octets to a connection: how many it took, the first that find room. EAGAIN where there is none.
+    pub fn send(&mut self, id: SocketId, octets: &[u8]) -> Result<usize, Error> {
+        count(unsafe { c::host_send(&mut self.0, id.0, octets.as_ptr(), octets.len()) })
+    }
+
+    /// The next octets of a connection, which stand at the front of `buffer` then: how many; 0 is the end of the stream. EAGAIN where there are none yet.
+    pub fn recv(&mut self, id: SocketId, buffer: &mut [u8]) -> Result<usize, Error> {
+        count(unsafe { c::host_recv(&mut self.0, id.0, buffer.as_mut_ptr(), buffer.len()) })
+    }
+
+    /// Closes our side of a connection, behind all octets that were given.
+    pub fn shutdown_write(&mut self, id: SocketId) -> Result<(), Error> {
+        done(unsafe { c::host_shutdown_write(&mut self.0, id.0) })
+    }
+
+    /// Takes a socket away. A connection with octets that nobody read is reset, and one whose peer sends more; else what was given still goes out.
+    pub fn close(&mut self, id: SocketId) -> Result<(), Error> {
+        done(unsafe { c::host_close(&mut self.0, id.0) })
+    }
+
+    /// Gives a datagram to a UDP socket: its length.
+    pub fn sendto(&mut self, id: SocketId, peer: SocketAddrV4, octets: &[u8]) -> Result<usize, Error> {
+        count(unsafe { c::host_sendto(&mut self.0, id.0, addr_of(peer), peer.port(), octets.as_ptr(), octets.len()) })
+    }
+
+    /// The first datagram that came, cut to the buffer: how many of its octets stand at the front, and where it is from. EAGAIN where none came.
+    pub fn recvfrom(&mut self, id: SocketId, buffer: &mut [u8]) -> Result<(usize, SocketAddrV4), Error> {
+        let mut from = c::Endpoint::default();
+        let len = count(unsafe { c::host_recvfrom(&mut self.0, id.0, buffer.as_mut_ptr(), buffer.len(), &mut from) })?;
+        Ok((len, end_of(from)))
+    }
+
+    /// The state of a socket.
+    pub fn state(&mut self, id: SocketId) -> Result<State, Error> {
+        let number = count(unsafe { c::host_state(&mut self.0, id.0) })?;
+        STATES.get(number).copied().ok_or(Error::EINVAL)
+    }
+
+    /// Where a socket is: our end of its connection, else where it is bound, else 0.0.0.0:0.
+    pub fn sockname(&mut self, id: SocketId) -> Result<SocketAddrV4, Error> {
+        let mut end = c::Endpoint::default();
+        done(unsafe { c::host_sockname(&mut self.0, id.0, &mut end) }).map(|()| end_of(end))
+    }
+
+    /// The other end of a socket's connection, also of one that is over. ENOTCONN where it has had none.
+    pub fn peername(&mut self, id: SocketId) -> Result<SocketAddrV4, Error> {
+        let mut end = c::Endpoint::default();
+        done(unsafe { c::host_peername(&mut self.0, id.0, &mut end) }).map(|()| end_of(end))
+    }
+
+    /// Both ends of the connection that `connect` would open now, to make an initial number from; None where it would be refused.
+    pub fn would_connect(&mut self, id: SocketId, peer: SocketAddrV4) -> Option<Pair> {
+        let mut pair = [c::Endpoint::default(); 2];
+        let answer = unsafe { c::host_would_connect(&mut self.0, id.0, addr_of(peer), peer.port(), &mut pair) };
+        (answer == 1).then(|| pair.map(end_of))
+    }
+
+    /// Both ends of the connection that delivering this frame would open; None where it would open none.
+    pub fn would_open(&mut self, frame: &[u8]) -> Option<Pair> {
+        let mut pair = [c::Endpoint::default(); 2];
+        let answer = unsafe { c::host_would_open(&mut self.0, frame.as_ptr(), frame.len(), &mut pair) };
+        (answer == 1).then(|| pair.map(end_of))
+    }
+
+    /// Lets time pass: each timer acts whose moment has come.
+    pub fn tick(&mut self, now: u64) {
+        unsafe { c::host_tick(&mut self.0, now) }
+    }
+
+    /// The moment at which `tick` is wanted at the latest.
+    pub fn next_deadline(&mut self) -> Option<u64> {
+        let mut moment = 0;
+        let is_some = unsafe { c::host_next_deadline(&mut self.0, &mut moment) } == 1;
+        is_some.then_some(moment)
+    }
+
+    /// Hands a frame that arrived to the host. `isn` is used where it opens a connection: hand in a fresh one each time.
+    pub fn deliver(&mut self, now: u64, isn: u32, frame: &[u8]) -> Result<(), DropCause> {
+        DropCause::check(unsafe { c::host_deliver(&mut self.0, now, isn, frame.as_ptr(), frame.len()) })
+    }
+
+    /// The next frame that is due, at the front of `out`.
+    pub fn next_frame<'a>(&mut self, now: u64, out: &'a mut [u8; FRAME_SIZE]) -> Option<&'a [u8]> {
+        let len = count(unsafe { c::host_next_frame(&mut self.0, now, out) }).ok()?;
+        (len > 0).then(|| &out[..len])
+    }
+}
+
+impl Drop for Host {
+    fn drop(&mut self) {
+        unsafe { c::host_free(&mut self.0) }
+    }
+}
+
+fn done(answer: i64) -> Result<(), Error> {
+    Error::check(answer).map(|_| ())
+}
+
+/// A count of octets: a usize has 64 bits wherever there is a library.
+fn count(answer: i64) -> Result<usize, Error> {
+    Error::check(answer).map(|number| number as usize)
+}
+
+fn addr_of(end: SocketAddrV4) -> u32 {
+    (*end.ip()).into()
+}
+
+fn end_of(end: c::Endpoint) -> SocketAddrV4 {
+    SocketAddrV4::new(end.addr.into(), end.port)
+}

@@ -1,0 +1,153 @@
+//! What a program sees of the crate, call by call. `examples/two_hosts.rs` has a whole conversation.
+
+use hostc::{Config, Device, DropCause, Error, Heard, Host, Kind, Ready, Route, SocketId, State, FRAME_SIZE};
+use std::net::{Ipv4Addr, SocketAddrV4};
+
+const MAC: [u8; 6] = [2, 0, 0, 0, 0, 1];
+const ADDR: Ipv4Addr = Ipv4Addr::new(10, 0, 0, 1);
+const LINK: Route = Route {
+    prefix: Ipv4Addr::new(10, 0, 0, 0),
+    length: 24,
+    gateway: None,
+};
+const PEER: SocketAddrV4 = SocketAddrV4::new(Ipv4Addr::new(10, 0, 0, 2), 80);
+
+fn host() -> Host {
+    Host::new(&Config::new(MAC, ADDR, &[LINK])).expect("there is memory")
+}
+
+#[test]
+fn the_library_has_the_version_of_the_crate() {
+    let parts: Vec<u32> = env!("CARGO_PKG_VERSION").split('.').map(|part| part.parse().expect("a number")).collect();
+    assert_eq!(hostc::version(), parts[0] << 16 | parts[1] << 8 | parts[2]);
+}
+
+#[test]
+fn what_is_no_set_up_is_refused() {
+    let made = |mac, addr, routes: &[Route]| Host::new(&Config::new(mac, addr, routes)).err();
+    assert_eq!(made(MAC, ADDR, &[LINK]), None);
+    assert_eq!(made(MAC, ADDR, &[]), None);
+    assert_eq!(made([1, 0, 0, 0, 0, 1], ADDR, &[LINK]), Some(Error::EINVAL));
+    assert_eq!(made(MAC, Ipv4Addr::BROADCAST, &[LINK]), Some(Error::EINVAL));
+    assert_eq!(made(MAC, ADDR, &[LINK, LINK]), Some(Error::EINVAL));
+    assert_eq!(made(MAC, ADDR, &[Route { length: 33, ..LINK }]), Some(Error::EINVAL));
+    let routes = |count: u8| -> Vec<Route> {
+        (0..count)
+            .map(|i| Route {
+                prefix: Ipv4Addr::new(10, 0, i, 0),
+                gateway: Some(Ipv4Addr::new(10, 0, 0, 9)),
+                ..LINK
+            })
+            .collect()
+    };
+    assert_eq!(made(MAC, ADDR, &routes(32)), None);
+    assert_eq!(made(MAC, ADDR, &routes(33)), Some(Error::EINVAL));
+}
+
+#[test]
+fn refusals_have_their_names() {
+    let mut host = host();
+    let none = SocketId(7);
+    assert_eq!(host.state(none), Err(Error::EBADF));
+    assert_eq!(host.close(none).unwrap_err().to_string(), "EBADF");
+    let stream = host.socket(Kind::Tcp).unwrap();
+    assert_eq!(stream, SocketId(1));
+    assert_eq!(host.state(stream), Ok(State::Closed));
+    assert_eq!(host.send(stream, b""), Err(Error::ENOTCONN));
+    assert_eq!(host.recv(stream, &mut []), Err(Error::EINVAL));
+    assert_eq!(host.peername(stream), Err(Error::ENOTCONN));
+    assert_eq!(host.sockname(stream), Ok(SocketAddrV4::new(Ipv4Addr::UNSPECIFIED, 0)));
+    assert_eq!(host.listen(stream, 1), Err(Error::EDESTADDRREQ));
+    let datagrams = host.socket(Kind::Udp).unwrap();
+    assert_eq!(host.state(datagrams), Ok(State::Datagram));
+    assert_eq!(host.accept(datagrams), Err(Error::EOPNOTSUPP));
+    assert_eq!(host.send(datagrams, b"x"), Err(Error::EDESTADDRREQ));
+    assert_eq!(host.sendto(datagrams, SocketAddrV4::new(Ipv4Addr::new(192, 0, 2, 1), 9), b"x"), Err(Error::ENETUNREACH));
+    assert_eq!(host.recvfrom(datagrams, &mut [0]), Err(Error::EAGAIN));
+    for _ in 2..64 {
+        host.socket(Kind::Udp).unwrap();
+    }
+    assert_eq!(host.socket(Kind::Tcp), Err(Error::EMFILE));
+}
+
+#[test]
+fn drops_have_their_causes() {
+    let mut host = host();
+    assert_eq!(host.deliver(0, 1, &[0; 13]), Err(DropCause::Short));
+    assert_eq!(host.deliver(0, 1, &[0; 60]), Err(DropCause::OtherMac));
+    let mut frame = [0; 60];
+    frame[..6].copy_from_slice(&MAC);
+    assert_eq!(host.deliver(0, 1, &frame).unwrap_err().to_string(), "OtherType");
+    assert_eq!(host.would_open(&frame), None);
+}
+
+#[test]
+fn an_opening_is_foretold() {
+    let mut host = host();
+    let id = host.socket(Kind::Tcp).unwrap();
+    let ours = SocketAddrV4::new(ADDR, 49152);
+    assert_eq!(host.would_connect(id, PEER), Some([ours, PEER]));
+    host.connect(5, 9, id, PEER).unwrap();
+    assert_eq!(host.would_connect(id, PEER), None);
+    assert_eq!(host.sockname(id), Ok(ours));
+    assert_eq!(host.peername(id), Ok(PEER));
+    assert_eq!(host.connect(5, 9, id, PEER), Err(Error::EALREADY));
+}
+
+/// A link on which one frame arrived, and that counts those that go out.
+struct Link {
+    arrived: Option<Vec<u8>>,
+    sent: Vec<usize>,
+}
+
+impl Device for Link {
+    type Error = &'static str;
+
+    fn recv(&mut self, frame: &mut [u8; FRAME_SIZE]) -> Result<Option<usize>, &'static str> {
+        let Some(arrived) = self.arrived.take() else { return Ok(None) };
+        frame[..arrived.len()].copy_from_slice(&arrived);
+        Ok(Some(arrived.len()))
+    }
+
+    fn send(&mut self, frame: &[u8]) -> Result<(), &'static str> {
+        if self.sent.len() == 1 {
+            return Err("the link is gone");
+        }
+        self.sent.push(frame.len());
+        Ok(())
+    }
+}
+
+#[test]
+fn a_turn_goes_over_a_device() {
+    let mut host = host();
+    let mut link = Link {
+        arrived: Some(vec![0; 60]),
+        sent: Vec::new(),
+    };
+    let id = host.socket(Kind::Tcp).unwrap();
+    host.connect(0, 9, id, PEER).unwrap();
+    assert_eq!(host.hear(0, &mut link, || 1), Ok(Heard { taken: 0, dropped: 1 }));
+    assert_eq!(host.speak(0, &mut link), Ok(1));
+    assert_eq!(link.sent, [60]);
+    assert_eq!(host.next_deadline(), Some(1000));
+    host.tick(1000);
+    assert_eq!(host.speak(1000, &mut link), Err("the link is gone"));
+}
+
+#[test]
+fn a_host_moves_to_another_thread() {
+    let mut host = host();
+    let id = host.socket(Kind::Tcp).unwrap();
+    let state = std::thread::spawn(move || host.state(id)).join().unwrap();
+    assert_eq!(state, Ok(State::Closed));
+}
+
+#[test]
+fn readiness_is_a_set() {
+    let ready = Ready::READ | Ready::ENDED;
+    assert!(ready.contains(Ready::READ) && !ready.contains(Ready::READ | Ready::WRITE));
+    assert!(ready.meets(Ready::READ | Ready::WRITE) && !ready.meets(Ready::ACCEPT));
+    assert!(Ready::default().is_empty() && !ready.is_empty());
+    assert_eq!(format!("{ready:?} {:?}", Ready::default()), "READ | ENDED none");
+}

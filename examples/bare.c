@@ -1,0 +1,351 @@
+/*
+ * Two hosts without a C library below them: the program brings the allocator and the four routines on memory that the library wants, its own stack, and
+ * two calls of Linux, to print a line and to end. The hosts are joined in memory: a handshake, octets both ways, a datagram and a close. It measures the
+ * stack that the calls take, and ends with status 0 where all was as it should be, and the stack no deeper than docs/PORTING.md says.
+ *
+ *     cc -std=c99 -O2 -ffreestanding -fno-stack-protector -static -nostdlib -I embed examples/bare.c embed/lib/x86_64/libhostc.a
+ *
+ * `embed/build` makes and runs it; with a compiler and qemu for it, that of embed/lib/aarch64 too.
+ */
+#include "host.h"
+
+/* ---- What stands in the place of a C library -------------------------------------------------------------------------------------------- */
+
+void *malloc(size_t size);
+void *realloc(void *block, size_t size);
+void free(void *block);
+void *memcpy(void *restrict to, const void *restrict from, size_t len);
+void *memmove(void *to, const void *from, size_t len);
+void *memset(void *to, int octet, size_t len);
+int memcmp(const void *one, const void *other, size_t len);
+
+/* Keeps a compiler from making a loop that moves octets into a call of memcpy or memset, and so into a call of itself. */
+#define STAY __asm__ volatile("" ::: "memory")
+
+void *memcpy(void *restrict to, const void *restrict from, size_t len)
+{
+    size_t i;
+
+    for (i = 0; i < len; i++) {
+        ((uint8_t *)to)[i] = ((const uint8_t *)from)[i];
+        STAY;
+    }
+    return to;
+}
+
+void *memmove(void *to, const void *from, size_t len)
+{
+    if ((uintptr_t)to - (uintptr_t)from >= len)
+        return memcpy(to, from, len);
+    while (len-- > 0) {
+        ((uint8_t *)to)[len] = ((const uint8_t *)from)[len];
+        STAY;
+    }
+    return to;
+}
+
+void *memset(void *to, int octet, size_t len)
+{
+    size_t i;
+
+    for (i = 0; i < len; i++) {
+        ((uint8_t *)to)[i] = (uint8_t)octet;
+        STAY;
+    }
+    return to;
+}
+
+int memcmp(const void *one, const void *other, size_t len)
+{
+    const uint8_t *a = one, *b = other;
+
+    for (; len > 0; len--, a++, b++)
+        if (*a != *b)
+            return *a - *b;
+    return 0;
+}
+
+/* The heap: a pile of blocks, each behind its size. What is freed is not used again, but for the block on top. Blocks are aligned to 16. */
+static uint8_t heap[3 << 20] __attribute__((aligned(16)));
+static size_t top;
+
+struct block {
+    size_t size;
+    size_t unused;
+};
+
+void *malloc(size_t size)
+{
+    struct block *block = (struct block *)(void *)&heap[top];
+    size_t whole = sizeof *block + ((size + 15) & ~(size_t)15);
+
+    if (size > sizeof heap || whole > sizeof heap - top)
+        return 0;
+    top += whole;
+    block->size = whole;
+    return block + 1;
+}
+
+void free(void *block)
+{
+    struct block *head = (struct block *)block - 1;
+
+    if (block && (uint8_t *)head + head->size == &heap[top])
+        top -= head->size;
+}
+
+void *realloc(void *block, size_t size)
+{
+    size_t had = block ? ((struct block *)block - 1)->size - sizeof(struct block) : 0;
+    void *made = malloc(size);
+
+    if (made && block)
+        memcpy(made, block, had < size ? had : size);
+    return made;
+}
+
+/* The stack, whose octets are marked so that it can be seen how deep a call went, and the program's first step, onto it. */
+#define MARK 0xa5
+static uint8_t stack[1 << 19] __attribute__((aligned(16)));
+#define STACK_END "stack+524288"
+
+int64_t run(void);
+
+#if defined __x86_64__
+__asm__(".globl _start\n"
+        "_start: lea " STACK_END "(%rip), %rsp\n"
+        "xor %ebp, %ebp\n"
+        "call run\n"
+        "mov %eax, %edi\n"
+        "mov $231, %eax\n" /* exit_group */
+        "syscall\n");
+
+static void print(const char *text, size_t len)
+{
+    int64_t number = 1; /* write */
+
+    __asm__ volatile("syscall" : "+a"(number) : "D"((int64_t)1), "S"(text), "d"(len) : "rcx", "r11", "memory");
+}
+#elif defined __aarch64__
+__asm__(".globl _start\n"
+        "_start: adrp x0, " STACK_END "\n"
+        "add x0, x0, :lo12:" STACK_END "\n"
+        "mov sp, x0\n"
+        "mov x29, xzr\n"
+        "bl run\n"
+        "mov x8, #94\n" /* exit_group */
+        "svc #0\n");
+
+static void print(const char *text, size_t len)
+{
+    register int64_t number __asm__("x8") = 64; /* write */
+    register int64_t file __asm__("x0") = 1;
+    register const char *from __asm__("x1") = text;
+    register size_t size __asm__("x2") = len;
+
+    __asm__ volatile("svc #0" : "+r"(file) : "r"(number), "r"(from), "r"(size) : "memory");
+}
+#else
+#error "the first step and the two calls of Linux of this processor are missing here"
+#endif
+
+static void say(const char *text)
+{
+    size_t len = 0;
+
+    while (text[len])
+        len++;
+    print(text, len);
+}
+
+static void say_number(size_t number)
+{
+    char digits[20];
+    size_t at = sizeof digits;
+
+    do
+        digits[--at] = (char)('0' + number % 10);
+    while ((number /= 10) > 0);
+    print(digits + at, sizeof digits - at);
+}
+
+/* Where this call stands on the stack: marks are set and looked for below it, with some room for the call itself. */
+__attribute__((noinline)) static uint8_t *here(void)
+{
+    uint8_t octet;
+    uintptr_t at = (uintptr_t)&octet;
+
+    return stack + (at - (uintptr_t)stack) - 256;
+}
+
+__attribute__((noinline)) static void mark(void)
+{
+    uint8_t *at = here();
+
+    while (at > stack) {
+        *--at = MARK;
+        STAY;
+    }
+}
+
+/* How deep the stack was since it was marked, below the place of this call. */
+__attribute__((noinline)) static size_t depth(void)
+{
+    uint8_t *at = stack;
+
+    while (*at == MARK)
+        at++;
+    return (size_t)(here() + 256 - at);
+}
+
+/* ---- Two hosts -------------------------------------------------------------------------------------------------------------------------- */
+
+/* The deepest that the making of a host may go, its end, and any other call. */
+#define MAKING_DEPTH 500000
+#define ENDING_DEPTH 130000
+#define CALL_DEPTH 6144
+
+static struct host a, b;
+static uint64_t now = 1000;
+static uint32_t isn = 100;
+
+static int moved(struct host *from, struct host *to)
+{
+    static uint8_t frame[HOST_FRAME_SIZE];
+    int64_t len;
+    int count = 0;
+
+    for (; (len = host_next_frame(from, now, frame)) > 0; count++)
+        if (host_deliver(to, now, isn++, frame, (size_t)len) != 0)
+            return 0;
+    return count;
+}
+
+static void turns(void)
+{
+    host_tick(&a, now);
+    host_tick(&b, now);
+    while (moved(&a, &b) + moved(&b, &a) > 0)
+        continue;
+    now++;
+}
+
+/* Sends octets from one end of a connection to the other, more than a segment has, and says whether they came out equal. */
+static int passes(struct host *from, uint64_t from_id, struct host *to, uint64_t to_id)
+{
+    static uint8_t sent[10000], read[10000];
+    size_t i, count = 0;
+    int64_t len;
+
+    for (i = 0; i < sizeof sent; i++)
+        sent[i] = (uint8_t)(i % 251);
+    if (host_send(from, from_id, sent, sizeof sent) != sizeof sent)
+        return 0;
+    for (turns(); (len = host_recv(to, to_id, read + count, sizeof read - count)) > 0 && count + (size_t)len < sizeof read; turns())
+        count += (size_t)len;
+    return len > 0 && count + (size_t)len == sizeof read && memcmp(sent, read, sizeof read) == 0;
+}
+
+/* The line of the first step that failed; 0 where all held. */
+static int conversation(void)
+{
+    uint64_t listener = (uint64_t)host_socket(&b, HOST_KIND_TCP);
+    uint64_t caller = (uint64_t)host_socket(&a, HOST_KIND_TCP);
+    struct host_endpoint from;
+    uint8_t octet;
+    int64_t accepted;
+
+    if (host_bind(&b, listener, HOST_ADDR_ANY, 80) != 0 || host_listen(&b, listener, 1) != 0)
+        return __LINE__;
+    if (host_connect(&a, now, isn++, caller, HOST_ADDR(10, 0, 0, 2), 80) != 0)
+        return __LINE__;
+    turns();
+    accepted = host_accept(&b, listener, &from);
+    if (accepted <= 0 || host_state(&a, caller) != HOST_STATE_ESTABLISHED)
+        return __LINE__;
+    if (!passes(&a, caller, &b, (uint64_t)accepted) || !passes(&b, (uint64_t)accepted, &a, caller))
+        return __LINE__;
+    if (host_shutdown_write(&a, caller) != 0)
+        return __LINE__;
+    turns();
+    if (host_recv(&b, (uint64_t)accepted, &octet, 1) != 0 || host_close(&b, (uint64_t)accepted) != 0)
+        return __LINE__;
+    turns();
+    if (host_recv(&a, caller, &octet, 1) != 0 || host_state(&a, caller) != HOST_STATE_TIME_WAIT)
+        return __LINE__;
+    return host_errno(host_recv(&a, caller, &octet, 0)) == -HOST_EINVAL ? 0 : __LINE__;
+}
+
+/* The same of a datagram of two fragments, from a to b. */
+static int datagram(void)
+{
+    static uint8_t sent[2000], read[2000];
+    uint64_t server = (uint64_t)host_socket(&b, HOST_KIND_UDP);
+    uint64_t client = (uint64_t)host_socket(&a, HOST_KIND_UDP);
+    struct host_endpoint from;
+
+    memset(sent, 7, sizeof sent);
+    if (host_bind(&b, server, HOST_ADDR_ANY, 9) != 0)
+        return __LINE__;
+    if (host_sendto(&a, client, HOST_ADDR(10, 0, 0, 2), 9, sent, sizeof sent) != sizeof sent)
+        return __LINE__;
+    turns();
+    if (host_recvfrom(&b, server, read, sizeof read, &from) != sizeof read || from.addr != HOST_ADDR(10, 0, 0, 1))
+        return __LINE__;
+    return memcmp(sent, read, sizeof read) == 0 ? 0 : __LINE__;
+}
+
+static int both_made(void)
+{
+    const struct host_route link = {HOST_ADDR(10, 0, 0, 0), 0, 24};
+    struct host_config config = {.size = sizeof config, .routes = &link, .count = 1, .no_window_scale = 1};
+    const uint8_t mac[6] = {2, 0, 0, 0, 0, 1};
+
+    memcpy(config.mac, mac, sizeof mac);
+    config.addr = HOST_ADDR(10, 0, 0, 1);
+    if (host_new_with(&a, &config) != 0)
+        return 0;
+    config.mac[5] = 2;
+    config.addr = HOST_ADDR(10, 0, 0, 2);
+    return host_new_with(&b, &config) == 0;
+}
+
+/* Answers the program's status. */
+int64_t run(void)
+{
+    size_t making, calls, ending, memory;
+    int failed;
+
+    mark();
+    if (!both_made()) {
+        say("bare: the hosts can't be made\n");
+        return 1;
+    }
+    making = depth();
+    memory = top / 2;
+    mark();
+    failed = conversation();
+    if (!failed)
+        failed = datagram();
+    calls = depth();
+    mark();
+    host_free(&a);
+    host_free(&b);
+    ending = depth();
+    if (failed) {
+        say("bare: line ");
+        say_number((size_t)failed);
+        say(": not so\n");
+        return 1;
+    }
+    say("bare: two hosts, a connection and octets both ways, a datagram; a host took ");
+    say_number(memory);
+    say(" octets of memory, its making ");
+    say_number(making);
+    say(" of the stack, its end ");
+    say_number(ending);
+    say(", other calls ");
+    say_number(calls);
+    say("\n");
+    return making > MAKING_DEPTH || ending > ENDING_DEPTH || calls > CALL_DEPTH;
+}
