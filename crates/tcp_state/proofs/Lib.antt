@@ -17,6 +17,7 @@ pub mod Positions
 pub mod Resets
 pub mod Windows
 pub mod Overstated
+pub mod FirstWindow
 pub mod Onward
 pub mod Waiting
 pub mod Placing

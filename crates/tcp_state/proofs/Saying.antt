@@ -73,7 +73,7 @@ syn_told v w edge same is =
     ap (λ n. min n 65535) (syn_edge_kept v.receiving ∙ ap (λ n. past n v.receiving.rnext) (sym (is ∙ ap (λ (r : Receiving). (after_syn_advertisement r).edge) same)))
 
 -- the window of a SYN alone: nothing was advertised or read yet
-first_told : (r : Receiving) → r.rnext < 2 ^ 32 → receive_window r ≡ 0 → length r.readable ≡ 0 → 1460 ≤ r.size → min (receive_window (after_syn_advertisement r)) 65535 ≡ min r.size 65535
+pub first_told : (r : Receiving) → r.rnext < 2 ^ 32 → receive_window r ≡ 0 → length r.readable ≡ 0 → 1460 ≤ r.size → min (receive_window (after_syn_advertisement r)) 65535 ≡ min r.size 65535
 first_told r small shut empty wide =
     let has : nat_le (receive_window r + 1460) (syn_window r) ≡ true = le-leb (receive_window r + 1460) (syn_window r) (omega (arith, shut, empty, wide)) in
     ap (λ b. let t = if b then record r { edge = (r.rnext + syn_window r) % 2 ^ 32 } else r in min (receive_window t) 65535) has ∙ omega (arith, small, empty)
@@ -87,7 +87,7 @@ not_false : (b : Bool) → not b ≡ false → b ≡ true
 not_false true e = refl
 not_false false e = cc
 
-shut_at_first : (size : ℕ) (t : State) (window readable : ℕ) → t ≡ SynSent → (is_syn_sent t && not (window == 0)) ≡ false → readable ≤ (if is_opening t then 0 else size) → (window ≡ 0) × (readable ≡ 0)
+pub shut_at_first : (size : ℕ) (t : State) (window readable : ℕ) → t ≡ SynSent → (is_syn_sent t && not (window == 0)) ≡ false → readable ≤ (if is_opening t then 0 else size) → (window ≡ 0) × (readable ≡ 0)
 shut_at_first size SynSent window readable e unheard few = (elim (eqb_tells window 0) [ inl t ↦ t.1 | inr t ↦ clash (window == 0) (not_false (window == 0) unheard) t.0 ], omega (arith, few))
 shut_at_first size _ window readable e unheard few = cc
 

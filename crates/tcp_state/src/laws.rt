@@ -431,12 +431,14 @@ pub fn windows_are_advertised_in_whole_steps()
 {}
 
 /// No window is overstated (RFC 7323 sections 2.2 and 2.3): what a peer makes of the field of a segment without SYN, by our unit, ends where the right edge is that the connection keeps from then on, or less than a unit before it;
-/// and the window of a SYN-ACK, which is in octets, ends at that edge or before it.
+/// the window of a SYN-ACK, which is in octets, ends at that edge or before it; and that of our SYN, told before the peer's numbers are known, ends at the edge that is kept once they are.
 pub fn no_window_is_overstated()
     ensures units { (v : View) (due : Due) (now : Moment) (peer : Sending) → IsSound v → (let f = flags_of v due in f.ack) ≡ true → (let f = flags_of v due in f.syn) ≡ false → peer.unit ≡ v.receiving.unit
         → (window_in peer (window_of v due) ≤ receive_window (after_emitted v due now).receiving) × (receive_window (after_emitted v due now).receiving < window_in peer (window_of v due) + peer.unit) }
     ensures octets { (v : View) (due : Due) (now : Moment) → (let f = flags_of v due in f.ack) ≡ true → (let f = flags_of v due in f.syn) ≡ true
         → window_of v due ≤ receive_window (after_emitted v due now).receiving }
+    ensures first { (v : View) (s : Segment) (now : Moment) → IsSound v → v.state ≡ State.SynSent → v.sending.nxt ≢ v.sending.una → TakesSyn v s now
+        → receive_window (after_event v (Event.Hears s now)).receiving ≡ window_of v Due.Syn }
 {}
 
 /// What a peer sends within any window that it was ever told is acceptable, where some of it is new, also when a later segment told less of it by rounding (RFC 7323 section 2.4): it lies before the right edge, and no event takes that
