@@ -1,5 +1,6 @@
--- Which device a fault tells of.
-use Rattle.std.specs.Prelude.{Bool, true, false, Result, Ok, Err, ⊤}
+-- Which device a fault tells of, and which want of memory.
+use Rattle.std.specs.Prelude.{◌≡◌, ◌≢◌, Bool, true, false, Result, Ok, Err, ⊤}
+use Rattle.sockets.specs.declared.refusal.Refusal.TheVariants.{ENOMEM}
 use Rattle.copier.specs.declared.fault.CopyFault.{CopyFault}
 use Rattle.copier.specs.declared.fault.CopyFault.TheVariants.{Read, Write, Link, Host, NoMemory, Stalled}
 
@@ -33,29 +34,47 @@ link_fails (Err NoMemory) = false
 link_fails (Err Stalled) = false
 link_fails (Ok value) = false
 
--- no device failed
+-- memory was refused
+abbrev pub WantsMemory : CopyFault → Type 0
+WantsMemory (Host refusal) = refusal ≡ ENOMEM
+WantsMemory NoMemory = ⊤
+WantsMemory Read = ⊥
+WantsMemory Write = ⊥
+WantsMemory Link = ⊥
+WantsMemory Stalled = ⊥
+
+-- a host refused what makes a copy, which may want memory
+abbrev pub IsOfBeginning : CopyFault → Type 0
+IsOfBeginning Read = ⊥
+IsOfBeginning Write = ⊥
+IsOfBeginning Link = ⊥
+IsOfBeginning (Host refusal) = ⊤
+IsOfBeginning NoMemory = ⊥
+IsOfBeginning Stalled = ⊥
+
+-- no device failed, and no memory was refused
 abbrev pub IsOfHosts : CopyFault → Type 0
 IsOfHosts Read = ⊥
 IsOfHosts Write = ⊥
 IsOfHosts Link = ⊥
-IsOfHosts (Host refusal) = ⊤
-IsOfHosts NoMemory = ⊤
+IsOfHosts (Host refusal) = refusal ≢ ENOMEM
+IsOfHosts NoMemory = ⊥
 IsOfHosts Stalled = ⊤
 
--- neither the sink nor the link failed
+-- neither the sink nor the link failed, and no memory was refused
 abbrev pub IsOfSource : CopyFault → Type 0
 IsOfSource Read = ⊤
 IsOfSource Write = ⊥
 IsOfSource Link = ⊥
-IsOfSource (Host refusal) = ⊤
-IsOfSource NoMemory = ⊤
+IsOfSource (Host refusal) = refusal ≢ ENOMEM
+IsOfSource NoMemory = ⊥
 IsOfSource Stalled = ⊤
 
--- neither the source nor the link failed
+-- neither the source nor the link failed, and no memory was refused
 abbrev pub IsOfSink : CopyFault → Type 0
 IsOfSink Read = ⊥
 IsOfSink Write = ⊤
 IsOfSink Link = ⊥
-IsOfSink (Host refusal) = ⊤
-IsOfSink NoMemory = ⊤
+IsOfSink (Host refusal) = refusal ≢ ENOMEM
+IsOfSink NoMemory = ⊥
 IsOfSink Stalled = ⊤

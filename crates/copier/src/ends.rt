@@ -3,7 +3,7 @@
 ghost use Rattle.std.specs.Prelude.{◌≡◌, ◌≤◌, ◌+◌, ◌<◌, ◌^◌, true, false, [], length, take, min, None, Some, Ok, is_some, IfOk, IfErr, OnOk, OnErr, IfSome, IfNone};
 ghost use Rattle.devices.specs.Streams.{counted};
 ghost use Rattle.devices.specs.Time.{IsToldTime};
-ghost use Rattle.copier.specs.Faults.{link_fails, IsOfHosts};
+ghost use Rattle.copier.specs.Faults.{link_fails, IsOfBeginning, IsOfHosts};
 ghost use Rattle.copier.specs.Moves.{copy_of, host_of, with_host, GoesOn, Emits, Hears, Writes, Closes, Reads, GivesFront, KeepsTold, Carries, Passes};
 ghost use Rattle.copy_law.specs.Course.{IsCourse, holds_pair_of, MakesSocket, Listens, Connects, clock_after};
 ghost use Rattle.host.specs.Sound.{IsSoundHost};
@@ -79,7 +79,7 @@ impl Ends {
     /// Two hosts that have heard nothing of each other. b listens, and a opens a connection.
     pub(crate) fn new(alloc: Global) -> Result<Ends, CopyFault>
         ensures course { IfOk result (λ ends. IsCourse (copy_of ends [] [] [] false false)) }
-        ensures fault { IfErr result IsOfHosts }
+        ensures fault { IfErr result IsOfBeginning }
     {
         let mut a = host(alloc, Side::A)?;
         let mut b = host(alloc, Side::B)?;
@@ -385,7 +385,7 @@ fn later(clock: Moment, moment: Moment) -> Moment
 /// The host of a side.
 fn host(alloc: Global, side: Side) -> Result<Host, CopyFault>
     ensures host { IfOk result (λ host. (config : _) × IsSetUp true side config × (host ≡ new_host config)) }
-    ensures fault { IfErr result IsOfHosts }
+    ensures fault { IfErr result IsOfBeginning }
 {
     match Host::new(alloc, config(side)) {
         Ok(host) => Ok(host),
@@ -406,7 +406,7 @@ fn peer() -> Endpoint
 /// b listens with a socket of its own.
 fn listen(b: &mut Host) -> Result<SocketId, CopyFault>
     ensures listens { IfOk result (λ id. (made : HostView) × MakesSocket b.old id made × Listens made id b.new) }
-    ensures fault { IfErr result IsOfHosts }
+    ensures fault { IfErr result IsOfBeginning }
 {
     b.sound();
     let id = b.socket(Kind::Tcp).map_err(CopyFault::Host)?;
@@ -420,7 +420,7 @@ fn listen(b: &mut Host) -> Result<SocketId, CopyFault>
 /// a opens a connection with a socket of its own.
 fn connect(a: &mut Host) -> Result<SocketId, CopyFault>
     ensures connects { IfOk result (λ id. (made : HostView) × MakesSocket a.old id made × Connects made id a.new) }
-    ensures fault { IfErr result IsOfHosts }
+    ensures fault { IfErr result IsOfBeginning }
 {
     a.sound();
     let id = a.socket(Kind::Tcp).map_err(CopyFault::Host)?;

@@ -3,7 +3,7 @@
 ghost use Rattle.std.specs.Prelude.{◌≡◌, ◌+◌, ◌≤◌, ◌<◌, [], true, false, length, Some, is_some, IfOk, IfErr, OnOk, OnErr};
 ghost use Rattle.std.specs.Io.KnownBytes.{Appends, Keeps};
 ghost use Rattle.devices.specs.Streams.{counted, TakesFront};
-ghost use Rattle.copier.specs.Faults.{read_fails, write_fails, link_fails, IsOfHosts, IsOfSink};
+ghost use Rattle.copier.specs.Faults.{read_fails, write_fails, link_fails, IsOfBeginning, IsOfSink, WantsMemory};
 ghost use Rattle.copier.specs.Moves.{copy_of, KeepsTold};
 ghost use Rattle.copier.specs.Feeding.{pending};
 ghost use Rattle.copier.specs.Copying.{Copies, Turns, DrainsTo, LeavesDrained, is_end};
@@ -26,7 +26,8 @@ const MOST_WRITTEN: usize = 4_096;
 /// is before a turn's frames go into it.
 ///
 /// Read, Write or Link where that device fails; Host where a host refuses a call; Stalled where `turns` are used up, or nothing moves and
-/// neither host waits for a moment. What was written then begins what was read.
+/// neither host waits for a moment. What was written then begins what was read. Memory is wanted before the first turn alone: where it is
+/// refused, source, sink and link are as they were.
 pub fn copy<R: Source, W: Sink, L: Link>(
     alloc: Global,
     src: &mut R,
@@ -38,6 +39,7 @@ pub fn copy<R: Source, W: Sink, L: Link>(
     ensures written { W.failures dst.new ≡ counted (write_fails result) (W.failures dst.old) }
     ensures carried { L.failures link.new ≡ counted (link_fails result) (L.failures link.old) }
     ensures flushed { OnOk result (W.is_flushed dst.new ≡ true) }
+    ensures memory { IfErr result (λ fault. WantsMemory fault → (src.new ≡ src.old) × (dst.new ≡ dst.old) × (link.new ≡ link.old)) }
     ensures leads { L.leads_to link.old link.new }
     ensures copies { Copies result (R.given src.old) (R.given src.new) (R.remaining src.new) (W.taken dst.old) (W.taken dst.new) (L.told link.old) (L.told link.new) }
 {
@@ -75,7 +77,7 @@ impl Copier {
     fn new(alloc: Global) -> Result<Copier, CopyFault>
         ensures course { IfOk result (λ copier. IsCourse (copy_of copier.ends [] [] [] false false)) }
         ensures empty { IfOk result (λ copier. (pending copier.feed ≡ []) × (copier.feed.at_end ≡ false) × (copier.feed.closed ≡ false) × (copier.written ≡ 0)) }
-        ensures fault { IfErr result IsOfHosts }
+        ensures fault { IfErr result IsOfBeginning }
     {
         Ok(Copier {
             ends: Ends::new(alloc)?,
@@ -94,6 +96,7 @@ impl Copier {
         ensures read { R.failures src.new ≡ counted (read_fails result) (R.failures src.old) }
         ensures written { W.failures dst.new ≡ counted (write_fails result) (W.failures dst.old) }
         ensures carried { L.failures link.new ≡ counted (link_fails result) (L.failures link.old) }
+        ensures memory { IfErr result (λ fault. ¬ WantsMemory fault) }
         ensures told { KeepsTold (L.told link.old) (L.told link.new) }
         ensures leads { L.leads_to link.old link.new }
         ensures flushed { IfOk result (λ ended. is_some ended ≡ true → W.is_flushed dst.new ≡ true) }

@@ -1,6 +1,6 @@
 //! The making of a host, and its end.
 
-ghost use Rattle.std.specs.Prelude.{◌≡◌, ◌⊎◌, ◌↔◌, true, None, IfOk, IfErr, IsOk};
+ghost use Rattle.std.specs.Prelude.{◌≡◌, ◌⊎◌, ◌↔◌, true, None, Ok, Err, IfOk, IfErr, IsOk, MatchResult};
 ghost use Rattle.hostc.specs.Setup.{IsNew, IsTold, IsValidSetup, IsValidTable, Setup, SetupBy};
 
 use crate::config::Config;
@@ -11,7 +11,7 @@ use ether::Mac;
 use host::{Host, Refusal};
 use ipv4::Prefix;
 use routes::Routes;
-use std::alloc::Global;
+use std::alloc::{AllocFailed, Global};
 
 /// Makes a host with this MAC, address and routes, which uses the window scale option (RFC 7323 section 2), and has the handle hold it. Answers 0.
 ///
@@ -86,7 +86,14 @@ fn made(alloc: Global, config: Config, routes: &[HostRoute]) -> Result<Box<Host>
     let table = table(routes)?;
     let set = host::Config::new(config.mac, addr_of(config.addr), table)?.with_scale(config.scales);
     let host = Host::new(alloc, set)?;
-    Box::new(alloc, host).map_err(|_| Refusal::ENOMEM)
+    in_box(Box::new(alloc, host))
+}
+
+/// The host in its box. ENOMEM exactly where memory was refused that.
+fn in_box(given: Result<Box<Host>, AllocFailed<Host>>) -> Result<Box<Host>, Refusal>
+    ensures { MatchResult given (λ host. result ≡ Ok host) (λ refused. result ≡ Err Refusal.ENOMEM) }
+{
+    given.map_err(|_| Refusal::ENOMEM)
 }
 
 /// The table of these routes. EINVAL where they make none: where there are over 32 of them none is read.
