@@ -1,6 +1,7 @@
 /*
- * Two hosts in one program, joined in memory: a handshake, octets both ways, a datagram there and back, and a close; once with the window
- * scale option, and once without. It checks what it reads, and ends with status 0 where all of it was as it should be. `embed/build` makes it.
+ * Two hosts in one program, joined in memory: a handshake, octets both ways, a transfer of which a frame is lost, a datagram there and back, and
+ * a close; once with the window scale option, and once without. It checks what it reads, and ends with status 0 where all of it was as it should
+ * be. `embed/build` makes it.
  */
 #include "host.h"
 
@@ -61,6 +62,44 @@ static void say(struct host *from, uint64_t from_id, struct host *to, uint64_t t
     CHECK(memcmp(buffer, text, (size_t)len) == 0);
 }
 
+/* Lets time pass until the earlier deadline of the hosts. As long as octets wait to be acknowledged there is one, or a frame goes out. */
+static void wait_for_deadline(void)
+{
+    uint64_t moment, other;
+
+    if (host_next_deadline(&a, &moment) == 0)
+        CHECK(host_next_deadline(&b, &moment) == 1);
+    else if (host_next_deadline(&b, &other) == 1 && other < moment)
+        moment = other;
+    CHECK(moment > now);
+    now = moment;
+    host_tick(&a, now);
+    host_tick(&b, now);
+}
+
+/* Gives a connection 20,000 octets, of whose frames the first is lost, and reads them at its other end. Time goes by the deadlines alone. */
+static void transfer_with_loss(struct host *from, uint64_t from_id, struct host *to, uint64_t to_id)
+{
+    static uint8_t octets[20000], buffer[20000];
+    uint8_t lost[HOST_FRAME_SIZE];
+    const uint64_t before = now;
+    size_t i, read = 0;
+
+    for (i = 0; i < sizeof octets; i++)
+        octets[i] = (uint8_t)(i % 251);
+    CHECK(host_send(from, from_id, octets, sizeof octets) == sizeof octets);
+    CHECK(host_next_frame(from, now, lost) == HOST_FRAME_SIZE);
+    while (read < sizeof octets) {
+        int64_t len = host_recv(to, to_id, buffer + read, sizeof buffer - read);
+        if (len > 0)
+            read += (size_t)len;
+        else if (carry(from, to) + carry(to, from) == 0)
+            wait_for_deadline();
+    }
+    CHECK(memcmp(buffer, octets, sizeof octets) == 0 && now >= before + 1000); /* the timeout is a second at least */
+    turns();
+}
+
 /* Gives a connection more octets than it has room for, and reads those at its other end that it took. */
 static void fill(struct host *from, uint64_t from_id, struct host *to, uint64_t to_id, int64_t room)
 {
@@ -109,6 +148,7 @@ static void connection(int64_t room)
     CHECK(host_accept(&b, listener, &from) == HOST_EAGAIN);
     say(&a, caller, &b, (uint64_t)accepted, "hello");
     say(&b, (uint64_t)accepted, &a, caller, "welcome");
+    transfer_with_loss(&a, caller, &b, (uint64_t)accepted);
     fill(&a, caller, &b, (uint64_t)accepted, room);
     CHECK(host_info(&a, caller, &info) == 0 && info.state == HOST_STATE_ESTABLISHED && info.held == info.in_flight + info.unsent);
     CHECK(info.smss == 1460 && info.rto >= 1000 && info.ends == -1 && info.error == 0);
@@ -199,6 +239,6 @@ int main(void)
     }
     host_free(&b);
     CHECK(a.at == NULL && b.at == NULL && host_socket(&a, HOST_KIND_TCP) == HOST_EBADF);
-    puts("two hosts: a connection, octets both ways, datagrams and a close; with the window scale option, and without");
+    puts("two hosts: a connection, octets both ways, a lost frame, datagrams and a close; with the window scale option, and without");
     return 0;
 }
