@@ -96,6 +96,12 @@ struct reading read_frame(const uint8_t *octets, size_t len)
     return reading;
 }
 
+size_t options_len(const uint8_t *octets, size_t len)
+{
+    const size_t head = len < 34 || read16(octets + 12) != 0x0800 ? 20 : (size_t)(octets[14] & 15) * 4;
+    return head <= 20 ? 0 : head - 20;
+}
+
 static bool is_zero(const uint8_t *octets, size_t len)
 {
     for (size_t i = 0; i < len; i++) {

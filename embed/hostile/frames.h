@@ -32,6 +32,9 @@ void write32(uint8_t *at, uint32_t value);
 
 struct reading read_frame(const uint8_t *octets, size_t len);
 
+/* How many octets the options of its datagram have (RFC 791 section 3.1). */
+size_t options_len(const uint8_t *octets, size_t len);
+
 /* Why a frame that a host with this MAC and address sent isn't well formed; NULL where it is. It may go to the MAC of a group where it is an ARP request,
    which is for all, or where a neighbour claimed that MAC as its own: the host believes whoever speaks (RFC 826). */
 const char *fault_of(const uint8_t *octets, size_t len, const uint8_t mac[6], uint32_t addr, bool is_claimed);

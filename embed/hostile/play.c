@@ -3,7 +3,8 @@
    - A twin gets the same calls and frames, but those that the host refused or dropped: both answer and emit the same, to the octet. (An ARP request that
      finds no room for its reply is learnt and dropped, so the twin gets it too.)
    - Each frame that goes out is well formed; none goes to all but an ARP request; no reset answers a reset, and no error an error.
-   - A host without a socket sends at most one frame for one that came, with at most 7/6 of its octets, and beside it an ARP request a second for 3,000 ms.
+   - A host without a socket sends at most one frame for one that came, with at most 7/6 of its octets and the options of its datagram once more, which an
+     error quotes, and beside it an ARP request a second for 3,000 ms.
    - A connection to a third host that no forged frame speaks for carries its octets unharmed.
    - No call takes memory but host_new, host_socket and a host_deliver that opens a connection, and host_free gives all of it back. */
 #include "../memory/refuse.h"
@@ -336,11 +337,11 @@ static bool speaks_for_third(const struct frame *frame)
 
 /* ---- The host without a socket ------------------------------------------------------------------------------------------------------------ */
 
-static uint64_t bare_came, bare_went, bare_octets;   /* seven for each octet that came, less six for each that went */
+static uint64_t bare_came, bare_went, bare_octets;   /* what may still go out, six for each octet */
 
-static uint64_t room_of(size_t len)
+static uint64_t room_of(const uint8_t *octets, size_t len)
 {
-    return 7 * (uint64_t)(len < 60 ? 60 : len);
+    return 7 * (uint64_t)(len < 60 ? 60 : len) + 6 * (uint64_t)options_len(octets, len);
 }
 
 /* Takes what is due at the host without a socket: how many frames that are no ARP requests, whose octets it adds. */
@@ -370,7 +371,7 @@ static void bare_hears(const uint8_t *octets, size_t len)
     const int64_t answer = deliver(BARE, now, octets, len);
     if (answer == 0) {
         bare_came++;
-        bare_octets += room_of(len);
+        bare_octets += room_of(octets, len);
     }
     bare_went += bare_drain(NULL, &out, &requests);
     want(bare_went <= bare_came, "without a socket more frames go out than came");
@@ -413,7 +414,7 @@ static void bare_alone(const struct frame *frame)
         want(requests - before <= 1, "two ARP requests at once");
     }
     want(count <= 1, "without a socket two frames go out for one");
-    want(6 * octets <= room_of(frame->len), "without a socket more than 7/6 of the octets go out");
+    want(6 * octets <= room_of(frame->octets, frame->len), "without a socket more octets go out for one frame than may");
     /* The hop is asked for when the answer is there, and a second and two later. */
     want(requests <= 3, "without a socket a hop is asked for more often than a second apart for 3,000 ms");
     host_free(&hosts[BARE]);
