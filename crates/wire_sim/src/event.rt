@@ -65,6 +65,10 @@ pub enum Call {
     Close {
         id: SocketId,
     },
+    /// Aborts a socket.
+    Abort {
+        id: SocketId,
+    },
     /// Asks for a socket's state.
     State {
         id: SocketId,

@@ -1,7 +1,8 @@
 -- What a call makes of a table that keeps to what was accepted.
 use Rattle.std.proofs.Common.{◌≡◌, inl, inr, Bool, List, [], ◌++◌, length, append-nil, refl, sym, subst}
 use Rattle.ipv4.specs.declared.addr.Addr.{Addr}
-use Rattle.sockets.specs.Calls.{unless_refused, bind_refusal, after_bind, listen_refusal, after_listen, accept_answer, after_accept, connect_refusal, after_connect, send_answer, after_send, after_recv, shutdown_refusal, after_shutdown, close_refusal, after_close, state_answer, sockname_answer, peername_answer}
+use Rattle.sockets.specs.declared.role.Leave.TheVariants.{Close, Abort}
+use Rattle.sockets.specs.Calls.{unless_refused, bind_refusal, after_bind, listen_refusal, after_listen, accept_answer, after_accept, connect_refusal, after_connect, send_answer, after_send, after_recv, shutdown_refusal, after_shutdown, close_refusal, after_close, after_abort, state_answer, sockname_answer, peername_answer}
 use Rattle.sockets.specs.Datagrams.{sendto_answer, after_sendto, recvfrom_answer, after_recvfrom}
 use Rattle.sockets.specs.SocketsView.{SocketsView}
 use Rattle.datagram_law.specs.Accepted.{Accepted}
@@ -15,7 +16,7 @@ use Rattle.wire_sim.specs.Steps.{MeetsCall, recv_len}
 use Rattle.wire_sim.proofs.tables.CallsOnTable.{outcome}
 use Rattle.wire_sim.proofs.pairing.CallsAreMoves.{socket_outcome, recv_outcome, recvfrom_outcome}
 use Rattle.wire_sim.proofs.datagrams.TablesKeepToAccepted.{IsTableOf}
-use Rattle.wire_sim.proofs.datagrams.TablesOfCalls.{kept-made, kept-bind, kept-listen, kept-accept, kept-connect, kept-send, kept-recv, kept-shutdown, kept-close}
+use Rattle.wire_sim.proofs.datagrams.TablesOfCalls.{kept-made, kept-bind, kept-listen, kept-accept, kept-connect, kept-send, kept-recv, kept-shutdown, kept-leaving}
 use Rattle.wire_sim.proofs.datagrams.TablesOfDatagrams.{kept-sendto, kept-recvfrom}
 
 -- the table keeps to what was accepted with the call
@@ -88,7 +89,12 @@ call-kept own other routed (call.Shutdown id) old new answer width numbered m t 
     ]
 call-kept own other routed (call.Close id) old new answer width numbered m t =
     elim (outcome (unless_refused (close_refusal old id) (tt {0})) (λ _. reply.Done) (after_close old id) old answer new m) [
-      | inl x ↦ unadded own other (after_close old id) new (kept-close own other old id t) x.3
+      | inl x ↦ unadded own other (after_close old id) new (kept-leaving own other old Close id t) x.3
+      | inr x ↦ unadded own other old new t x.3
+    ]
+call-kept own other routed (call.Abort id) old new answer width numbered m t =
+    elim (outcome (unless_refused (close_refusal old id) (tt {0})) (λ _. reply.Done) (after_abort old id) old answer new m) [
+      | inl x ↦ unadded own other (after_abort old id) new (kept-leaving own other old Abort id t) x.3
       | inr x ↦ unadded own other old new t x.3
     ]
 call-kept own other routed (call.State id) old new answer width numbered m t =

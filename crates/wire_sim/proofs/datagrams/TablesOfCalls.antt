@@ -12,10 +12,11 @@ use Rattle.sockets.specs.declared.entry.Kind.TheVariants.{Tcp, Udp}
 use Rattle.sockets.specs.declared.entry.SocketId.{SocketId}
 use Rattle.sockets.specs.declared.refusal.Refusal.{Refusal}
 use Rattle.sockets.specs.declared.refusal.Refusal.TheVariants.{EINVAL, EADDRINUSE, EADDRNOTAVAIL}
+use Rattle.sockets.specs.declared.role.Leave.{Leave}
 use Rattle.sockets.specs.declared.role.Role.{Role}
 use Rattle.sockets.specs.declared.role.Role.TheVariants.{Idle, Listener, Connected, Datagrams}
-use Rattle.sockets.specs.Calls.{of_socket, bound_of, last_port_after, IsMade, any_addr, free_port, port_at, port_bound, last_port_bound, after_bind, after_listen, is_next_at, after_accept, port_connected, after_connect, after_send, after_recv, after_shutdown, after_socket_closed, after_close}
-use Rattle.sockets.specs.Entries.{is_socket, new_socket as new_entry, new_datagram_socket, with_role, role_after_bind, role_after_listen, role_after_connect, role_after_accept, role_after_close, role_after_listener_close, listener_close_fate_of, close_fate_of, entries_after_step}
+use Rattle.sockets.specs.Calls.{of_socket, bound_of, last_port_after, IsMade, any_addr, free_port, port_at, port_bound, last_port_bound, after_bind, after_listen, is_next_at, after_accept, port_connected, after_connect, after_send, after_recv, after_shutdown, after_socket_left, after_leaving}
+use Rattle.sockets.specs.Entries.{is_socket, new_socket as new_entry, new_datagram_socket, with_role, role_after_bind, role_after_listen, role_after_connect, role_after_accept, role_after_leaving, role_after_listener_close, listener_close_fate_of, leaving_fate_of, entries_after_step}
 use Rattle.sockets.specs.Lists.{change_first}
 use Rattle.sockets.specs.Ports.{first_port, is_free_datagram_port}
 use Rattle.sockets.specs.SocketsView.{SocketsView, new_sockets, role_of, with_socket, room_of}
@@ -159,29 +160,29 @@ kept-bind own other h id local width t = by_port (port_bound h id local) refl
         record { numbered = t.numbered; in_turn = t.in_turn; sockets = by_entry port is (find (is_socket id) h.entries) refl } in
         subst (IsTableOf own other) (sym same) there
 
--- A socket is closed.
+-- A socket is left.
 
-kept-socket_closed : (own other : List Accepted) (h : SocketsView) (id : SocketId) → IsTableOf own other h → IsTableOf own other (after_socket_closed h id)
-kept-socket_closed own other h id t = by_role (role_of h id)
+kept-socket_left : (own other : List Accepted) (h : SocketsView) (how : Leave) (id : SocketId) → IsTableOf own other h → IsTableOf own other (after_socket_left h how id)
+kept-socket_left own other h how id t = by_role (role_of h id)
   where
-    closed : Role → SocketsView
-    closed role = record h { entries = entries_after_step (close_fate_of role) (is_socket id) (role_after_close h.kept) h.entries }
+    left : Role → SocketsView
+    left role = record h { entries = entries_after_step (leaving_fate_of how h.kept role) (is_socket id) (role_after_leaving how h.kept) h.entries }
 
-    by_role : (o : Option Role) → IsTableOf own other (of_socket h closed o)
+    by_role : (o : Option Role) → IsTableOf own other (of_socket h left o)
     by_role None = t
     by_role (Some role) = record {
       numbered = t.numbered;
       in_turn = t.in_turn;
-      sockets = are-settled own other h.addr (close_fate_of role) (role_after_close h.kept) (keeps-connection _) (is_socket id) h.entries t.sockets;
+      sockets = are-settled own other h.addr (leaving_fate_of how h.kept role) (role_after_leaving how h.kept) (keeps-connection _) (is_socket id) h.entries t.sockets;
     }
 
-pub kept-close : (own other : List Accepted) (h : SocketsView) (id : SocketId) → IsTableOf own other h → IsTableOf own other (after_close h id)
-kept-close own other h id t =
-    let closed : SocketsView = after_socket_closed h id in
-    let there : IsTableOf own other closed = kept-socket_closed own other h id t in
+pub kept-leaving : (own other : List Accepted) (h : SocketsView) (how : Leave) (id : SocketId) → IsTableOf own other h → IsTableOf own other (after_leaving h how id)
+kept-leaving own other h how id t =
+    let alone : SocketsView = after_socket_left h how id in
+    let there : IsTableOf own other alone = kept-socket_left own other h how id t in
     record {
       numbered = there.numbered;
       in_turn = there.in_turn;
       sockets =
-          are-stepped own other closed.addr (listener_close_fate_of id) (role_after_listener_close h.kept id) (keeps-forsaking h.kept id) closed.entries there.sockets;
+          are-stepped own other alone.addr (listener_close_fate_of id) (role_after_listener_close h.kept id) (keeps-forsaking h.kept id) alone.entries there.sockets;
     }

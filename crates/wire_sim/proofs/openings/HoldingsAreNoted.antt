@@ -16,12 +16,14 @@ use Rattle.sockets.specs.declared.entry.Kind.TheVariants.{Tcp, Udp}
 use Rattle.sockets.specs.declared.entry.SocketId.{SocketId}
 use Rattle.sockets.specs.declared.entry.Entry.{Entry}
 use Rattle.sockets.specs.declared.role.Role.TheVariants.{Idle, Connected, Datagrams}
-use Rattle.sockets.specs.Calls.{unless_refused, IsMade, after_socket, after_datagram_socket, port_bound, bind_refusal, after_bind, listen_refusal, after_listen, is_next_at, accept_answer, after_accept, connect_refusal, after_connect, send_answer, after_send, after_recv, shutdown_refusal, after_shutdown, close_refusal, after_close, after_socket_closed, state_answer, sockname_answer, peername_answer}
+use Rattle.sockets.specs.declared.role.Leave.{Leave}
+use Rattle.sockets.specs.declared.role.Leave.TheVariants.{Close, Abort}
+use Rattle.sockets.specs.Calls.{unless_refused, IsMade, after_socket, after_datagram_socket, port_bound, bind_refusal, after_bind, listen_refusal, after_listen, is_next_at, accept_answer, after_accept, connect_refusal, after_connect, send_answer, after_send, after_recv, shutdown_refusal, after_shutdown, close_refusal, after_close, after_abort, after_leaving, after_socket_left, state_answer, sockname_answer, peername_answer}
 use Rattle.sockets.specs.declared.refusal.Refusal.{Refusal}
 use Rattle.sockets.specs.Arrival.{local_end, peer_end, room_for}
 use Rattle.sockets.specs.Datagrams.{end_sent_from, sendto_answer, after_sendto, recvfrom_answer, after_recvfrom, after_reception}
 use Rattle.sockets.specs.Lists.{change_first}
-use Rattle.sockets.specs.Entries.{is_socket, is_between, with_role, role_after_sendto, role_after_recvfrom, role_after_segment, is_of_pair, sends, role_after_bind, role_after_listen, role_after_accept, role_after_send, role_after_recv, role_after_shutdown, role_after_close, close_fate_of, role_after_listener_close, listener_close_fate_of, role_after_tick, tick_fate_of, role_after_emission, emission_fate_of, entries_after_step}
+use Rattle.sockets.specs.Entries.{is_socket, is_between, with_role, role_after_sendto, role_after_recvfrom, role_after_segment, is_of_pair, sends, role_after_bind, role_after_listen, role_after_accept, role_after_send, role_after_recv, role_after_shutdown, role_after_leaving, leaving_fate_of, role_after_listener_close, listener_close_fate_of, role_after_tick, tick_fate_of, role_after_emission, emission_fate_of, entries_after_step}
 use Rattle.sockets.specs.SocketsView.{SocketsView, holder_id, later_moment, room_of}
 use Rattle.sockets.specs.Ticks as table_ticks
 use Rattle.sockets.specs.Lost.{give_up_fate_of, role_after_giving_up, after_giving_up}
@@ -57,12 +59,12 @@ use Rattle.wire_sim.proofs.openings.OctetsAreCovered.{as_list}
 use Rattle.wire_sim.proofs.tables.SegmentArrived.{Arrived, Ignored, Heard, Began}
 use Rattle.wire_sim.proofs.fairness.CountedAsTraced.{same_unfair}
 use Rattle.wire_sim.proofs.lists.FoundAfterChange.{All-at, find-added_none}
-use Rattle.wire_sim.proofs.openings.HeldIsOpened.{joined, unheld-changed, unheld-settled, unheld-heard, unheld-told, unheld-all, unheld-received, unheld_datagrams, unheld_given_up, unheld_bound_to, unheld_listening, unheld_accepted, unheld_ticked, unheld_sent, unheld_received, unheld_write_shut, unheld_closed, unheld_forsaken, unheld_emitted_at}
+use Rattle.wire_sim.proofs.openings.HeldIsOpened.{joined, unheld-changed, unheld-settled, unheld-heard, unheld-told, unheld-all, unheld-received, unheld_datagrams, unheld_given_up, unheld_bound_to, unheld_listening, unheld_accepted, unheld_ticked, unheld_sent, unheld_received, unheld_write_shut, unheld_left, unheld_forsaken, unheld_emitted_at}
 use Rattle.wire_sim.proofs.tables.PairOfPorts.{unheld}
 use Rattle.wire_sim.proofs.carried.FramesCarry.{Carried}
 use Rattle.wire_sim.proofs.carried.FramesArrive.{segment_foreseen, IsToTable, Aside, Brings, Tells, Receives, frame-to_table}
 use Rattle.wire_sim.proofs.pairing.CallsAreMoves.{ReadsOctets, ReadsEnd, socket_outcome, recv_outcome, recvfrom_outcome}
-use Rattle.wire_sim.proofs.pairing.CloseIsMoves.{closes-on}
+use Rattle.wire_sim.proofs.pairing.CloseIsMoves.{leaves-on}
 use Rattle.wire_sim.proofs.runs.RunsAreLawful.{IsOrderly, orderly, orderly-swapped, orderly-tallied, fair_sender, not_own, other-with, own-with, own-again}
 
 -- Steps of a host by which it comes to hold no pair.
@@ -109,6 +111,15 @@ sent_to-keeps own id peer octets routed pair none = by_end (end_sent_from own id
         let change = role_after_sendto local own.kept peer own.identification octets in
         let same : (let w = after_sendto own id peer octets routed in w.entries) ≡ change_first (is_socket id) (with_role change) own.entries = rw is in
         ap (find (is_of_pair pair)) same ∙ unheld-changed (is_socket id) change pair own.entries (unheld_datagrams _ _) none
+
+-- nor does one that is left
+left-keeps : (own : SocketsView) (how : Leave) (id : SocketId) → close_refusal own id ≡ None → KeepsPairs own (after_leaving own how id)
+left-keeps own how id accepted pair none =
+    let k = leaves-on own how id accepted in
+    let gone : find (is_of_pair pair) (let w = after_socket_left own how id in w.entries) ≡ None =
+    ap (λ (w : SocketsView). find (is_of_pair pair) w.entries) k.leaves ∙ unheld-settled (leaving_fate_of how own.kept k.role) (is_socket id) (role_after_leaving how own.kept) pair own.entries (unheld_left how own.kept) none
+    in
+    unheld-all (listener_close_fate_of id) (role_after_listener_close own.kept id) pair (let w = after_socket_left own how id in w.entries) (unheld_forsaken own.kept id) gone
 
 call-keeps : (routed : Addr → Bool) (c : Call) (answer : Answer) (own own' : SocketsView) → is_connecting c ≡ false → MeetsCall routed c own answer own' → KeepsPairs own own'
 call-keeps routed (call.Socket kind) answer own own' other m =
@@ -164,13 +175,12 @@ call-keeps routed (call.Shutdown id) answer own own' other m =
     ]
 call-keeps routed (call.Close id) answer own own' other m =
     elim (outcome (unless_refused (close_refusal own id) (tt {0})) (λ _. reply.Done) (after_close own id) own answer own' m) [
-      | inl x ↦
-          let k = closes-on own id (not_refused (close_refusal own id) x.0 x.1) in
-          keeps-next own (after_close own id) own' x.3 (λ pair none.
-          let gone : find (is_of_pair pair) (let w = after_socket_closed own id in w.entries) ≡ None =
-          ap (λ (w : SocketsView). find (is_of_pair pair) w.entries) k.closes ∙ unheld-settled (close_fate_of k.role) (is_socket id) (role_after_close own.kept) pair own.entries (unheld_closed own.kept) none
-          in
-          unheld-all (listener_close_fate_of id) (role_after_listener_close own.kept id) pair (let w = after_socket_closed own id in w.entries) (unheld_forsaken own.kept id) gone)
+      | inl x ↦ keeps-next own (after_close own id) own' x.3 (left-keeps own Close id (not_refused (close_refusal own id) x.0 x.1))
+      | inr x ↦ keeps-same own own' x.3
+    ]
+call-keeps routed (call.Abort id) answer own own' other m =
+    elim (outcome (unless_refused (close_refusal own id) (tt {0})) (λ _. reply.Done) (after_abort own id) own answer own' m) [
+      | inl x ↦ keeps-next own (after_abort own id) own' x.3 (left-keeps own Abort id (not_refused (close_refusal own id) x.0 x.1))
       | inr x ↦ keeps-same own own' x.3
     ]
 call-keeps routed (call.State id) answer own own' other m =

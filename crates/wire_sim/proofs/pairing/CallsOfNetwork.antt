@@ -6,7 +6,8 @@ use Rattle.ipv4.specs.declared.addr.Endpoint.{Endpoint}
 use Rattle.tcp_segment.specs.declared.seq.Seq.{Seq}
 use Rattle.interface.specs.Ways.{is_routed}
 use Rattle.sockets.specs.declared.entry.SocketId.{SocketId}
-use Rattle.sockets.specs.Calls.{unless_refused, bind_refusal, after_bind, listen_refusal, after_listen, accept_answer, after_accept, connect_refusal, after_connect, pair_connected, send_answer, after_send, after_recv, shutdown_refusal, after_shutdown, close_refusal, after_close, state_answer, sockname_answer, peername_answer}
+use Rattle.sockets.specs.declared.role.Leave.TheVariants.{Close, Abort}
+use Rattle.sockets.specs.Calls.{unless_refused, bind_refusal, after_bind, listen_refusal, after_listen, accept_answer, after_accept, connect_refusal, after_connect, pair_connected, send_answer, after_send, after_recv, shutdown_refusal, after_shutdown, close_refusal, after_close, after_abort, state_answer, sockname_answer, peername_answer}
 use Rattle.sockets.specs.Datagrams.{sendto_answer, after_sendto, recvfrom_answer, after_recvfrom}
 use Rattle.sockets.specs.Entries.{is_socket, role_after_listen}
 use Rattle.sockets.specs.SocketsView.{SocketsView}
@@ -30,10 +31,10 @@ use Rattle.wire_sim.proofs.tables.CallsOnTable.{outcome, not_refused}
 use Rattle.wire_sim.proofs.tables.UnseenRoles.{quiet_listening}
 use Rattle.wire_sim.proofs.pairing.WorldAsPairings.{Bag, Projects}
 use Rattle.wire_sim.proofs.pairing.CallsAreMoves.{socket_outcome, recv_outcome, recvfrom_outcome, kept, changed, projects-bound, projects-accepted, projects-silent, call-sends, call-receives, call-ends, call-closes, taken-fit}
-use Rattle.wire_sim.proofs.pairing.CloseIsMoves.{call-forsakes}
+use Rattle.wire_sim.proofs.pairing.CloseIsMoves.{call-leaves}
 use Rattle.wire_sim.proofs.pairing.ConnectIsMove.{IsFirst, projects-connects, projects-socket_made}
 use Rattle.wire_sim.proofs.pairing.DatagramsMoveNothing.{projects-sent_to, projects-received_from}
-use Rattle.wire_sim.proofs.told.TraceAndOneMore.{IsQuiet, answered, tallies, tallies-counted, tallies-quiet, tallies-opened, quiet-everywhere, quiet-socket, quiet-bind, quiet-listen, quiet-accept, quiet-connect, quiet-state, quiet-sockname, quiet-peername, quiet-sendto, quiet-recvfrom, quiet-send_refused, quiet-recv_refused, quiet-shutdown_refused, quiet-close_refused}
+use Rattle.wire_sim.proofs.told.TraceAndOneMore.{IsQuiet, answered, tallies, tallies-counted, tallies-quiet, tallies-opened, quiet-everywhere, quiet-socket, quiet-bind, quiet-listen, quiet-accept, quiet-connect, quiet-state, quiet-sockname, quiet-peername, quiet-sendto, quiet-recvfrom, quiet-send_refused, quiet-recv_refused, quiet-shutdown_refused, quiet-close_refused, quiet-abort}
 
 -- What a call made of the network: nothing beside its host, a count, or an opening.
 pub data CallGoes (limit : ℕ) (hs ts : Side) (a b : Addr) (host' : HostView) (other : SocketsView) (n : NetworkView) (bag : Bag) (c : Call) (answer : Answer) (place : ℕ) (trace : List Happening) : Type 0 where
@@ -192,11 +193,24 @@ projects-called limit hs ts a b host host' other n bag place trace (call.Close i
           let e = answered hs (call.Close id) reply.Done in
           subst (λ r. CallGoes limit hs ts a b host' other n bag (call.Close id) r place trace) (sym x.2)
           (GoesPlain refl
-          (kept limit hs ts a b (after_close own id) host'.sockets other bag n.openings (trace ++ e ∷ []) x.3 (call-forsakes limit hs ts a b own other bag n.openings trace id sound opposite (not_refused (close_refusal own id) x.0 x.1) h))
+          (kept limit hs ts a b (after_close own id) host'.sockets other bag n.openings (trace ++ e ∷ []) x.3 (call-leaves limit hs ts a b own other bag n.openings trace Close id sound opposite (not_refused (close_refusal own id) x.0 x.1) h))
           (tallies-quiet trace n.openings e (λ s i. refl)))
       | inr x ↦
           subst (λ r. CallGoes limit hs ts a b host' other n bag (call.Close id) r place trace) (sym x.2)
           (plain limit hs ts a b host' other n bag (call.Close id) (reply.Refused x.0) place trace refl (λ i. quiet-close_refused hs id x.0 i) (kept limit hs ts a b own host'.sockets other bag n.openings trace x.3 h))
+    ]
+projects-called limit hs ts a b host host' other n bag place trace (call.Abort id) answer sound opposite is_host is_other numbered fair m h =
+    let own = host.sockets in
+    elim (outcome (unless_refused (close_refusal own id) (tt {0})) (λ _. reply.Done) (after_abort own id) own answer host'.sockets m) [
+      | inl x ↦
+          let e = answered hs (call.Abort id) reply.Done in
+          subst (λ r. CallGoes limit hs ts a b host' other n bag (call.Abort id) r place trace) (sym x.2)
+          (GoesPlain refl
+          (kept limit hs ts a b (after_abort own id) host'.sockets other bag n.openings (trace ++ e ∷ []) x.3 (call-leaves limit hs ts a b own other bag n.openings trace Abort id sound opposite (not_refused (close_refusal own id) x.0 x.1) h))
+          (tallies-quiet trace n.openings e (λ s i. refl)))
+      | inr x ↦
+          subst (λ r. CallGoes limit hs ts a b host' other n bag (call.Abort id) r place trace) (sym x.2)
+          (plain limit hs ts a b host' other n bag (call.Abort id) (reply.Refused x.0) place trace refl (λ i. quiet-abort hs id (reply.Refused x.0) i) (kept limit hs ts a b own host'.sockets other bag n.openings trace x.3 h))
     ]
 projects-called limit hs ts a b host host' other n bag place trace (call.State id) answer sound opposite is_host is_other numbered fair m h =
     let own = host.sockets in

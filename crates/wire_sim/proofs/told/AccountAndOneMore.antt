@@ -2,6 +2,8 @@
 use Rattle.std.proofs.Common.{◌≡◌, ℕ, ◌==◌, ◌||◌, cond, Bool, true, false, List, [], ◌∷◌, ◌++◌, take, refl, sym, ◌∙◌, ap, subst, append-nil}
 use Rattle.std.specs.Global.{Vec}
 use Rattle.sockets.specs.declared.entry.SocketId.{SocketId}
+use Rattle.sockets.specs.declared.role.Leave.{Leave}
+use Rattle.sockets.specs.declared.role.Leave.TheVariants.{Close, Abort}
 use Rattle.sides.specs.declared.side.Side.{Side}
 use Rattle.wire_sim.specs.declared.event.Call.{Call}
 use Rattle.wire_sim.specs.declared.event.Call.TheVariants as call
@@ -13,7 +15,7 @@ use Rattle.wire_sim.specs.Trace.{sent_on, closed_on, read_on, ended_on}
 use Rattle.wire_sim.proofs.tables.EntryChanges.{SameTold, SameBut}
 use Rattle.wire_sim.proofs.pairing.WorldAsPairings.{told}
 use Rattle.wire_sim.proofs.tables.TableById.{Account, eqb-same}
-use Rattle.wire_sim.proofs.told.TraceAndOneMore.{IsQuiet, answered, sent_on-added, closed_on-added, read_on-added, ended_on-added, sent_by-send, read_by-recv, closed_by-shutdown, closed_by-close, ended_by-recv, other-quiet, eqb-swap, sent_of, read_of, closed_of, ended_of}
+use Rattle.wire_sim.proofs.told.TraceAndOneMore.{IsQuiet, answered, sent_on-added, closed_on-added, read_on-added, ended_on-added, sent_by-send, read_by-recv, closed_by-shutdown, closed_by-close, ended_by-recv, other-quiet, quiet-abort, eqb-swap, sent_of, read_of, closed_of, ended_of}
 
 -- what is told of a socket after one happening more
 abbrev pub with_more : Account → List ℕ → Bool → List ℕ → Bool → Account
@@ -105,7 +107,7 @@ closes-told side trace id = (
     a = told side trace id
 
 -- the socket is closed
-pub forsakes-told : (side : Side) (trace : List Happening) (id : SocketId)
+forsakes-told : (side : Side) (trace : List Happening) (id : SocketId)
     → (told side (trace ++ answered side (call.Close id) answer.Done ∷ []) id ≡ (let a = told side trace id in record a { closed = true }))
     × SameBut id (told side trace) (told side (trace ++ answered side (call.Close id) answer.Done ∷ []))
 forsakes-told side trace id = (
@@ -119,6 +121,23 @@ forsakes-told side trace id = (
 
     a : Account
     a = told side trace id
+
+-- the call by which a socket is left
+abbrev pub leaving_call : Leave → SocketId → Call
+leaving_call Close id = call.Close id
+leaving_call Abort id = call.Abort id
+
+-- a close closes our side of it too, and an abort tells nothing
+abbrev pub account_left : Leave → Account → Account
+account_left Close a = record a { closed = true }
+account_left Abort a = a
+
+pub leaves-told : (how : Leave) (side : Side) (trace : List Happening) (id : SocketId)
+    → (told side (trace ++ answered side (leaving_call how id) answer.Done ∷ []) id ≡ account_left how (told side trace id)) × SameBut id (told side trace) (told side (trace ++ answered side (leaving_call how id) answer.Done ∷ []))
+leaves-told Close side trace id = forsakes-told side trace id
+leaves-told Abort side trace id =
+    let nothing : (i : SocketId) → told side (trace ++ answered side (call.Abort id) answer.Done ∷ []) i ≡ told side trace i = λ i. told-quiet side trace (answered side (call.Abort id) answer.Done) i (quiet-abort side id answer.Done i) in
+    (nothing id, λ j apart. nothing j)
 
 pub ends-told : (side : Side) (trace : List Happening) (id : SocketId) (len : ℕ)
     → (told side (trace ++ answered side (call.Recv id len) answer.EndOfStream ∷ []) id ≡ (let a = told side trace id in record a { ended = true }))
