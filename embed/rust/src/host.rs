@@ -2,6 +2,7 @@
 
 use crate::c;
 use crate::error::{DropCause, Error};
+use crate::ready::Ready;
 use crate::{FRAME_SIZE, ROUTES};
 use core::mem::size_of;
 use core::net::{Ipv4Addr, SocketAddrV4};
@@ -215,6 +216,35 @@ impl Host {
         let mut pair = [c::Endpoint::default(); 2];
         let answer = unsafe { c::host_would_open(&mut self.0, frame.as_ptr(), frame.len(), &mut pair) };
         (answer == 1).then(|| pair.map(end_of))
+    }
+
+    /// What a socket is ready for, as things stand. EBADF.
+    pub fn ready(&mut self, id: SocketId) -> Result<Ready, Error> {
+        Error::check(unsafe { c::host_ready(&mut self.0, id.0) }).map(|bits| Ready(bits as u32))
+    }
+
+    /// The first socket behind `after` in order of id that is ready for one of `mask`, and all that it is ready for. `after` need not name a socket, and
+    /// id 0 stands before all.
+    pub fn next_ready(&mut self, after: SocketId, mask: Ready) -> Option<(SocketId, Ready)> {
+        let mut bits = 0;
+        let id = Error::check(unsafe { c::host_next_ready(&mut self.0, after.0, mask.0, &mut bits) }).ok()?;
+        (id > 0).then_some((SocketId(id), Ready(bits)))
+    }
+
+    /// How many octets could be read at once: those of the first datagram, of a UDP socket.
+    pub fn recv_len(&mut self, id: SocketId) -> Result<usize, Error> {
+        count(unsafe { c::host_recv_len(&mut self.0, id.0) })
+    }
+
+    /// How many octets could be given at once: to a UDP socket in one datagram.
+    pub fn send_room(&mut self, id: SocketId) -> Result<usize, Error> {
+        count(unsafe { c::host_send_room(&mut self.0, id.0) })
+    }
+
+    /// The socket that a frame is for, before it is delivered; None where it is for none, or is a fragment of a datagram.
+    pub fn concerns(&mut self, frame: &[u8]) -> Option<SocketId> {
+        let id = Error::check(unsafe { c::host_concerns(&mut self.0, frame.as_ptr(), frame.len()) }).ok()?;
+        (id > 0).then_some(SocketId(id))
     }
 
     /// Lets time pass: each timer acts whose moment has come.

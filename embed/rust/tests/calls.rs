@@ -151,3 +151,22 @@ fn readiness_is_a_set() {
     assert!(Ready::default().is_empty() && !ready.is_empty());
     assert_eq!(format!("{ready:?} {:?}", Ready::default()), "READ | ENDED none");
 }
+
+#[test]
+fn sockets_tell_what_they_are_ready_for() {
+    let mut host = host();
+    assert_eq!(host.next_ready(SocketId(0), Ready(63)), None);
+    let stream = host.socket(Kind::Tcp).unwrap();
+    let datagrams = host.socket(Kind::Udp).unwrap();
+    assert_eq!(host.ready(stream), Ok(Ready::default()));
+    assert_eq!(host.ready(datagrams), Ok(Ready::WRITE));
+    assert_eq!(host.ready(SocketId(9)), Err(Error::EBADF));
+    assert_eq!(host.next_ready(SocketId(0), Ready::WRITE), Some((datagrams, Ready::WRITE)));
+    assert_eq!(host.next_ready(datagrams, Ready::WRITE), None);
+    host.connect(0, 9, stream, PEER).unwrap();
+    assert_eq!(host.ready(stream), Ok(Ready::OPENING));
+    assert_eq!((host.send_room(stream), host.recv_len(stream)), (Ok(0), Ok(0)));
+    assert_eq!(host.recv_len(datagrams), Ok(0));
+    assert_eq!(host.send_room(datagrams), Ok(65_507));
+    assert_eq!(host.concerns(&[0; 60]), None);
+}
