@@ -170,16 +170,71 @@ a round 2 -> octets 0
 b recv 2 10 -> E11 ETIMEDOUT
 ";
 
+/// A pass between two rounds sets both free: a's bare ACK, which is owed to what b sent again, stands at SND.NXT and frees b's octets, so that b answers what
+/// comes again by a bare ACK too, and that frees a's.
+const SET_FREE: &str = "a round 2 -> octets 0
+pass 0 -> a 1 b 0
+a round 2 -> octets 0
+a round 2 -> octets 100
+";
+
+/// A round may open a connection: the first asks for b's MAC, the second brings the SYN and its answer, and the third the ACK of that.
+const OPENED: &str = "b socket tcp -> id 1
+b bind 1 80 -> ok
+b listen 1 1 -> ok
+a socket tcp -> id 1
+a connect 1 80 5 -> started
+a round 1 -> octets 0
+a round 1 -> octets 0
+b accept 1 -> E8 EAGAIN
+a round 1 -> octets 0
+b accept 1 -> id 2 10.0.0.1 49152
+";
+
+/// A frame of a round that would open a pair a second time is passed over. The listener at which its SYN came the first time is gone, and the reset that told so
+/// was lost.
+const PASSED_OVER: &str = "b socket tcp -> id 1
+b bind 1 80 -> ok
+b listen 1 1 -> ok
+a socket tcp -> id 1
+a connect 1 80 5 -> started
+pass 0 -> a 1 b 1
+a emit -> frame 2 60
+b deliver 2 7 -> taken
+b close 1 -> ok
+b emit -> frame 3 60
+b socket tcp -> id 3
+b bind 3 80 -> ok
+b listen 3 1 -> ok
+a round 3 -> octets 0
+a state 1 -> SYN-SENT
+b accept 3 -> E8 EAGAIN
+b deliver 4 0 -> U4 SecondOpening
+";
+
+/// Those in which no buffer and no window is full print the same with the window scale option and without it.
 pub(super) const TRANSCRIPTS: &[&[&str]] = &[
     &[OPENING, ACCEPTED, LOST],
+    &[UNSCALED, OPENING, ACCEPTED, LOST],
     &[OPENING, ACCEPTED, SLOWLY],
+    &[UNSCALED, OPENING, ACCEPTED, SLOWLY],
     &[OPENING, ACCEPTED, TURNED],
+    &[UNSCALED, OPENING, ACCEPTED, TURNED],
     &[OPENING, ACCEPTED, READER_CLOSED],
+    &[UNSCALED, OPENING, ACCEPTED, READER_CLOSED],
     &[OPENING, ACCEPTED, WRITER_CLOSED],
+    &[UNSCALED, OPENING, ACCEPTED, WRITER_CLOSED],
     &[UNSCALED, OPENING, ACCEPTED, LESS_HELD],
     &[UNSCALED, OPENING, ACCEPTED, CLOSED_WINDOW, UPDATE_LOST],
     &[UNSCALED, OPENING, ACCEPTED, CLOSED_WINDOW, UPDATE_DUE],
     &[OPENING, ACCEPTED, MAC_FORGOTTEN],
+    &[UNSCALED, OPENING, ACCEPTED, MAC_FORGOTTEN],
     &[OPENING, ACCEPTED, GIVEN_UP],
+    &[UNSCALED, OPENING, ACCEPTED, GIVEN_UP],
     &[OPENING, ACCEPTED, BOTH_HOLD, THIRTEEN_ROUNDS],
+    &[UNSCALED, OPENING, ACCEPTED, BOTH_HOLD, THIRTEEN_ROUNDS],
+    &[OPENING, ACCEPTED, BOTH_HOLD, SET_FREE],
+    &[UNSCALED, OPENING, ACCEPTED, BOTH_HOLD, SET_FREE],
+    &[OPENED],
+    &[UNSCALED, PASSED_OVER],
 ];
