@@ -35,8 +35,7 @@ static int64_t state(struct tap *tap)
 
 static bool is_opening(struct tap *tap)
 {
-    const int64_t now = state(tap);
-    return now == HOST_STATE_SYN_SENT || now == HOST_STATE_SYN_RECEIVED;
+    return (ready_for(tap, joint.id) & HOST_READY_OPENING) != 0;
 }
 
 static size_t wants(struct tap *tap, struct pollfd *polled)
@@ -86,6 +85,9 @@ static void ending_step(struct tap *tap)
 static void joint_steps(struct tap *tap)
 {
     joint_answer(&joint, tap->polled);
+    if (!joint_is_due(&joint, tap) && !joint_awaits(&joint, ready_for(tap, joint.id))) {
+        return;
+    }
     switch (joint_step(&joint, tap)) {
     case JOINT_HOST_FAILED:
         give_up(tap, "connection", host_refusal_name(joint.refusal));

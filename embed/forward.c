@@ -46,10 +46,11 @@ static int open_there(struct host_endpoint there)
     return opened;
 }
 
-static struct joint *free_place(void)
+/* The joint of this connection; of id 0 a free place. NULL where there is none. */
+static struct joint *joint_of(uint64_t id)
 {
     for (size_t i = 0; i < CONNECTIONS; i++) {
-        if (joints[i].id == 0) {
+        if (joints[i].id == id) {
             return &joints[i];
         }
     }
@@ -59,7 +60,7 @@ static struct joint *free_place(void)
 static bool accept_step(struct tap *tap, size_t i)
 {
     struct host_endpoint peer;
-    struct joint *place = free_place();
+    struct joint *place = joint_of(0);
     const int64_t id = place == NULL ? HOST_EAGAIN : host_accept(&tap->host, listeners[i], &peer);
     if (id < 0) {
         return false;
@@ -102,23 +103,40 @@ static void one_step(struct joint *joint, struct tap *tap)
         joint_end(joint, tap, false, "");
         break;
     case JOINT_GOES_ON:
-        if (later(joint->moved, tap->options.idle) <= tap->now) {
-            joint_end(joint, tap, true, "idle");
-        }
         break;
+    }
+}
+
+/* A socket of the host's that is ready: a listener, or a connection that is joined and waits for this. */
+static void ready_step(struct tap *tap, uint64_t id, uint32_t bits)
+{
+    struct joint *joint = joint_of(id);
+    for (size_t i = 0; i < tap->options.forward_count; i++) {
+        while (id == listeners[i] && accept_step(tap, i)) {
+        }
+    }
+    if (joint != NULL && joint_awaits(joint, bits)) {
+        one_step(joint, tap);
     }
 }
 
 static void step(struct tap *tap)
 {
+    uint32_t bits;
     for (size_t i = 0; i < CONNECTIONS; i++) {
         if (joints[i].id != 0) {
             joint_answer(&joints[i], tap->polled);
-            one_step(&joints[i], tap);
+            if (joint_is_due(&joints[i], tap)) {
+                one_step(&joints[i], tap);
+            }
         }
     }
-    for (size_t i = 0; i < tap->options.forward_count; i++) {
-        while (accept_step(tap, i)) {
+    for (uint64_t id = 0; next_ready(tap, &id, &bits);) {
+        ready_step(tap, id, bits);
+    }
+    for (size_t i = 0; i < CONNECTIONS; i++) {
+        if (joints[i].id != 0 && later(joints[i].moved, tap->options.idle) <= tap->now) {
+            joint_end(&joints[i], tap, true, "idle");
         }
     }
 }

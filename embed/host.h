@@ -89,6 +89,14 @@ extern "C" {
 #define HOST_STATE_TIME_WAIT 10
 #define HOST_STATE_DATAGRAM 11
 
+/* What a socket is ready for: each bit foretells a call, as things stand. */
+#define HOST_READY_ACCEPT 1   /* host_accept would answer a connection */
+#define HOST_READY_READ 2     /* host_recv would answer octets, or host_recvfrom a datagram */
+#define HOST_READY_WRITE 4    /* host_send would take an octet, or host_sendto a datagram of one, for a peer to whom a route leads */
+#define HOST_READY_ENDED 8    /* host_recv would answer 0, the end of the stream */
+#define HOST_READY_FAILED 16  /* its calls are refused with its connection's error */
+#define HOST_READY_OPENING 32 /* its connection is opening */
+
 /* Refusals, with the names of POSIX.1-2017. They are not the system's numbers: host_errno gives those. */
 #define HOST_EBADF (-1)         /* the id names no socket, or the handle holds no host */
 #define HOST_EINVAL (-2)        /* the arguments or the socket's state don't allow the call */
@@ -362,6 +370,33 @@ static inline int64_t host_info(struct host *host, uint64_t id, struct host_info
 {
     return host_info_into(host, id, (int64_t *)info + 1, info->size / 8 - 1);
 }
+/* Answers what a socket is ready for, the sum of the HOST_READY_ bits that hold. None of them waits for anything.
+ *
+ * HOST_EBADF. */
+int64_t host_ready(struct host *host, uint64_t id);
+
+/* Answers the id of the first socket behind `after` in order of id of which one of the bits of `mask` holds, and writes to `bits` all that hold of
+ * it; or answers 0, and writes nothing, where there is none. `after` need not name a socket, and 0 stands before all:
+ *
+ *     for (id = 0; (id = host_next_ready(&host, (uint64_t)id, HOST_READY_ACCEPT | HOST_READY_READ, &bits)) > 0;) .. */
+int64_t host_next_ready(struct host *host, uint64_t after, uint32_t mask, uint32_t *bits);
+
+/* Answers how many octets could be read at once: as many as host_recv would give of any number, 0 where it would be HOST_EAGAIN or tell the end; of
+ * a UDP socket those of the first datagram, 0 where none came.
+ *
+ * HOST_EBADF. HOST_EOPNOTSUPP: listening. HOST_ECONNREFUSED, HOST_ECONNRESET, HOST_ETIMEDOUT. HOST_ENOTCONN. */
+int64_t host_recv_len(struct host *host, uint64_t id);
+
+/* Answers how many octets could be given: as many as host_send would take of any number, 0 where it would be HOST_EAGAIN; to a UDP socket those
+ * that a further datagram may have, 0 where one of a single octet has no room.
+ *
+ * HOST_EBADF. HOST_EOPNOTSUPP: listening. HOST_ECONNREFUSED, HOST_ECONNRESET, HOST_ETIMEDOUT. HOST_ENOTCONN. HOST_EPIPE: our side is closed. */
+int64_t host_send_room(struct host *host, uint64_t id);
+
+/* Answers the id of the socket that a frame is for: that of its connection, or the listener at which that waits or would be opened; the UDP socket
+ * at its port; of an error that of the connection which it is about. 0 where it is for none, or is a fragment of a datagram. Ask before
+ * host_deliver, and after it host_ready of this id: no other socket is ready for more by this frame, but for a fragment that makes a datagram whole. */
+int64_t host_concerns(struct host *host, const uint8_t *frame, size_t len);
 
 /* ---- Numbers and names ----------------------------------------------------------------------------------------------------------------- */
 

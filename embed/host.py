@@ -25,7 +25,7 @@ import os
 import sys
 from typing import Any, Iterator, Mapping, NoReturn, Optional, Tuple, Union
 
-__all__ = ["Drop", "Host", "Info", "Kind", "State"]
+__all__ = ["Drop", "Host", "Info", "Kind", "Ready", "State"]
 
 VERSION = "0.2.0"
 FRAME_SIZE = 1514
@@ -41,6 +41,17 @@ class Kind(enum.IntEnum):
 
     TCP = 1
     UDP = 2
+
+
+class Ready(enum.IntFlag):
+    """What a socket is ready for: each foretells a call, as things stand."""
+
+    ACCEPT = 1
+    READ = 2
+    WRITE = 4
+    ENDED = 8
+    FAILED = 16
+    OPENING = 32
 
 
 State = enum.Enum(
@@ -149,6 +160,11 @@ _CALLS = {
     "host_info_into": [_U64, ctypes.POINTER(ctypes.c_int64), _SIZE],
     "host_would_connect": [_U64, _U32, _U16, _ENDPOINT],
     "host_would_open": [_OCTETS, _SIZE, _ENDPOINT],
+    "host_ready": [_U64],
+    "host_next_ready": [_U64, _U32, ctypes.POINTER(_U32)],
+    "host_recv_len": [_U64],
+    "host_send_room": [_U64],
+    "host_concerns": [_OCTETS, _SIZE],
     "host_tick": [_U64],
     "host_next_deadline": [ctypes.POINTER(_U64)],
     "host_deliver": [_U64, _U32, _OCTETS, _SIZE],
@@ -387,6 +403,29 @@ class Host:
         """The two endpoints of the connection that delivering this frame would open; None where it would open none."""
         frame, pair = bytes(frame), (_Endpoint * 2)()
         return tuple(map(tuple, pair)) if self._call("host_would_open", frame, len(frame), pair) else None
+
+    def ready(self, id: int) -> "Ready":
+        """What a socket is Ready for."""
+        return Ready(self._call("host_ready", _id(id)))
+
+    def next_ready(self, after: int = 0, mask: "Ready" = Ready(63)) -> Optional[Tuple[int, "Ready"]]:
+        """The first socket behind the id `after` that is ready for something of `mask`, and all that it is Ready for; None where there is none."""
+        bits = _U32()
+        id = self._call("host_next_ready", _id(after), _number(mask, 32, "a mask"), bits)
+        return (id, Ready(bits.value)) if id else None
+
+    def recv_len(self, id: int) -> int:
+        """How many octets could be read at once: those of the first datagram, of a UDP socket."""
+        return self._call("host_recv_len", _id(id))
+
+    def send_room(self, id: int) -> int:
+        """How many octets could be given at once: to a UDP socket in one datagram."""
+        return self._call("host_send_room", _id(id))
+
+    def concerns(self, frame: Any) -> Optional[int]:
+        """The id of the socket that a frame is for; None where it is for none, or is a fragment."""
+        frame = bytes(frame)
+        return self._call("host_concerns", frame, len(frame)) or None
 
     # Time and frames.
 

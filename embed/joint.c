@@ -199,6 +199,20 @@ static enum joint_state host_step(struct joint *joint, struct tap *tap)
     return state == JOINT_GOES_ON ? end_step(joint) : state;
 }
 
+bool joint_awaits(const struct joint *joint, uint32_t bits)
+{
+    const uint32_t taken = has_room(&joint->down) ? HOST_READY_READ | HOST_READY_ENDED : 0;
+    return (bits & (taken | HOST_READY_FAILED)) != 0;
+}
+
+bool joint_is_due(const struct joint *joint, struct tap *tap)
+{
+    if (has_octets(&joint->up)) {
+        return (ready_for(tap, joint->id) & (HOST_READY_WRITE | HOST_READY_FAILED)) != 0 || joint->to_events != 0;
+    }
+    return joint->from_events != 0 || joint->to_events != 0 || (joint->up.ended && !joint->up.told);
+}
+
 enum joint_state joint_step(struct joint *joint, struct tap *tap)
 {
     enum joint_state state = system_step(joint);

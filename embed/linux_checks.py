@@ -21,7 +21,7 @@ import threading
 import time
 
 import linux_pair
-from host import Host, Kind
+from host import Host, Kind, Ready
 
 OURS = "10.0.0.2"  # the host's address
 LINUX = "10.0.0.1"  # Linux's
@@ -215,18 +215,21 @@ class OwnHost:
     def now(self):
         return int((time.monotonic() - self.began) * 1000)
 
-    def run(self, until):
-        """Goes on until that holds, but no longer than ten seconds. Each frame that goes out is yielded."""
-        end = time.monotonic() + 10
+    def deliver(self, frame):
+        self.host.deliver(self.now(), 0, frame)
+
+    def run(self, until, hear=None, seconds=10):
+        """Goes on until that holds, but no longer than ten seconds. Each frame that goes out is yielded. One that comes is heard so, or delivered."""
+        end = time.monotonic() + seconds
         while not until():
-            want(time.monotonic() < end, "it doesn't come to that in ten seconds")
+            want(time.monotonic() < end, f"it doesn't come to that in {seconds} seconds")
             now = self.now()
             self.host.tick(now)
             while frame := self.host.next_frame(now):
                 os.write(self.device, frame)
                 yield frame
             if select.select([self.device], [], [], 0.01)[0]:
-                self.host.deliver(self.now(), 0, os.read(self.device, 2048))
+                (hear or self.deliver)(os.read(self.device, 2048))
 
 
 # ---- The checks
@@ -283,6 +286,75 @@ def udp_behind_silence():
     want(came_at < 1000, f"it comes after {came_at} ms")
     want((asked, sent) == (3, 1), f"{asked} requests for the silent address, {sent} datagrams")
     return "came at once; 3 requests for the other"
+
+
+class ReadyEcho:
+    """An echo over an own host, which makes no call but those that a socket is ready for. `ended` counts the connections whose both sides are closed."""
+
+    def __init__(self, own):
+        self.own, self.host, self.waiting, self.ended = own, own.host, {}, 0
+        self.listener = self.host.socket()
+        self.host.bind(self.listener, (OURS, 7))
+        self.host.listen(self.listener, 8)
+
+    def serve(self, id):
+        """What this socket is ready for is done, until it is ready for no more of it."""
+        while id == self.listener and Ready.ACCEPT in self.host.ready(id):
+            accepted, _ = self.host.accept(id)
+            self.waiting[accepted] = b""
+            self.serve(accepted)
+        while id in self.waiting and (ready := self.host.ready(id)):
+            want(Ready.FAILED not in ready, "a connection fails")
+            if self.waiting[id]:
+                if Ready.WRITE not in ready:
+                    return
+                room = self.host.send_room(id)
+                want(self.host.send(id, self.waiting[id][:room]) == min(room, len(self.waiting[id])), "another number of octets is taken")
+                self.waiting[id] = self.waiting[id][room:]
+            elif Ready.READ in ready:
+                length = self.host.recv_len(id)
+                self.waiting[id] = self.host.recv(id, length)
+                want(len(self.waiting[id]) == length, "another number of octets is read")
+            elif Ready.ENDED in ready:
+                self.host.close(id)
+                del self.waiting[id]
+                self.ended += 1
+            else:
+                return
+
+    def hear(self, frame):
+        """A frame comes: it touches the one socket that it is for. No other is ready then that something is to be done of."""
+        id = self.host.concerns(frame)
+        self.own.host.deliver(self.own.now(), random.getrandbits(32), frame)
+        if id is not None:
+            self.serve(id)
+        id = 0
+        while found := self.host.next_ready(id, Ready.ACCEPT | Ready.READ | Ready.ENDED | Ready.FAILED):
+            id, ready = found
+            want(self.waiting.get(id), f"a socket is forgotten: {id}, {ready}")
+
+
+def by_readiness(count, size):
+    """So many connections at once, each echoed by a program that asks what is ready."""
+    with OwnHost() as own:
+        echo_of, came = ReadyEcho(own), []
+
+        def client(number):
+            with connected(7) as connection:
+                sender = threading.Thread(target=lambda: (connection.sendall(octets(size + number)), connection.shutdown(socket.SHUT_WR)))
+                sender.start()
+                came.append(read_to_end(connection) == octets(size + number))
+                sender.join()
+
+        clients = [threading.Thread(target=client, args=(number,)) for number in range(count)]
+        for each in clients:
+            each.start()
+        for _ in own.run(until=lambda: len(came) == count, hear=echo_of.hear, seconds=60):
+            pass
+        for each in clients:
+            each.join()
+    want(all(came) and echo_of.ended == count, f"{sum(came)} come back equal, {echo_of.ended} end")
+    return f"{count} echoes of {size:,} octets and more"
 
 
 def flood_of_openings():
@@ -716,6 +788,7 @@ CHECKS = [
     ("TCP: the host opens, the host resets", host_resets_what_it_opened, (), ""),
     ("TCP: a flood of openings from silent addresses", flood_of_openings, (), ""),
     ("TCP: four openings a second", bounded_openings, (), ""),
+    ("TCP: 60 connections at once, by readiness alone", by_readiness, (60, 20000), ""),
     ("1 MB to the host", to_host, (MEGABYTE,), ""),
     ("1 MB from the host", from_host, (MEGABYTE,), ""),
     ("1 MB echoed, both ways at once", echo, (MEGABYTE,), ""),

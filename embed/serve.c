@@ -135,15 +135,13 @@ static void served_step(struct served *served, struct tap *tap)
         }
         served->moved = tap->now;
     }
-    if (later(served->moved, tap->options.idle) <= tap->now) {
-        end_one(served, tap, "idle");
-    }
 }
 
-static struct served *free_place(void)
+/* The connection of this id that is served; of id 0 a free place. NULL where there is none. */
+static struct served *served_as(uint64_t id)
 {
     for (size_t i = 0; i < CONNECTIONS; i++) {
-        if (at.all[i].id == 0) {
+        if (at.all[i].id == id) {
             return &at.all[i];
         }
     }
@@ -154,7 +152,7 @@ static bool accept_step(struct tap *tap, enum service service)
 {
     static const char *const names[SERVICES] = {"echo", "discard", "source"};
     struct host_endpoint peer;
-    struct served *place = free_place();
+    struct served *place = served_as(0);
     const int64_t id = at.listeners[service] == 0 || place == NULL ? HOST_EAGAIN : host_accept(&tap->host, at.listeners[service], &peer);
     if (id < 0) {
         return false;
@@ -167,17 +165,44 @@ static bool accept_step(struct tap *tap, enum service service)
     return true;
 }
 
-static void step(struct tap *tap)
+/* A socket that is ready: the one of datagrams, a listener, or a connection. */
+static void ready_step(struct tap *tap, uint64_t id)
 {
-    for (int round = 0; round < ROUNDS && datagram_step(tap); round++) {
+    struct served *served = served_as(id);
+    for (int round = 0; id == at.datagrams && round < ROUNDS && datagram_step(tap); round++) {
     }
     for (int service = 0; service < SERVICES; service++) {
-        for (int round = 0; round < ROUNDS && accept_step(tap, (enum service)service); round++) {
+        for (int round = 0; id == at.listeners[service] && round < ROUNDS && accept_step(tap, (enum service)service); round++) {
         }
     }
+    if (served != NULL) {
+        served_step(served, tap);
+    }
+}
+
+/* Whether octets wait, or the source has more of them, and the connection takes some. */
+static bool may_give(const struct served *served, struct tap *tap)
+{
+    const bool gives = served->from < served->to || (served->service == SOURCE && !served->shut);
+    return gives && (ready_for(tap, served->id) & HOST_READY_WRITE) != 0;
+}
+
+static void step(struct tap *tap)
+{
+    uint32_t bits;
+    for (uint64_t id = 0; next_ready(tap, &id, &bits);) {
+        ready_step(tap, id);
+    }
+    if (at.is_waiting) {
+        datagram_step(tap);
+    }
     for (size_t i = 0; i < CONNECTIONS; i++) {
-        if (at.all[i].id != 0) {
-            served_step(&at.all[i], tap);
+        struct served *served = &at.all[i];
+        if (served->id != 0 && may_give(served, tap)) {
+            served_step(served, tap);
+        }
+        if (served->id != 0 && later(served->moved, tap->options.idle) <= tap->now) {
+            end_one(served, tap, "idle");
         }
     }
 }

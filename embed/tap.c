@@ -48,6 +48,19 @@ uint64_t listen_at(struct tap *tap, uint16_t port)
     return (uint64_t)id;
 }
 
+uint32_t ready_for(struct tap *tap, uint64_t id)
+{
+    const int64_t bits = host_ready(&tap->host, id);
+    return bits < 0 ? 0 : (uint32_t)bits;
+}
+
+bool next_ready(struct tap *tap, uint64_t *id, uint32_t *bits)
+{
+    const int64_t next = host_next_ready(&tap->host, *id, HOST_READY_ACCEPT | HOST_READY_READ | HOST_READY_ENDED | HOST_READY_FAILED, bits);
+    *id = next < 0 ? 0 : (uint64_t)next;
+    return *id != 0;
+}
+
 static uint64_t clock_now(void)
 {
     struct timespec at;

@@ -129,6 +129,10 @@ void fail(struct tap *tap, const char *what, const char *why);
 void tell(const struct tap *tap, const char *what, uint64_t id, const char *more);
 /* A listener of the host at this port: its id; 0 after `fail`. */
 uint64_t listen_at(struct tap *tap, uint16_t port);
+/* What a socket is ready for: HOST_READY_ bits, none where there is no such socket. */
+uint32_t ready_for(struct tap *tap, uint64_t id);
+/* Goes on to the next socket behind `*id` with something to be taken of it, and what it is ready for: false where there is none. */
+bool next_ready(struct tap *tap, uint64_t *id, uint32_t *bits);
 /* The moment `wait` after `since`, or NEVER where there is none. */
 uint64_t later(uint64_t since, uint64_t wait);
 
@@ -162,6 +166,10 @@ void joint_begin(struct joint *joint, uint64_t id, int from, int to, uint64_t no
 size_t joint_wants(struct joint *joint, struct pollfd *polled, size_t count);
 /* Takes what poll answered, so that it is acted upon once. */
 void joint_answer(struct joint *joint, struct pollfd *polled);
+/* Whether it waits for one of these HOST_READY_ bits of its connection. */
+bool joint_awaits(const struct joint *joint, uint32_t bits);
+/* Whether a descriptor is ready, or something of the system's is to be passed on that the host takes. */
+bool joint_is_due(const struct joint *joint, struct tap *tap);
 /* Moves what can be moved now. */
 enum joint_state joint_step(struct joint *joint, struct tap *tap);
 

@@ -56,8 +56,10 @@ static void say(struct host *from, uint64_t from_id, struct host *to, uint64_t t
     int64_t len = (int64_t)strlen(text);
 
     CHECK(host_recv(to, to_id, buffer, sizeof buffer) == HOST_EAGAIN);
+    CHECK(host_ready(to, to_id) == HOST_READY_WRITE && host_recv_len(to, to_id) == 0);
     CHECK(host_send(from, from_id, (const uint8_t *)text, (size_t)len) == len);
     turns();
+    CHECK(host_ready(to, to_id) == (HOST_READY_READ | HOST_READY_WRITE) && host_recv_len(to, to_id) == len);
     CHECK(host_recv(to, to_id, buffer, sizeof buffer) == len);
     CHECK(memcmp(buffer, text, (size_t)len) == 0);
 }
@@ -132,6 +134,7 @@ static void connection(int64_t room)
     uint8_t buffer[1];
     int64_t accepted;
     uint64_t moment;
+    uint32_t bits;
 
     CHECK(host_bind(&b, listener, HOST_ADDR_ANY, 80) == 0);
     CHECK(host_sockname(&b, listener, &from) == 0 && from.addr == HOST_ADDR_ANY && from.port == 80);
@@ -142,6 +145,7 @@ static void connection(int64_t room)
     turns();
     CHECK(host_state(&a, caller) == HOST_STATE_ESTABLISHED);
 
+    CHECK(host_next_ready(&b, 0, HOST_READY_ACCEPT | HOST_READY_READ, &bits) == (int64_t)listener && bits == HOST_READY_ACCEPT);
     accepted = host_accept(&b, listener, &from);
     CHECK(accepted > 0 && from.addr == HOST_ADDR(10, 0, 0, 1) && from.port == 49152);
     CHECK(host_peername(&a, caller, &from) == 0 && from.addr == peer && from.port == 80);
@@ -156,6 +160,7 @@ static void connection(int64_t room)
 
     CHECK(host_shutdown_write(&a, caller) == 0);
     turns();
+    CHECK(host_ready(&b, (uint64_t)accepted) == (HOST_READY_WRITE | HOST_READY_ENDED));
     CHECK(host_recv(&b, (uint64_t)accepted, buffer, sizeof buffer) == 0);
     CHECK(host_close(&b, (uint64_t)accepted) == 0);
     turns();

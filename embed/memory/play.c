@@ -208,6 +208,7 @@ static void deliver(struct host *to, const uint8_t *frame, size_t len)
 {
     struct host_endpoint pair[2];
     int64_t answer;
+    done(PLAIN(host_concerns(to, frame, len)));
     if (PLAIN(host_would_open(to, frame, len, pair)) == 1) {
         GROWING(answer, open_by(to, frame, len, pair), OF_SYN, HOST_DROP_NO_ROOM);
     } else {
@@ -248,12 +249,14 @@ static uint64_t caller, called, listener;
 static void open_connection(void)
 {
     struct host_endpoint peer;
+    uint32_t bits;
     listener = socket_of(b, HOST_KIND_TCP);
     done(PLAIN(host_bind(b, listener, HOST_ADDR_ANY, 80)));
     done(PLAIN(host_listen(b, listener, 1)));
     caller = socket_of(a, HOST_KIND_TCP);
     done(PLAIN(host_connect(a, now, 100, caller, addrs[1], 80)));
     turns();
+    want(PLAIN(host_next_ready(b, 0, HOST_READY_ACCEPT, &bits)) == (int64_t)listener && bits == HOST_READY_ACCEPT, "the listener isn't ready");
     called = done(PLAIN(host_accept(b, listener, &peer)));
     want(peer.addr == addrs[0] && peer.port == 49152, "another peer");
 }
@@ -262,8 +265,11 @@ static void say(struct host *from, uint64_t from_id, struct host *to, uint64_t t
 {
     uint8_t buffer[100];
     const size_t len = strlen(text);
+    want(PLAIN(host_send_room(from, from_id)) >= (int64_t)len, "it has no room");
     want(PLAIN(host_send(from, from_id, (const uint8_t *)text, len)) == (int64_t)len, "not all octets are taken");
     turns();
+    want(PLAIN(host_ready(to, to_id)) == (HOST_READY_READ | HOST_READY_WRITE), "it isn't ready");
+    want(PLAIN(host_recv_len(to, to_id)) == (int64_t)len, "another number of octets is told");
     want(PLAIN(host_recv(to, to_id, buffer, sizeof buffer)) == (int64_t)len, "not all octets are read");
     want(memcmp(buffer, text, len) == 0, "other octets are read");
 }

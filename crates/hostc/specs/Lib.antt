@@ -3,5 +3,6 @@ pub mod Numbers
 pub mod Types
 pub mod Calls
 pub mod Config
+pub mod Ready
 pub mod Setup
 pub mod Info

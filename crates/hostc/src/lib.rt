@@ -11,6 +11,7 @@ mod info;
 mod link;
 mod parts;
 mod questions;
+mod ready;
 mod setup;
 mod types;
 mod version;
