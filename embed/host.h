@@ -302,6 +302,12 @@ int64_t host_shutdown_write(struct host *host, uint64_t id);
  * HOST_EBADF. */
 int64_t host_close(struct host *host, uint64_t id);
 
+/* Takes the socket away and ends its connection at once: past SYN-SENT its peer is sent a reset, and what waits to go out or to be read is lost. So a
+ * program ends what host_close would leave to a silent peer. All else goes as by host_close. It answers 0.
+ *
+ * HOST_EBADF. */
+int64_t host_abort(struct host *host, uint64_t id);
+
 /* Gives a datagram to a UDP socket, for `port` of `addr`: answers `len`. It may be lost on its way, come twice, and come before an earlier one. A
  * socket that isn't bound is bound to a dynamic port.
  *
@@ -370,6 +376,7 @@ static inline int64_t host_info(struct host *host, uint64_t id, struct host_info
 {
     return host_info_into(host, id, (int64_t *)info + 1, info->size / 8 - 1);
 }
+
 /* Answers what a socket is ready for, the sum of the HOST_READY_ bits that hold. None of them waits for anything.
  *
  * HOST_EBADF. */

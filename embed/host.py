@@ -152,6 +152,7 @@ _CALLS = {
     "host_recv": [_U64, _OCTETS, _SIZE],
     "host_shutdown_write": [_U64],
     "host_close": [_U64],
+    "host_abort": [_U64],
     "host_sendto": [_U64, _U32, _U16, _OCTETS, _SIZE],
     "host_recvfrom": [_U64, _OCTETS, _SIZE, _ENDPOINT],
     "host_state": [_U64],
@@ -347,6 +348,10 @@ class Host:
     def close(self, id: int) -> None:
         """Takes a socket away. (`free` ends the host.)"""
         self._call("host_close", _id(id))
+
+    def abort(self, id: int) -> None:
+        """Takes a socket away and ends its connection at once: the peer is sent a reset."""
+        self._call("host_abort", _id(id))
 
     def sendto(self, id: int, peer: Tuple[Address, int], octets: Octets) -> int:
         """Gives a datagram to a UDP socket: its length."""

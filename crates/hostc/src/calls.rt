@@ -3,7 +3,7 @@
 ghost use Rattle.std.specs.Prelude.{◌≡◌, length, option_map, Option, Result};
 ghost use Rattle.std.specs.Result.{result_ok, result_err};
 ghost use Rattle.interface.specs.Ways.{is_routed};
-ghost use Rattle.sockets.specs.Calls.{bind_refusal, after_bind, listen_refusal, after_listen, accept_answer, after_accept, connect_refusal, after_connect, send_answer, after_send, recv_answer, recv_front, after_recv, shutdown_refusal, after_shutdown, close_refusal, after_close};
+ghost use Rattle.sockets.specs.Calls.{bind_refusal, after_bind, listen_refusal, after_listen, accept_answer, after_accept, connect_refusal, after_connect, send_answer, after_send, recv_answer, recv_front, after_recv, shutdown_refusal, after_shutdown, close_refusal, after_close, after_abort};
 ghost use Rattle.hostc.specs.Calls.{of_host, left_in, after_call, SocketCall};
 ghost use Rattle.hostc.specs.Numbers.{answered, done, numbered, received_count, kind_of};
 ghost use Rattle.hostc.specs.Types.{addr_of, endpoint_of, socket_of, end_of, written};
@@ -136,4 +136,13 @@ pub extern "C" fn host_close(alloc: Global, handle: &mut Handle, id: u64) -> i64
     ensures after { handle.new.host ≡ option_map (λ h. after_call (close_refusal h.sockets (socket_of id)) h (after_close h.sockets (socket_of id))) handle.old.host }
 {
     done(handle.ask(alloc, |host| host.close(SocketId(id))))
+}
+
+/// `Host::abort`. Answers 0. EBADF where the handle holds no host; else as `Host::abort`.
+#[unsafe(no_mangle)]
+pub extern "C" fn host_abort(alloc: Global, handle: &mut Handle, id: u64) -> i64
+    ensures answer { result ≡ answered (of_host (λ h. done (close_refusal h.sockets (socket_of id))) handle.old.host) }
+    ensures after { handle.new.host ≡ option_map (λ h. after_call (close_refusal h.sockets (socket_of id)) h (after_abort h.sockets (socket_of id))) handle.old.host }
+{
+    done(handle.ask(alloc, |host| host.abort(SocketId(id))))
 }

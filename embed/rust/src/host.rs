@@ -174,6 +174,11 @@ impl Host {
         done(unsafe { c::host_close(&mut self.0, id.0) })
     }
 
+    /// Takes a socket away and ends its connection at once: past SYN-SENT its peer is sent a reset, and what waits to go out or to be read is lost.
+    pub fn abort(&mut self, id: SocketId) -> Result<(), Error> {
+        done(unsafe { c::host_abort(&mut self.0, id.0) })
+    }
+
     /// Gives a datagram to a UDP socket: its length.
     pub fn sendto(&mut self, id: SocketId, peer: SocketAddrV4, octets: &[u8]) -> Result<usize, Error> {
         count(unsafe { c::host_sendto(&mut self.0, id.0, addr_of(peer), peer.port(), octets.as_ptr(), octets.len()) })
