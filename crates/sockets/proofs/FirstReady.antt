@@ -87,7 +87,7 @@ entered h id ready is =
         record { e = e; found = found; at = eqb-true e.id.0 id.0 parts.0; socket = parts.1; is = ap (λ (r : Role). ready_of h id r) same ∙ t.is }
 
 -- an id is its number
-same_id : (a b : SocketId) → a.0 ≡ b.0 → a ≡ b
+pub same_id : (a b : SocketId) → a.0 ≡ b.0 → a ≡ b
 same_id a b same = ap (λ (n : ℕ). let id : SocketId = record { 0 = n } in id) same
 
 -- it doesn't pass only where none of what holds of it is asked for

@@ -61,6 +61,7 @@ pub mod EachOnce
 pub mod EventsOnce
 pub mod ByIds
 pub mod FirstReady
+pub mod OthersReady
 pub mod Hopless
 pub mod HopEnds
 pub mod HopOver

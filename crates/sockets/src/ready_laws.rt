@@ -18,13 +18,16 @@ ghost use Rattle.sockets.specs.declared.ready.Ready.{Ready};
 ghost use Rattle.sockets.specs.declared.refusal.Refusal.{Refusal};
 ghost use Rattle.sockets.specs.declared.role.Role.TheVariants.{Connected, Datagrams};
 ghost use Rattle.sockets.specs.Entries.{has_socket, is_between, is_listening_at};
-ghost use Rattle.sockets.specs.Arrival.{local_end, pair_opened, peer_end};
+ghost use Rattle.sockets.specs.Arrival.{arrival, local_end, pair_opened, peer_end};
+ghost use Rattle.sockets.specs.Causes.{after_arrival};
+ghost use Rattle.sockets.specs.Unreachable.{after_unreachable};
+ghost use Rattle.clock.specs.declared.moment.Moment.{Moment};
 ghost use Rattle.sockets.specs.declared.state.SocketState.{SocketState};
 ghost use Rattle.sockets.specs.declared.state.SocketState.TheVariants.{Stream};
 ghost use Rattle.sockets.specs.SocketsView.{SocketsView, role_of};
 ghost use Rattle.sockets.specs.Order.{IsOrdered};
 ghost use Rattle.sockets.specs.Calls.{accept_answer, connect_refusal, reach_refusal, recv_answer, send_answer, shutdown_refusal, state_answer};
-ghost use Rattle.sockets.specs.Datagrams.{reception, recvfrom_answer, sending_end, sendto_answer};
+ghost use Rattle.sockets.specs.Datagrams.{after_reception, reception, recvfrom_answer, sending_end, sendto_answer};
 ghost use Rattle.sockets.specs.Ready.{IsNoError, is_any_of, is_end, is_octets, is_opening_state, next_ready, octets_from, octets_in, readiness, recv_len, send_room, socket_at_port, socket_between, socket_of_segment, taken_by};
 
 /// What `ready` answers of a socket foretells its calls, both ways: `accept` holds exactly where a call of that name would answer a connection, `read` where a `recv` or a `recvfrom`
@@ -79,4 +82,12 @@ pub fn arrivals_find_their_socket()
     ensures opens { (h : SocketsView) (source : Addr) (s : Segment) (pair : Pair) → pair_opened h source s ≡ Some pair → (e : Entry) × (find (is_listening_at s.destination) h.entries ≡ Some e) × (socket_of_segment h source s ≡ Some e.id) }
     ensures error { (h : SocketsView) (source : Addr) (s : Segment) (id : SocketId) → socket_between h (local_end h s) (peer_end source s) ≡ Some id → socket_of_segment h source s ≡ Some id }
     ensures datagram { (h : SocketsView) (d : UserDatagram) → (socket_at_port h d.destination ≡ None) ↔ (reception h d ≡ Reception.NoSocket) }
+{}
+
+/// What arrives leaves each socket but the one that it is for as ready as it was, and where it is for none all of them: a segment, in a table whose ids ascend, a hard error about one, and a datagram. So who looks at that
+/// one socket alone misses nothing.
+pub fn arrivals_leave_the_others()
+    ensures segment { (h : SocketsView) (now : Moment) (isn : ℕ) (source : Addr) (s : Segment) (id : SocketId) → IsOrdered h → (socket_of_segment h source s ≡ Some id → ⊥) → readiness (after_arrival h (arrival h now isn source s)) id ≡ readiness h id }
+    ensures error { (h : SocketsView) (local peer : Endpoint) (number : ℕ) (id : SocketId) → IsOrdered h → (socket_between h local peer ≡ Some id → ⊥) → readiness (after_unreachable h local peer number) id ≡ readiness h id }
+    ensures datagram { (h : SocketsView) (source : Addr) (d : UserDatagram) (id : SocketId) → (socket_at_port h d.destination ≡ Some id → ⊥) → readiness (after_reception h source d) id ≡ readiness h id }
 {}
