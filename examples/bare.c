@@ -201,7 +201,7 @@ __attribute__((noinline)) static size_t depth(void)
 /* ---- Two hosts -------------------------------------------------------------------------------------------------------------------------- */
 
 /* The deepest that the making of a host may go, its end, and any other call. */
-#define MAKING_DEPTH 500000
+#define MAKING_DEPTH 510000
 #define ENDING_DEPTH 130000
 #define CALL_DEPTH 6144
 

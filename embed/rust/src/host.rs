@@ -55,6 +55,12 @@ const STATES: [State; 12] = [
     State::Datagram,
 ];
 
+impl State {
+    pub(crate) fn of(number: i64) -> Option<State> {
+        STATES.get(usize::try_from(number).ok()?).copied()
+    }
+}
+
 /// Both ends of a connection, the one with the lesser address first, of equal ones that with the lesser port.
 pub type Pair = [SocketAddrV4; 2];
 
@@ -93,7 +99,7 @@ impl<'a> Config<'a> {
 }
 
 /// A host on a link. It gives back what it holds when it is dropped. It may move to another thread; hosts share nothing.
-pub struct Host(c::Host);
+pub struct Host(pub(crate) c::Host);
 
 // A handle is used by one thread at a time, and it owns what it leads to.
 unsafe impl Send for Host {}
@@ -193,8 +199,8 @@ impl Host {
 
     /// The state of a socket.
     pub fn state(&mut self, id: SocketId) -> Result<State, Error> {
-        let number = count(unsafe { c::host_state(&mut self.0, id.0) })?;
-        STATES.get(number).copied().ok_or(Error::EINVAL)
+        let number = Error::check(unsafe { c::host_state(&mut self.0, id.0) })?;
+        State::of(number as i64).ok_or(Error::EINVAL)
     }
 
     /// Where a socket is: our end of its connection, else where it is bound, else 0.0.0.0:0.

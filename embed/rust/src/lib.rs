@@ -20,11 +20,13 @@ mod c;
 mod device;
 mod error;
 mod host;
+mod info;
 mod ready;
 
 pub use device::{Device, Heard};
 pub use error::{DropCause, Error};
 pub use host::{Config, Host, Kind, Pair, Route, SocketId, State};
+pub use info::Info;
 pub use ready::Ready;
 
 /// The most octets of a frame, in and out.

@@ -170,3 +170,15 @@ fn sockets_tell_what_they_are_ready_for() {
     assert_eq!(host.send_room(datagrams), Ok(65_507));
     assert_eq!(host.concerns(&[0; 60]), None);
 }
+
+#[test]
+fn a_connection_tells_of_itself() {
+    let mut host = host();
+    let stream = host.socket(Kind::Tcp).unwrap();
+    assert_eq!(host.info(stream), Err(Error::ENOTCONN));
+    assert_eq!(host.info(SocketId(9)), Err(Error::EBADF));
+    host.connect(0, 9, stream, PEER).unwrap();
+    let info = host.info(stream).unwrap();
+    assert_eq!((info.state, info.held, info.readable, info.error), (State::SynSent, 0, 0, None));
+    assert_eq!((info.rto, info.srtt_8, info.ends), (1000, None, None));
+}
