@@ -90,20 +90,27 @@ octets_len (answer.Octets octets) = vec_len octets
 octets_len (answer.Datagram octets from) = vec_len octets
 octets_len _ = 0
 
--- a host on which nothing happened, at the moment 0
-abbrev pub fresh_station : ConfigView → Station
-fresh_station config = record { host = new_host config; clock = record { 0 = 0 } }
+-- a host, at the moment 0
+abbrev pub station_with : HostView → Station
+station_with h = record { host = h; clock = record { 0 = 0 } }
 
 -- two such hosts on one link, and no frames
-abbrev pub fresh_network : ConfigView → ConfigView → ℕ → NetworkView
-fresh_network a b limit = record {
+abbrev pub network_with : HostView → HostView → ℕ → NetworkView
+network_with a b limit = record {
   limit = limit;
-  a = fresh_station a;
-  b = fresh_station b;
+  a = station_with a;
+  b = station_with b;
   frames = [];
   openings = [];
   written = [];
 }
+
+-- where nothing happened to either
+abbrev pub fresh_network : ConfigView → ConfigView → ℕ → NetworkView
+fresh_network a b limit = network_with (new_host a) (new_host b) limit
+
+abbrev pub world_with : HostView → HostView → ℕ → WorldView
+world_with a b limit = record { network = network_with a b limit; trace = [] }
 
 abbrev pub fresh_world : ConfigView → ConfigView → ℕ → WorldView
 fresh_world a b limit = record { network = fresh_network a b limit; trace = [] }

@@ -15,7 +15,7 @@ mod station;
 
 use crate::event::{Answer, Event, Happening, Opening, Unfair, WorldFault};
 use crate::room::Room;
-use host::Config;
+use host::{Config, Host, Refusal};
 use network::Network;
 use std::alloc::{AllocError, Global};
 use std::marker::Model;
@@ -57,7 +57,7 @@ impl World {
     ghost use Rattle.wire_sim.specs.Runs.{unfair, IsStep, IsReached, SameEvent, IsOutcome};
     ghost use Rattle.wire_sim.specs.Trace.{StreamLaw};
     ghost use Rattle.wire_sim.specs.WorldRoom.{HasRoomFor, HasRoom, IsPlain, KeepsRoom, event_octets};
-    ghost use Rattle.wire_sim.specs.WorldView.{SameAnswer, fresh_world};
+    ghost use Rattle.wire_sim.specs.WorldView.{SameAnswer, fresh_world, world_with};
 
     /// Two hosts on one link that have heard nothing of each other, no frames, and nothing happened. SameAddress where both have one address or one MAC;
     /// otherwise NoMemory where there is no memory for a host.
@@ -81,14 +81,33 @@ impl World {
         if a.addr() == b.addr() || a.mac() == b.mac() {
             return Err(WorldFault::SameAddress);
         }
-        let Ok(network) = Network::new(alloc, a, b, limit) else {
-            return Err(WorldFault::NoMemory);
-        };
-        Ok(World {
-            alloc,
-            network,
-            trace: Vec::new(alloc),
-        })
+        let a = Host::new(alloc, a);
+        let b = Host::new(alloc, b);
+        World::of(alloc, a, b, limit)
+    }
+
+    /// The world of these two hosts. NoMemory exactly where memory was refused one.
+    fn of(
+        alloc: Global,
+        a: Result<Host, Refusal>,
+        b: Result<Host, Refusal>,
+        limit: u64,
+    ) -> Result<World, WorldFault>
+        requires { IfOk a (λ first. IfOk b (λ second. IsReached limit (world_with first second limit))) }
+        ensures had { IsOk result ↔ (IsOk a × IsOk b) }
+        ensures seen { IfOk a (λ first. IfOk b (λ second. IfOk result (λ world. world.seen ≡ world_with first second limit))) }
+        ensures fault { IfErr result (λ fault. fault ≡ WorldFault.NoMemory) }
+        ensures reached { IfOk result (λ world. IsReached limit world.seen) }
+        ensures lawful { IfOk result (λ world. StreamLaw world.seen.trace world.seen.network.openings) }
+    {
+        match (a, b) {
+            (Ok(a), Ok(b)) => Ok(World {
+                alloc,
+                network: Network::new(alloc, a, b, limit),
+                trace: Vec::new(alloc),
+            }),
+            _ => Err(WorldFault::NoMemory),
+        }
     }
 
     /// Makes room for so many events more in each of the world's lists: as many plain ones then can't be refused for want of memory. NoMemory

@@ -78,7 +78,8 @@ impl Ledger {
     {
         let len = self.openings.len();
         let more = more.max(self.openings.capacity()).max(FIRST_OPENINGS);
-        let room = len.checked_add(more).ok_or(AllocError)?;
+        // More than there can be is more than there is memory for, so the growth itself refuses it.
+        let room = len.saturating_add(more);
         self.pairs.reserve(room)?;
         self.connections.reserve(room)?;
         self.sockets.reserve(room)?;

@@ -1,6 +1,6 @@
 //! Two hosts, the frames that they emitted, and the openings of their connections.
 
-ghost use Rattle.std.specs.Prelude.{◌≡◌, ℕ, ◌<◌, ◌≤◌, ◌+◌, ◌^◌, true, None, take, vec_len, vec_capacity, slice_get, slice_index_or, option_map, option_and_then, OnOk, IsOk, IfOk};
+ghost use Rattle.std.specs.Prelude.{◌≡◌, ℕ, ◌<◌, ◌≤◌, ◌+◌, ◌^◌, true, None, take, vec_len, vec_capacity, slice_get, slice_index_or, option_map, option_and_then, OnOk, IsOk};
 ghost use Rattle.std.specs.Result.{result_err};
 
 mod fairness;
@@ -13,7 +13,7 @@ use crate::room::filled;
 use clock::Moment;
 use ether::FRAME_MAX;
 use frames::pair_in;
-use host::{Config, Refusal, SocketId};
+use host::{Host, SocketId};
 use ipv4::{Endpoint, Pair};
 use sides::Side;
 use std::alloc::{AllocError, Global};
@@ -36,22 +36,22 @@ impl Network {
     ghost use Rattle.wire_sim.specs.Runs.{IsNumbered, IsNumberedCall};
     ghost use Rattle.frames.specs.Pairs.{pair_in};
     ghost use Rattle.wire_sim.specs.Openings.{epoch_connected, opened_by_connect};
-    ghost use Rattle.wire_sim.specs.WorldView.{network_view, station_of, clock_of, host_of, table_of, written_at, fresh_network, octets_len};
+    ghost use Rattle.wire_sim.specs.WorldView.{network_view, station_of, clock_of, host_of, table_of, written_at, network_with, octets_len};
     ghost use Rattle.wire_sim.specs.Fairness.{unfair_counted};
     ghost use Rattle.wire_sim.specs.WorldRoom.{network_room, KeepsNetworkRoom};
     ghost use Rattle.host.specs.Sound.{IsSoundHost};
 
-    /// Two hosts with no frames between them; a refusal where there is no memory for a host.
-    pub(super) fn new(alloc: Global, a: Config, b: Config, limit: u64) -> Result<Network, Refusal>
-        ensures { IfOk result (λ network. network_view network ≡ fresh_network a b limit) }
+    /// These two hosts, with no frames between them.
+    pub(super) fn new(alloc: Global, a: Host, b: Host, limit: u64) -> Network
+        ensures { network_view result ≡ network_with a b limit }
     {
-        Ok(Network {
+        Network {
             limit,
-            a: Station::new(alloc, a)?,
-            b: Station::new(alloc, b)?,
+            a: Station::new(a),
+            b: Station::new(b),
             bag: Vec::new(alloc),
             ledger: Ledger::new(alloc),
-        })
+        }
     }
 
     /// The openings, in order.

@@ -1,6 +1,6 @@
 //! A host with its clock.
 
-ghost use Rattle.std.specs.Prelude.{◌≡◌, ◌<◌, ◌≤◌, IfOk, IfSome, OnSome, IfNone, vec_len, MatchResult};
+ghost use Rattle.std.specs.Prelude.{◌≡◌, ◌<◌, ◌≤◌, IfSome, OnSome, IfNone, vec_len, MatchResult};
 ghost use Rattle.wire_sim.specs.WorldView.{octets_len};
 ghost use Rattle.std.specs.Result.{ForOk};
 ghost use Rattle.sockets.specs.Calls.{recv_answer};
@@ -11,9 +11,8 @@ ghost use Rattle.wire_sim.specs.Steps.{MeetsReceived, MeetsReceivedFrom};
 use crate::event::{Answer, Call};
 use clock::Moment;
 use ether::FRAME_MAX;
-use host::{Config, Host, Refusal, SocketId};
+use host::{Host, Refusal, SocketId};
 use ipv4::{Endpoint, Pair};
-use std::alloc::Global;
 use tcp_segment::Seq;
 use tcp_state::Received;
 
@@ -27,7 +26,7 @@ pub(super) struct Station {
 impl Station {
     ghost use Rattle.sockets.specs.SocketsView.{holder_id};
     ghost use Rattle.host.specs.Emission.{emission_len, emission_front, after_emission};
-    ghost use Rattle.wire_sim.specs.WorldView.{fresh_station};
+    ghost use Rattle.wire_sim.specs.WorldView.{station_with};
     ghost use Rattle.wire_sim.specs.Steps.{station_after_tick, call_recv_len, HostMeetsCall, MeetsFrame};
     ghost use Rattle.sockets.specs.Pairs.{socket_pair};
     ghost use Rattle.host.specs.Arrival.{foreseen};
@@ -35,14 +34,14 @@ impl Station {
     ghost use Rattle.host.specs.Sound.{IsSoundHost};
     ghost use Rattle.wire_sim.specs.Runs.{IsNumberedCall};
 
-    /// A host whose clock stands at 0; a refusal where there is no memory for the host.
-    pub(super) fn new(alloc: Global, config: Config) -> Result<Station, Refusal>
-        ensures { IfOk result (λ station. station ≡ fresh_station config) }
+    /// This host, with a clock that stands at 0.
+    pub(super) fn new(host: Host) -> Station
+        ensures { result ≡ station_with host }
     {
-        Ok(Station {
-            host: Host::new(alloc, config)?,
+        Station {
+            host,
             clock: Moment(0),
-        })
+        }
     }
 
     /// The greatest moment of its ticks.
