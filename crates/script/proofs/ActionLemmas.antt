@@ -20,6 +20,7 @@ four_say_nothing keyword.RecvFrom a b c d rest = refl
 four_say_nothing keyword.CountFrom a b c d rest = refl
 four_say_nothing keyword.Shutdown a b c d rest = refl
 four_say_nothing keyword.Close a b c d rest = refl
+four_say_nothing keyword.Abort a b c d rest = refl
 four_say_nothing keyword.State a b c d rest = refl
 four_say_nothing keyword.Tick a b c d rest = refl
 four_say_nothing keyword.Emit a b c d rest = refl

@@ -11,7 +11,7 @@ use Rattle.script.specs.Keywords.{keyword_of}
 use Rattle.script.specs.declared.action.Keyword.{Keyword}
 use Rattle.script.specs.declared.action.Keyword.TheVariants as keyword
 use Rattle.script.specs.declared.action.Action.{Action}
-use Rattle.script.specs.declared.action.Action.TheVariants.{Socket, Bind, Listen, Accept, Connect, Send, Fill, Recv, Count, SendTo, FillTo, RecvFrom, CountFrom, Shutdown, Close, State, Tick, Emit, Deliver}
+use Rattle.script.specs.declared.action.Action.TheVariants.{Socket, Bind, Listen, Accept, Connect, Send, Fill, Recv, Count, SendTo, FillTo, RecvFrom, CountFrom, Shutdown, Close, Abort, State, Tick, Emit, Deliver}
 
 -- the kind of a socket
 abbrev pub kind_of : List ℕ → Option Kind
@@ -69,6 +69,7 @@ said_by keyword.RecvFrom (id ∷ most ∷ []) = together RecvFrom (id_of id) (oc
 said_by keyword.CountFrom (id ∷ most ∷ []) = together CountFrom (id_of id) (octets_of most)
 said_by keyword.Shutdown (id ∷ []) = option_map Shutdown (id_of id)
 said_by keyword.Close (id ∷ []) = option_map Close (id_of id)
+said_by keyword.Abort (id ∷ []) = option_map Abort (id_of id)
 said_by keyword.State (id ∷ []) = option_map State (id_of id)
 said_by keyword.Tick (moment ∷ []) = option_map Tick (moment_of moment)
 said_by keyword.Emit [] = Some Emit

@@ -87,6 +87,10 @@ pub enum Action<'a> {
     Close {
         id: SocketId,
     },
+    /// Abort a socket: its id is gone, and the peer of its connection is owed a reset.
+    Abort {
+        id: SocketId,
+    },
     /// Ask for a socket's state.
     State {
         id: SocketId,
@@ -135,6 +139,8 @@ pub enum Keyword {
     Shutdown,
     /// `close`
     Close,
+    /// `abort`
+    Abort,
     /// `state`
     State,
     /// `tick`
@@ -166,6 +172,7 @@ impl Keyword {
             b"countfrom" => Keyword::CountFrom,
             b"shutdown" => Keyword::Shutdown,
             b"close" => Keyword::Close,
+            b"abort" => Keyword::Abort,
             b"state" => Keyword::State,
             b"tick" => Keyword::Tick,
             b"emit" => Keyword::Emit,
@@ -220,6 +227,9 @@ fn with_one<'a>(keyword: Keyword, word: &'a [u8]) -> Option<Action<'a>>
             id: socket_id(word)?,
         }),
         Keyword::Close => Some(Action::Close {
+            id: socket_id(word)?,
+        }),
+        Keyword::Abort => Some(Action::Abort {
             id: socket_id(word)?,
         }),
         Keyword::State => Some(Action::State {

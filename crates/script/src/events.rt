@@ -85,6 +85,7 @@ pub fn event(alloc: Global, side: Side, action: &Action<'_>) -> Result<Event, Al
         )),
         Action::Shutdown { id } => Ok(Event::Call(side, Call::Shutdown { id: *id })),
         Action::Close { id } => Ok(Event::Call(side, Call::Close { id: *id })),
+        Action::Abort { id } => Ok(Event::Call(side, Call::Abort { id: *id })),
         Action::State { id } => Ok(Event::Call(side, Call::State { id: *id })),
     }
 }

@@ -1,5 +1,6 @@
 //! Whole scripts, frames, captures and copies, from memory to memory. The expected texts are those that the documents of the project give.
 
+mod aborts;
 mod backlog;
 mod captures;
 mod closing;
@@ -68,7 +69,8 @@ pass 0 -> a 1 b 0
 
 /// All transcripts. Each is a list of parts, in whose lines an arrow parts a script's line from what it prints; a line without
 /// one prints nothing.
-const TRANSCRIPTS: [&[&[&str]]; 15] = [
+const TRANSCRIPTS: [&[&[&str]]; 16] = [
+    aborts::TRANSCRIPTS,
     backlog::TRANSCRIPTS,
     closing::TRANSCRIPTS,
     datagrams::TRANSCRIPTS,

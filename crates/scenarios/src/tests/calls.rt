@@ -1,6 +1,6 @@
 //! Sockets, and the connections that they open and close.
 
-use super::octets::ABORT;
+use super::octets::{ABORT, ABORT_BEHIND_OCTETS};
 use super::stations::Side::{A, B};
 use super::stations::{
     Act, CLIENT, FRESH, LISTENING, ONE, PAIR, SERVER, Scenario, Step, THREE, TWO,
@@ -58,6 +58,45 @@ const LISTENER_CLOSED: &[Step] = &[
     (A, Act::Recv(ONE, Err(Refusal::ECONNRESET))),
 ];
 
+/// B aborts a connection with octets that A has and that aren't acknowledged: one reset goes out, behind them, and nothing else.
+const ABORTED: &[Step] = &[
+    (B, Act::Accept(ONE, TWO, CLIENT)),
+    (B, Act::Send(TWO, b"data", Ok(4))),
+    (B, Act::Pass(7)),
+    (B, Act::Abort(TWO, Ok(()))),
+    (B, Act::Abort(TWO, Err(Refusal::EBADF))),
+    (B, Act::State(TWO, Err(Refusal::EBADF))),
+    (B, Act::Sends(ABORT_BEHIND_OCTETS)),
+    (B, Act::Emit(None)),
+    (B, Act::Holder(PAIR, None)),
+    (B, Act::Arrive(0, Ok(()))),
+    (A, Act::Recv(ONE, Err(Refusal::ECONNRESET))),
+    (A, Act::Abort(ONE, Ok(()))),
+    (A, Act::Emit(None)),
+    (B, Act::State(ONE, Ok(Stream(State::Listen)))),
+];
+
+/// The same with A's octets unread at B, and none on their way.
+const ABORTED_UNREAD: &[Step] = &[
+    (B, Act::Accept(ONE, TWO, CLIENT)),
+    (A, Act::Send(ONE, b"data", Ok(4))),
+    (A, Act::Pass(7)),
+    (B, Act::Abort(TWO, Ok(()))),
+    (B, Act::Sends(ABORT)),
+    (B, Act::Emit(None)),
+    (B, Act::Arrive(0, Ok(()))),
+    (A, Act::Recv(ONE, Err(Refusal::ECONNRESET))),
+];
+
+/// The same with the listener, at which the connection waits.
+const LISTENER_ABORTED: &[Step] = &[
+    (B, Act::Abort(ONE, Ok(()))),
+    (B, Act::Sends(ABORT)),
+    (B, Act::Emit(None)),
+    (B, Act::Arrive(0, Ok(()))),
+    (A, Act::Recv(ONE, Err(Refusal::ECONNRESET))),
+];
+
 pub(super) const SCENARIOS: &[Scenario] = &[
     Scenario {
         name: "both sides close",
@@ -68,5 +107,20 @@ pub(super) const SCENARIOS: &[Scenario] = &[
         name: "a closed listener aborts what waits",
         hosts: FRESH,
         parts: &[LISTENING, CONNECTED, LISTENER_CLOSED],
+    },
+    Scenario {
+        name: "an abort resets",
+        hosts: FRESH,
+        parts: &[LISTENING, CONNECTED, ABORTED],
+    },
+    Scenario {
+        name: "an abort resets, whatever is unread",
+        hosts: FRESH,
+        parts: &[LISTENING, CONNECTED, ABORTED_UNREAD],
+    },
+    Scenario {
+        name: "an aborted listener aborts what waits",
+        hosts: FRESH,
+        parts: &[LISTENING, CONNECTED, LISTENER_ABORTED],
     },
 ];

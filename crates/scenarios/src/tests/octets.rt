@@ -100,6 +100,12 @@ pub(super) const ABORT: &[u8] = b"\x02\0\0\0\0\x01\x02\0\0\0\0\x02\x08\0\
     \0\x50\xc0\0\0\0\0\x08\0\0\0\0\x50\x04\0\0\xdb\x85\0\0\
     \0\0\0\0\0\0";
 
+/// The same where four octets went out before it.
+pub(super) const ABORT_BEHIND_OCTETS: &[u8] = b"\x02\0\0\0\0\x01\x02\0\0\0\0\x02\x08\0\
+    \x45\0\0\x28\0\0\x40\0\x40\x06\x26\xce\x0a\0\0\x02\x0a\0\0\x01\
+    \0\x50\xc0\0\0\0\0\x0c\0\0\0\0\x50\x04\0\0\xdb\x81\0\0\
+    \0\0\0\0\0\0";
+
 /// A asks for the MAC of the gateway 10.0.0.254.
 pub(super) const GATEWAY_ASKED: &[u8] = b"\xff\xff\xff\xff\xff\xff\x02\0\0\0\0\x01\x08\x06\
     \0\x01\x08\0\x06\x04\0\x01\x02\0\0\0\0\x01\x0a\0\0\x01\0\0\0\0\0\0\x0a\0\0\xfe\

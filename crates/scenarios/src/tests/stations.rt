@@ -95,6 +95,8 @@ pub(super) enum Act {
     RecvFrom(SocketId, &'static [u8], Result<Endpoint, Refusal>),
     /// Closes a socket.
     Close(SocketId),
+    /// Aborts a socket, which is refused or not.
+    Abort(SocketId, Result<(), Refusal>),
     /// The state of a socket.
     State(SocketId, Result<SocketState, Refusal>),
     /// The error and the octets that can be read, as what is told of a socket's connection has them.
@@ -347,6 +349,10 @@ impl Station {
         self.host.close(id) == Ok(())
     }
 
+    fn aborts(&mut self, id: SocketId, want: Result<(), Refusal>) -> bool {
+        self.host.abort(id) == want
+    }
+
     fn has_state(&self, id: SocketId, want: Result<SocketState, Refusal>) -> bool {
         self.host.state(id) == want
     }
@@ -442,6 +448,7 @@ fn is_answered(station: &mut Station, other: &mut Station, act: Act) -> bool {
         Act::SendTo(id, peer, octets, want) => station.sends_to(id, peer, octets, want),
         Act::RecvFrom(id, octets, want) => station.receives(id, octets, want),
         Act::Close(id) => station.closes(id),
+        Act::Abort(id, want) => station.aborts(id, want),
         Act::State(id, want) => station.has_state(id, want),
         Act::Info(id, want) => station.has_info(id, want),
         Act::SockName(id, want) => station.has_name(id, want),

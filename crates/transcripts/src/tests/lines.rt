@@ -61,6 +61,8 @@ const BAD: &str = " \n\
     a shutdown 1 1\n\
     a close\n\
     a close 1 1\n\
+    a abort\n\
+    a abort 1 1\n\
     a sendto 1 5001\n\
     a sendto 1 65536 hello\n\
     a sendto 1 5001 two words\n\

@@ -23,6 +23,7 @@ a recvfrom 1 0 -> E1 EBADF
 a countfrom 1 0 -> E1 EBADF
 a shutdown 1 -> E1 EBADF
 a close 1 -> E1 EBADF
+a abort 1 -> E1 EBADF
 a state 1 -> E1 EBADF
 ";
 
@@ -39,6 +40,7 @@ b send 2 x -> E1 EBADF
 b recv 2 1 -> E1 EBADF
 b shutdown 2 -> E1 EBADF
 b close 2 -> E1 EBADF
+b abort 2 -> E1 EBADF
 b accept 1 -> id 2 10.0.0.1 49152
 b state 2 -> ESTABLISHED
 ";

@@ -3,7 +3,7 @@
 use super::{ACCEPTED, OPENING, UNSCALED};
 
 /// What a is answered where an error is reported to it, and that nothing is left to go out.
-const TOLD_RESET: &str = "a state 1 -> CLOSED
+pub(super) const TOLD_RESET: &str = "a state 1 -> CLOSED
 a recv 1 100 -> E10 ECONNRESET
 a count 1 100 -> E10 ECONNRESET
 a send 1 x -> E10 ECONNRESET
@@ -32,7 +32,7 @@ a state 1 -> CLOSED
 ";
 
 /// What it is answered where both sides were closed.
-const TOLD_NOTHING: &str = "a state 1 -> CLOSED
+pub(super) const TOLD_NOTHING: &str = "a state 1 -> CLOSED
 a recv 1 100 -> end
 a count 1 100 -> end
 a send 1 x -> E12 EPIPE
@@ -47,7 +47,7 @@ a state 1 -> CLOSED
 ";
 
 /// a's octets lie unread at b, so that b's close is a reset. b acknowledges them 200 ms after they came.
-const UNREAD: &str = "a send 1 hello -> sent 5
+pub(super) const UNREAD: &str = "a send 1 hello -> sent 5
 pass 0 -> a 1 b 0
 b tick 200 -> ok
 pass 0 -> a 0 b 1
@@ -61,7 +61,7 @@ b emit -> none
 ";
 
 /// b's octets lie unread at a.
-const ALSO_UNREAD: &str = "b send 2 world -> sent 5
+pub(super) const ALSO_UNREAD: &str = "b send 2 world -> sent 5
 pass 0 -> a 0 b 1
 a tick 200 -> ok
 pass 0 -> a 1 b 0
@@ -180,13 +180,13 @@ b emit -> frame 8 60
 a deliver 8 0 -> taken
 ";
 
-const FIN_WAIT_2: &str = "a shutdown 1 -> ok
+pub(super) const FIN_WAIT_2: &str = "a shutdown 1 -> ok
 pass 0 -> a 1 b 1
 a state 1 -> FIN-WAIT-2
 b state 2 -> CLOSE-WAIT
 ";
 
-const CLOSE_WAIT: &str = "b shutdown 2 -> ok
+pub(super) const CLOSE_WAIT: &str = "b shutdown 2 -> ok
 pass 0 -> a 0 b 1
 pass 0 -> a 1 b 0
 a state 1 -> CLOSE-WAIT
