@@ -20,6 +20,7 @@ mod names;
 mod octets;
 mod opening;
 mod queues;
+mod ready;
 mod resets;
 mod scale;
 mod segments;
