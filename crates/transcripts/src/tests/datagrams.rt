@@ -1,6 +1,6 @@
 //! UDP sockets: datagrams that go whole and in fragments, what becomes of those that nobody waits for, and how long each thing waits.
 
-use super::{ACCEPTED, OPENING};
+use super::{ACCEPTED, OPENING, UNSCALED};
 
 /// b waits for datagrams at port 5001, and a has a socket.
 const SOCKETS: &str = "b socket udp -> id 1
@@ -56,6 +56,55 @@ const LAST_ALONE: &str = "b deliver 4 0 -> taken
 b tick 59999 -> ok
 b emit -> none
 b tick 60000 -> ok
+b emit -> none
+";
+
+/// Five datagrams go out in three fragments each.
+const FIVE_IN_FRAGMENTS: &str = "a fillto 1 5001 3000 -> sent 3000
+a fillto 1 5001 3000 -> sent 3000
+a fillto 1 5001 3000 -> sent 3000
+a fillto 1 5001 3000 -> sent 3000
+a fillto 1 5001 3000 -> sent 3000
+pass 0 -> a 1 b 1
+a emit -> frame 2 1514
+a emit -> frame 3 1514
+a emit -> frame 4 82
+a emit -> frame 5 1514
+a emit -> frame 6 1514
+a emit -> frame 7 82
+a emit -> frame 8 1514
+a emit -> frame 9 1514
+a emit -> frame 10 82
+a emit -> frame 11 1514
+a emit -> frame 12 1514
+a emit -> frame 13 82
+a emit -> frame 14 1514
+a emit -> frame 15 1514
+a emit -> frame 16 82
+a emit -> none
+";
+
+/// The first fragments of four come, and that of the fifth finds no place, until one of the four is whole. After a minute b tells a of the three others.
+const FIFTH_WAITS: &str = "b deliver 2 0 -> taken
+b deliver 5 0 -> taken
+b deliver 8 0 -> taken
+b deliver 11 0 -> taken
+b deliver 14 0 -> drop F9
+b countfrom 1 4000 -> E8 EAGAIN
+b deliver 4 0 -> taken
+b deliver 3 0 -> taken
+b deliver 14 0 -> taken
+b countfrom 1 4000 -> octets 3000 from 10.0.0.1 49152
+b countfrom 1 4000 -> E8 EAGAIN
+b deliver 16 0 -> taken
+b deliver 15 0 -> taken
+b countfrom 1 4000 -> octets 3000 from 10.0.0.1 49152
+b tick 59999 -> ok
+b emit -> none
+b tick 60000 -> ok
+b emit -> frame 17 70
+b emit -> frame 18 70
+b emit -> frame 19 70
 b emit -> none
 ";
 
@@ -303,6 +352,7 @@ pub const TRANSCRIPTS: &[&[&str]] = &[
     &[SOCKETS, IN_FRAGMENTS, TURNED_ROUND, COME_AGAIN],
     &[SOCKETS, IN_FRAGMENTS, FIRST_ALONE],
     &[SOCKETS, IN_FRAGMENTS, LAST_ALONE],
+    &[UNSCALED, SOCKETS, FIVE_IN_FRAGMENTS, FIFTH_WAITS],
     &[SOCKETS, LONGEST, NO_ROOM_BESIDE],
     &[SOCKETS, FILLS_A_FRAME],
     &[

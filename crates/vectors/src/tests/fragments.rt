@@ -2,7 +2,7 @@
 
 use super::A;
 use clock::Moment;
-use ipv4::Ipv4View;
+use ipv4::{Ipv4Fault, Ipv4View};
 use reassembly::{Assembled, Expired, Loss, Pool};
 use std::test::Fail;
 
@@ -166,4 +166,24 @@ fn a_fifth_datagram_has_no_place(rt: HostRuntime) -> Result<(), Fail> {
     assert!(rt; all_come_to(&mut pool, &SIXTH));
     assert!(rt; expire(&mut pool, 90_000, &[]));
     Ok(())
+}
+
+/// A fragment of 36 octets with another checksum.
+fn with_other_sum(fragment: &[u8]) -> [u8; 36] {
+    let mut octets = [0; 36];
+    for (new, old) in octets.iter_mut().zip(fragment) {
+        *new = *old;
+    }
+    octets[10] ^= 1;
+    octets
+}
+
+#[test]
+fn fragments_with_wrong_checksums(rt: HostRuntime) {
+    for rows in [OVERLAPS.as_slice(), &CONTRADICTIONS, &FIVE] {
+        for (_, octets, _, _) in rows {
+            let other = with_other_sum(octets);
+            assert!(rt; Ipv4View::parse(&other).err() == Some(Ipv4Fault::IpSum));
+        }
+    }
 }
