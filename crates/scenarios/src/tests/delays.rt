@@ -14,6 +14,13 @@ const SECOND: Due = Due::Text(Stretch {
     fin: false,
 });
 
+const NO_TIMERS: Timers = Timers {
+    retransmission: None,
+    probe: None,
+    delayed_ack: None,
+    overriding: None,
+};
+
 /// A once it is open. Its first measurement was of 0 ms, a timeout is 1,000 ms at least (RFC 6298 sections 2.2 and 2.4), and three segments of 1,460
 /// octets may go out at first (RFC 5681 section 3.1).
 const OPEN: Info = Info {
@@ -33,12 +40,7 @@ const OPEN: Info = Info {
     expiries: 0,
     resent: 0,
     error: None,
-    timers: Timers {
-        retransmission: None,
-        probe: None,
-        delayed_ack: None,
-        overriding: None,
-    },
+    timers: NO_TIMERS,
     ends_at: None,
 };
 
@@ -50,7 +52,7 @@ const WAITING: Info = Info {
     timers: Timers {
         retransmission: Some(Moment(1_000)),
         overriding: Some(Moment(500)),
-        ..OPEN.timers
+        ..NO_TIMERS
     },
     ..OPEN
 };
@@ -60,8 +62,8 @@ const GONE: Info = Info {
     in_flight: 2,
     unsent: 0,
     timers: Timers {
-        overriding: None,
-        ..WAITING.timers
+        retransmission: Some(Moment(1_000)),
+        ..NO_TIMERS
     },
     ..WAITING
 };
@@ -118,7 +120,7 @@ const LOST: &[Step] = &[
             resent: 1,
             timers: Timers {
                 retransmission: Some(Moment(3_000)),
-                ..GONE.timers
+                ..NO_TIMERS
             },
             ..GONE
         }),
