@@ -1,6 +1,6 @@
 //! The socket itself.
 
-ghost use Rattle.std.specs.Prelude.{◌≡◌, ℕ, ◌+◌, ◌<◌, ◌≤◌, ◌++◌, length, take, drop, filter, not, Bool, is_ok, IfOk, OnOk, OnErr, if◌then◌else◌, Some};
+ghost use Rattle.std.specs.Prelude.{◌≡◌, ℕ, ◌+◌, ◌<◌, ◌≤◌, ◌++◌, length, take, drop, filter, not, Bool, is_ok, IsOk, IfOk, OnOk, OnErr, ◌↔◌, [], if◌then◌else◌, Some};
 ghost use Rattle.std.specs.List.{list_any};
 ghost use Rattle.ipv4.specs.declared.addr.Addr.{Addr};
 
@@ -12,8 +12,8 @@ use ipv4::{Addr, Endpoint};
 use std::alloc::{AllocError, Global};
 use std::marker::Model;
 use udp::{
-    CAPACITY, Fragment, HEADER_LEN, Head, MOST_IN_FRAGMENT, MOST_WAITING, Part, Queue, QueueFault,
-    bring_range_forward,
+    CAPACITY, Fragment, HEADER_LEN, Head, MOST_IN_FRAGMENT, MOST_WAITING, MakingFault, Part, Queue,
+    QueueFault, bring_range_forward,
 };
 
 /// The octets of data of a datagram at most: the payload of IPv4 has room for no more behind a header of 8 octets, where the header of
@@ -43,7 +43,8 @@ impl Model for UdpSocket {
 
 impl UdpSocket {
     ghost use Rattle.ipv4.specs.Datagram.{HasPlace};
-    ghost use Rattle.udp_socket.specs.SocketView.{has_room_in, has_room_out, new_socket, with_received, with_sent, read_answer, read_buffer, after_read};
+    ghost use Rattle.circular_buffer.specs.Buffer.{buffer};
+    ghost use Rattle.udp_socket.specs.SocketView.{line_of, has_room_in, has_room_out, new_socket, with_received, with_sent, read_answer, read_buffer, after_read};
     ghost use Rattle.udp_socket.specs.Asking.{first_len, room_out};
     ghost use Rattle.udp_socket.specs.Emission.{peer_at, brought, due_part, due_octets, has_more, after_part};
     ghost use Rattle.udp_socket.specs.Stored.{first_if};
@@ -53,15 +54,33 @@ impl UdpSocket {
     pub fn new(alloc: Global) -> Result<UdpSocket, AllocError>
         ensures { IfOk result (λ socket. socket ≡ new_socket) }
     {
-        let inbox = Queue::with_capacity(alloc, CAPACITY).map_err(|_| AllocError)?;
-        let datagrams = Queue::with_capacity(alloc, CAPACITY).map_err(|_| AllocError)?;
-        let tags = HeapCircularBuffer::with_capacity(alloc, MOST_WAITING)?;
-        Ok(UdpSocket {
-            inbox,
-            datagrams,
-            tags,
-            parts: 0,
-        })
+        let inbox = Queue::with_capacity(alloc, CAPACITY);
+        let datagrams = Queue::with_capacity(alloc, CAPACITY);
+        let tags = HeapCircularBuffer::with_capacity(alloc, MOST_WAITING);
+        UdpSocket::of(inbox, datagrams, tags)
+    }
+
+    /// The socket of these rings, which are empty. A refusal exactly where memory was refused one.
+    fn of(
+        inbox: Result<Queue, MakingFault>,
+        datagrams: Result<Queue, MakingFault>,
+        tags: Result<HeapCircularBuffer<Tag>, AllocError>,
+    ) -> Result<UdpSocket, AllocError>
+        requires inbox { IfOk inbox (λ queue. queue ≡ line_of []) }
+        requires datagrams { IfOk datagrams (λ queue. queue ≡ line_of []) }
+        requires tags { IfOk tags (λ ring. ring ≡ buffer [] MOST_WAITING) }
+        ensures had { IsOk result ↔ (IsOk inbox × IsOk datagrams × IsOk tags) }
+        ensures empty { IfOk result (λ socket. socket ≡ new_socket) }
+    {
+        match (inbox, datagrams, tags) {
+            (Ok(inbox), Ok(datagrams), Ok(tags)) => Ok(UdpSocket {
+                inbox,
+                datagrams,
+                tags,
+                parts: 0,
+            }),
+            _ => Err(AllocError),
+        }
     }
 
     /// Takes a datagram to be sent behind the others, with the identification of its fragments. NoRoom where it has none, and then
