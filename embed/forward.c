@@ -77,7 +77,7 @@ static bool accept_step(struct tap *tap, size_t i)
     return true;
 }
 
-/* The system's side ends by a reset where the host's did so. */
+/* Where one side ended by a reset, so does the other. */
 static void joint_end(struct joint *joint, struct tap *tap, bool resets, const char *why)
 {
     const struct linger at_once = {1, 0};
@@ -86,7 +86,11 @@ static void joint_end(struct joint *joint, struct tap *tap, bool resets, const c
     }
     close(joint->from);
     tell(tap, "ended", joint->id, why);
-    host_close(&tap->host, joint->id);
+    if (resets) {
+        host_abort(&tap->host, joint->id);
+    } else {
+        host_close(&tap->host, joint->id);
+    }
     joint->id = 0;
 }
 
