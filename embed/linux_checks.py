@@ -30,10 +30,6 @@ SILENT = [f"10.0.0.{last}" for last in range(10, 250)]  # addresses of the link 
 MAC = bytes([2, 0, 10, 0, 0, 2])  # the host's
 MEGABYTE = 1 << 20
 LONG, LONGEST = 300, 3000  # how many seconds a check may take, and one that is asked for as a long one
-NO_ABORT = (
-    "(1) No call of a host resets a connection whose octets are all read, so the program can only close it, and what the client sends then "
-    "is answered by a reset."
-)
 
 program, device, folder, word, is_long = sys.argv[1:]
 rows = []
@@ -723,8 +719,8 @@ def await_server(port):
 
 def forward_refused():
     with Tap("--forward", 80, "127.0.0.1:9999"), connected(80) as client:
-        want(client.recv(1) == b"", "an octet comes")
-    return "accepted, and closed at once"
+        expect_error(ConnectionResetError, client.recv, 1)
+    return "accepted, and reset at once"
 
 
 def forward_reset():
@@ -750,10 +746,8 @@ def forward_server_reset():
             connection = server.accept()[0]
             want(connection.recv(1) == b"x", "another octet comes")
             reset(connection)
-            want(client.recv(1) == b"", "an octet comes")
-            client.sendall(b"y")
-            await_state(client, 7)
-    return "an end for the client, then a reset"
+            expect_error(ConnectionResetError, client.recv, 1)
+    return "ECONNRESET told to the client"
 
 
 BAD = re.compile(rb"\(incorrect|bad cksum|bad udp cksum|bad icmp|wrong icmp cksum|\[\|")
@@ -824,7 +818,7 @@ CHECKS = [
     ("a page by curl through --forward", page, (), ""),
     ("--forward to a port without a listener", forward_refused, (), ""),
     ("--forward, the client resets", forward_reset, (), ""),
-    ("--forward, the server resets", forward_server_reset, (), NO_ABORT),
+    ("--forward, the server resets", forward_server_reset, (), ""),
     ("tcpdump reads the captures", captures_read, (), ""),
 ]
 

@@ -202,8 +202,12 @@ fn is_well_formed(rt: &impl Abort, alloc: Global, frame: &[u8]) -> bool {
         return false;
     };
     let mut host = Host::new(alloc, config).expect(rt, "memory for a host");
-    let is_long = 60 <= frame.len() && frame.len() <= 1514;
-    is_long && host.deliver(Moment(0), Seq(7), &octets[..frame.len().min(1514)]) == Ok(())
+    match octets.get(..frame.len()) {
+        Some(changed) if changed.len() >= 60 => {
+            host.deliver(Moment(0), Seq(7), changed) == Ok(())
+        }
+        _ => false,
+    }
 }
 
 /// More frames than are due at once.
