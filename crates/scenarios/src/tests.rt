@@ -9,7 +9,6 @@ mod documents;
 mod drops;
 mod endpoints;
 mod ends;
-mod forged;
 mod fragments;
 mod gateways;
 mod hops;

@@ -89,8 +89,6 @@ pub(super) enum Act {
     Fill(SocketId, usize),
     /// Reads four octets at most.
     Recv(SocketId, Result<Received, Refusal>),
-    /// Reads 64 octets at most: these.
-    Reads(SocketId, &'static [u8]),
     /// Sends octets to an endpoint as a datagram: how many are taken.
     SendTo(SocketId, Endpoint, &'static [u8], Result<usize, Refusal>),
     /// Reads 16 octets at most of a datagram: these, which came from this endpoint.
@@ -327,14 +325,6 @@ impl Station {
         self.host.recv(id, &mut [0; 4]) == want
     }
 
-    fn reads_octets(&mut self, id: SocketId, octets: &[u8]) -> bool {
-        let mut buffer = [0; 64];
-        match self.host.recv(id, &mut buffer) {
-            Ok(Received::Octets(count)) => &buffer[..count.min(64)] == octets,
-            _ => false,
-        }
-    }
-
     /// Sends octets to an endpoint as a datagram.
     fn sends_to(
         &mut self,
@@ -392,16 +382,16 @@ impl Station {
         true
     }
 
-    pub(super) fn waits_until(&self, want: Option<Moment>) -> bool {
+    fn waits_until(&self, want: Option<Moment>) -> bool {
         self.host.next_deadline() == want
     }
 
-    pub(super) fn emits(&mut self, want: Option<usize>) -> bool {
+    fn emits(&mut self, want: Option<usize>) -> bool {
         self.emit() == want
     }
 
     /// The frame that is due goes out, with these octets.
-    pub(super) fn emits_frame(&mut self, octets: &[u8]) -> bool {
+    fn emits_frame(&mut self, octets: &[u8]) -> bool {
         self.emit().is_some() && self.sent() == octets
     }
 
@@ -444,7 +434,7 @@ pub(super) fn config(rt: &impl Abort, side: Side) -> Config {
 }
 
 /// Does what is done at `station`, and tells whether it is answered so.
-pub(super) fn is_answered(station: &mut Station, other: &mut Station, act: Act) -> bool {
+fn is_answered(station: &mut Station, other: &mut Station, act: Act) -> bool {
     match act {
         Act::Socket(id) => station.makes(Kind::Tcp, id),
         Act::DatagramSocket(id) => station.makes(Kind::Udp, id),
@@ -455,7 +445,6 @@ pub(super) fn is_answered(station: &mut Station, other: &mut Station, act: Act) 
         Act::Send(id, octets, want) => station.sends(id, octets, want),
         Act::Fill(id, want) => station.fills(id, want),
         Act::Recv(id, want) => station.reads(id, want),
-        Act::Reads(id, octets) => station.reads_octets(id, octets),
         Act::SendTo(id, peer, octets, want) => station.sends_to(id, peer, octets, want),
         Act::RecvFrom(id, octets, want) => station.receives(id, octets, want),
         Act::Close(id) => station.closes(id),
