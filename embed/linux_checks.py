@@ -4,6 +4,7 @@ linux_checks.py TAP DEVICE FOLDER WORD LONG: the program, its device, where capt
 whether the long checks are made and no others: long, or ''.
 """
 
+import collections
 import contextlib
 import fcntl
 import os
@@ -195,7 +196,10 @@ def syn_frame(source, port, to_port):
 
 
 class OwnHost:
-    """A host on the device in this process, in a `with`: its clock begins at 0, and `run` lets it go on."""
+    """A host on the device in this process, in a `with`: its clock begins at 0, and `run` lets it go on. Each frame takes `late` seconds, either way."""
+
+    def __init__(self, late=0.0):
+        self.late, self.going, self.coming = late, collections.deque(), collections.deque()
 
     def __enter__(self):
         self.device = os.open("/dev/net/tun", os.O_RDWR | os.O_NONBLOCK)
@@ -222,10 +226,32 @@ class OwnHost:
             now = self.now()
             self.host.tick(now)
             while frame := self.host.next_frame(now):
-                os.write(self.device, frame)
+                self.going.append((time.monotonic() + self.late, frame))
                 yield frame
-            if select.select([self.device], [], [], 0.01)[0]:
-                (hear or self.deliver)(os.read(self.device, 2048))
+            for frame in self.due(self.going):
+                os.write(self.device, frame)
+            wait = min((way[0][0] for way in (self.going, self.coming) if way), default=float("inf")) - time.monotonic()
+            if select.select([self.device], [], [], max(0, min(wait, 0.01)))[0]:
+                self.coming.append((time.monotonic() + self.late, os.read(self.device, 2048)))
+            for frame in self.due(self.coming):
+                (hear or self.deliver)(frame)
+
+    @staticmethod
+    def due(way):
+        """The frames whose time has come, each taken from those on the way."""
+        while way and way[0][0] <= time.monotonic():
+            yield way.popleft()[1]
+
+    def runs(self, until):
+        for _ in self.run(until):
+            pass
+
+    def connected_to(self, server):
+        """A connection to Linux: the id here, and Linux's socket."""
+        id = self.host.socket()
+        self.host.connect(self.now(), random.getrandbits(32), id, server.getsockname())
+        self.runs(until=lambda: Ready.OPENING not in self.host.ready(id) and select.select([server], [], [], 0)[0])
+        return id, accepted(server)
 
 
 # ---- The checks
@@ -491,6 +517,56 @@ def host_resets_what_it_opened():
         status = tap.result(10)
     want(status[0] == 1, f"{status}")
     return "ECONNRESET told to Linux"
+
+
+def host_aborts():
+    """All that came was read and acknowledged, so a close would end the stream; an abort resets it."""
+    with listener() as server, OwnHost() as own:
+        id, connection = own.connected_to(server)
+        with connection:
+            own.host.send(id, b"hello")
+            own.runs(until=lambda: select.select([connection], [], [], 0)[0])
+            want(connection.recv(5) == b"hello", "other octets come")
+            own.host.abort(id)
+            own.runs(until=lambda: select.select([connection], [], [], 0)[0])
+            expect_error(ConnectionResetError, connection.recv, 1)
+    return "ECONNRESET told to Linux"
+
+
+def exchanges_of_two_writes(turns, no_delay):
+    """Two small writes, a turn apart, then an answer, so many times. The round trip takes 2 ms. The longest of the last ten, in milliseconds."""
+    took = []
+    with listener() as server, OwnHost(late=0.001) as own:
+        id, connection = own.connected_to(server)
+        own.host.set_nodelay(id, no_delay)
+        with connection:
+            connection.setsockopt(socket.IPPROTO_TCP, socket.TCP_NODELAY, 1)
+
+            def answer():
+                for _ in range(turns):
+                    asked = b""
+                    while len(asked) < 20:
+                        asked += connection.recv(20 - len(asked))
+                    connection.sendall(b"answer")
+
+            server_side = threading.Thread(target=answer)
+            server_side.start()
+            for _ in range(turns):
+                began = time.monotonic()
+                for part in (b"0123456789", b"abcdefghij"):
+                    own.host.send(id, part)
+                    own.runs(until=iter((False, True)).__next__)
+                own.runs(until=lambda: own.host.recv_len(id) == 6)
+                want(own.host.recv(id, 6) == b"answer", "another answer comes")
+                took.append(1000 * (time.monotonic() - began))
+            server_side.join()
+    return max(took[-10:])
+
+
+def no_delay():
+    waits, goes = (exchanges_of_two_writes(40, on) for on in (False, True))
+    want(goes < 10, f"it takes {goes:.1f} ms")
+    return f"{goes:.1f} ms at most; without {waits:.1f}"
 
 
 def linux_refuses():
@@ -780,6 +856,8 @@ CHECKS = [
     ("TCP: Linux opens, Linux resets", linux_resets_what_it_opened, (), ""),
     ("TCP: the host opens, Linux resets", linux_resets_what_the_host_opened, (), ""),
     ("TCP: the host opens, the host resets", host_resets_what_it_opened, (), ""),
+    ("TCP: the host aborts", host_aborts, (), ""),
+    ("TCP: write, turn, write, read, 1 ms late each way, no-delay", no_delay, (), ""),
     ("TCP: a flood of openings from silent addresses", flood_of_openings, (), ""),
     ("TCP: four openings a second", bounded_openings, (), ""),
     ("TCP: 60 connections at once, by readiness alone", by_readiness, (60, 20000), ""),
