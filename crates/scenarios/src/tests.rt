@@ -9,6 +9,7 @@ mod documents;
 mod drops;
 mod endpoints;
 mod ends;
+mod forged;
 mod fragments;
 mod gateways;
 mod hops;

@@ -31,6 +31,33 @@ pub(super) const SYN_BEHIND_OPTIONS: &[u8] = b"\x02\0\0\0\0\x02\x02\0\0\0\0\x01\
     \x46\0\0\x30\0\0\x40\0\x40\x06\x23\xc5\x0a\0\0\x01\x0a\0\0\x02\x01\x01\x01\0\
     \xc0\0\0\x50\xff\xff\xff\xff\0\0\0\0\x60\x02\xff\xff\xc3\xd3\0\0\x02\x04\x05\xb4";
 
+/// B's SYN-ACK to that with the number 7, and what acknowledges it.
+pub(super) const SYN_ACK: &[u8] = b"\x02\0\0\0\0\x01\x02\0\0\0\0\x02\x08\0\
+    \x45\0\0\x2c\0\0\x40\0\x40\x06\x26\xca\x0a\0\0\x02\x0a\0\0\x01\
+    \0\x50\xc0\0\0\0\0\x07\0\0\0\0\x60\x12\xff\xff\xc3\xbc\0\0\x02\x04\x05\xb4\
+    \0\0";
+
+pub(super) const SYN_ACKED: &[u8] = b"\x02\0\0\0\0\x02\x02\0\0\0\0\x01\x08\0\
+    \x45\0\0\x28\0\0\x40\0\x40\x06\x26\xce\x0a\0\0\x01\x0a\0\0\x02\
+    \xc0\0\0\x50\0\0\0\0\0\0\0\x08\x50\x10\xff\xff\xdb\x79\0\0\
+    \0\0\0\0\0\0";
+
+/// A's first ten octets after that, the ten behind them, and what acknowledges both.
+pub(super) const DIGITS: &[u8] = b"\x02\0\0\0\0\x02\x02\0\0\0\0\x01\x08\0\
+    \x45\0\0\x32\0\0\x40\0\x40\x06\x26\xc4\x0a\0\0\x01\x0a\0\0\x02\
+    \xc0\0\0\x50\0\0\0\0\0\0\0\x08\x50\x18\xff\xff\xd6\x5d\0\0\
+    0123456789";
+
+pub(super) const LETTERS: &[u8] = b"\x02\0\0\0\0\x02\x02\0\0\0\0\x01\x08\0\
+    \x45\0\0\x32\0\0\x40\0\x40\x06\x26\xc4\x0a\0\0\x01\x0a\0\0\x02\
+    \xc0\0\0\x50\0\0\0\x0a\0\0\0\x08\x50\x18\xff\xff\xe0\x5d\0\0\
+    abcdefghij";
+
+pub(super) const LETTERS_ACKED: &[u8] = b"\x02\0\0\0\0\x01\x02\0\0\0\0\x02\x08\0\
+    \x45\0\0\x28\0\0\x40\0\x40\x06\x26\xce\x0a\0\0\x02\x0a\0\0\x01\
+    \0\x50\xc0\0\0\0\0\x08\0\0\0\x14\x50\x10\xff\xeb\xdb\x79\0\0\
+    \0\0\0\0\0\0";
+
 /// A's octets after a handshake in which B's number was 7.
 pub(super) const HELLO: &[u8] = b"\x02\0\0\0\0\x02\x02\0\0\0\0\x01\x08\0\
     \x45\0\0\x2d\0\0\x40\0\x40\x06\x26\xc9\x0a\0\0\x01\x0a\0\0\x02\

@@ -89,6 +89,8 @@ pub(super) enum Act {
     Fill(SocketId, usize),
     /// Reads four octets at most.
     Recv(SocketId, Result<Received, Refusal>),
+    /// Reads 64 octets at most: these.
+    Reads(SocketId, &'static [u8]),
     /// Sends octets to an endpoint as a datagram: how many are taken.
     SendTo(SocketId, Endpoint, &'static [u8], Result<usize, Refusal>),
     /// Reads 16 octets at most of a datagram: these, which came from this endpoint.
@@ -325,6 +327,14 @@ impl Station {
         self.host.recv(id, &mut [0; 4]) == want
     }
 
+    fn reads_octets(&mut self, id: SocketId, octets: &[u8]) -> bool {
+        let mut buffer = [0; 64];
+        match self.host.recv(id, &mut buffer) {
+            Ok(Received::Octets(count)) => &buffer[..count.min(64)] == octets,
+            _ => false,
+        }
+    }
+
     /// Sends octets to an endpoint as a datagram.
     fn sends_to(
         &mut self,
@@ -382,16 +392,16 @@ impl Station {
         true
     }
 
-    fn waits_until(&self, want: Option<Moment>) -> bool {
+    pub(super) fn waits_until(&self, want: Option<Moment>) -> bool {
         self.host.next_deadline() == want
     }
 
-    fn emits(&mut self, want: Option<usize>) -> bool {
+    pub(super) fn emits(&mut self, want: Option<usize>) -> bool {
         self.emit() == want
     }
 
     /// The frame that is due goes out, with these octets.
-    fn emits_frame(&mut self, octets: &[u8]) -> bool {
+    pub(super) fn emits_frame(&mut self, octets: &[u8]) -> bool {
         self.emit().is_some() && self.sent() == octets
     }
 
@@ -434,7 +444,7 @@ pub(super) fn config(rt: &impl Abort, side: Side) -> Config {
 }
 
 /// Does what is done at `station`, and tells whether it is answered so.
-fn is_answered(station: &mut Station, other: &mut Station, act: Act) -> bool {
+pub(super) fn is_answered(station: &mut Station, other: &mut Station, act: Act) -> bool {
     match act {
         Act::Socket(id) => station.makes(Kind::Tcp, id),
         Act::DatagramSocket(id) => station.makes(Kind::Udp, id),
@@ -445,6 +455,7 @@ fn is_answered(station: &mut Station, other: &mut Station, act: Act) -> bool {
         Act::Send(id, octets, want) => station.sends(id, octets, want),
         Act::Fill(id, want) => station.fills(id, want),
         Act::Recv(id, want) => station.reads(id, want),
+        Act::Reads(id, octets) => station.reads_octets(id, octets),
         Act::SendTo(id, peer, octets, want) => station.sends_to(id, peer, octets, want),
         Act::RecvFrom(id, octets, want) => station.receives(id, octets, want),
         Act::Close(id) => station.closes(id),

@@ -1,4 +1,4 @@
-use Rattle.std.proofs.Common.{◌≡◌, true, false, length, Option, Some, None, refl, sym, ◌∙◌, ap, subst}
+use Rattle.std.proofs.Common.{arith, ◌≡◌, true, false, length, Option, Some, None, refl, sym, ◌∙◌, ap, subst}
 use Rattle.ipv4.specs.Datagram.{Datagram}
 use Rattle.clock.specs.declared.moment.Moment.{Moment}
 use Rattle.reassembly.specs.declared.gathered.Gathered.{Gathered}
@@ -38,7 +38,7 @@ returns-then-conflicts c =
     ap (conflicts c.args.fragment.now c.resume-pending.result.end) (sym c.reach.ensures.value) ∙ sym c.conflicts.ensures ∙ c.if-conflicts.true in
     let given_up : outcome c.args.fragment.now (continued c.args.now c.args.fragment.now c.args.self.now) ≡ GivesUp =
     ap (outcome c.args.fragment.now) (sym is) ∙ outcome_given_up c.args.fragment.now (seen c.resume-pending.new.gathered c.resume-pending.result) conflict in (
-      (refl, (λ _. tt), ap (λ p. place_seen p c.resume-pending.new.gathered) c.take.ensures.after ∙ ap left (sym given_up)),
+      (refl, (λ _. tt), grind (arith, c.take.ensures.after, ap left given_up)),
       record { answer = subst (λ o. Answers o (Dropped LossGivenUp)) (sym given_up) refl; place = tt },
     )
 
