@@ -1,5 +1,5 @@
 -- What a connection has due can be sent, and fits into a frame.
-use Rattle.std.proofs.Common.{ℕ, ◌+◌, ◌*◌, ◌%◌, ◌<◌, ◌≤◌, ◌^◌, if◌then◌else◌, Bool, true, false, length, drop, arith, length-take}
+use Rattle.std.proofs.Common.{ℕ, ◌+◌, ◌*◌, ◌<◌, ◌≤◌, ◌^◌, if◌then◌else◌, Bool, true, false, length, drop, arith, length-take}
 use Rattle.tcp_segment.specs.Segment.{FieldsFit}
 use Rattle.tcp_segment.specs.Sent.{CanBeSent, sent_segment, sent_offset}
 use Rattle.tcp_segment.proofs.Sending.{most_offset}

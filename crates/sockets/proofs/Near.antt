@@ -32,7 +32,7 @@ use Rattle.sockets.specs.Timing.{AreSound, IsNear, IsNearIn, AreNear, IsUpTo}
 use Rattle.sockets.specs.Traffic.{after_events}
 use Rattle.sockets.proofs.Followed.{by_test, all_joined}
 use Rattle.sockets.proofs.Numbered.{moment_kept}
-use Rattle.sockets.proofs.Steps.{IsEventOf, sends_it, reads_it, shuts_it, closes_it, resets_it, aborts_it, ticks_it, comes_to_it, goes_out, tells_it, loses_it, IsStepOf, stays, moves, opens, accepted, IsJoining, made, made_datagrams, called, IsStepped, followed, joined, stepped, later_up_to}
+use Rattle.sockets.proofs.Steps.{IsEventOf, sends_it, reads_it, shuts_it, delays_it, closes_it, resets_it, aborts_it, ticks_it, comes_to_it, goes_out, tells_it, loses_it, IsStepOf, stays, moves, opens, accepted, IsJoining, made, made_datagrams, called, IsStepped, followed, joined, stepped, later_up_to}
 use Rattle.sockets.proofs.Timed.{all_left}
 use Rattle.sockets.proofs.Unheard.{from_then, unheard_by}
 
@@ -116,6 +116,7 @@ told_by : (h : SocketsView) (last : Moment) → h.kept.0 ≤ last.0 → (x : Ent
 told_by h last kept x _ _ (sends_it id octets named) up now is = same_moment h.kept now last kept is
 told_by h last kept x _ _ (reads_it id len named) up now is = cc
 told_by h last kept x _ _ (shuts_it id named) up now is = same_moment h.kept now last kept is
+told_by h last kept x _ _ (delays_it id on named) up now is = same_moment h.kept now last kept is
 told_by h last kept x _ _ (closes_it how id named so) up now is = same_moment h.kept now last kept is
 told_by h last kept x _ _ (resets_it how id named so) up now is = same_moment h.kept now last kept is
 told_by h last kept x _ _ (aborts_it how id waits) up now is = same_moment h.kept now last kept is

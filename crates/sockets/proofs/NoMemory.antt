@@ -19,7 +19,7 @@ use Rattle.sockets.specs.declared.refusal.Refusal.{Refusal}
 use Rattle.sockets.specs.declared.refusal.Refusal.TheVariants.{EBADF, EINVAL, EADDRINUSE, EADDRNOTAVAIL, EALREADY, EISCONN, ENOTCONN, EAGAIN, ENETUNREACH, EDESTADDRREQ, ENOMEM}
 use Rattle.sockets.specs.declared.role.Role.{Role}
 use Rattle.sockets.specs.declared.role.Role.TheVariants.{Idle, Listener, Connected, Datagrams}
-use Rattle.sockets.specs.Calls.{of_socket, answer_at, any_addr, free_port, port_at, port_bound, bind_refusal, listen_refusal, own_end, sockname_answer, peername_answer, is_next_at, accept_answer, refusal_of, of_connection, role_send_answer, role_recv_answer, send_answer, recv_answer, role_shutdown_refusal, shutdown_refusal, close_refusal, state_answer, port_for, reach_refusal, had_connection, open_answer, port_connected, connect_refusal}
+use Rattle.sockets.specs.Calls.{of_socket, answer_at, any_addr, free_port, port_at, port_bound, bind_refusal, listen_refusal, own_end, sockname_answer, peername_answer, is_next_at, accept_answer, refusal_of, of_connection, role_send_answer, role_recv_answer, send_answer, recv_answer, role_shutdown_refusal, role_nodelay_refusal, shutdown_refusal, nodelay_refusal, close_refusal, state_answer, port_for, reach_refusal, had_connection, open_answer, port_connected, connect_refusal}
 use Rattle.sockets.specs.Datagrams.{datagrams_bound, sending_end, end_sent_from, sendto_answer, role_recvfrom_answer, recvfrom_answer}
 use Rattle.sockets.specs.Entries.{has_room_to_send, peer_of, shown_state}
 use Rattle.sockets.specs.Ports.{is_unused_port, is_free_datagram_port}
@@ -183,6 +183,15 @@ role_shutdown (Datagrams bound socket) e = cc
 
 pub of_shutdown_call : (h : SocketsView) (id : SocketId) → TellsOf (shutdown_refusal h id)
 of_shutdown_call h id = refused_by_role (role_of h id) role_shutdown_refusal role_shutdown
+
+role_nodelay : (role : Role) → TellsOf (role_nodelay_refusal role)
+role_nodelay (Idle buffers bound) e = cc
+role_nodelay (Listener local backlog) e = cc
+role_nodelay (Connected c listener) e = cc
+role_nodelay (Datagrams bound socket) e = cc
+
+pub of_nodelay : (h : SocketsView) (id : SocketId) → TellsOf (nodelay_refusal h id)
+of_nodelay h id = refused_by_role (role_of h id) role_nodelay_refusal role_nodelay
 
 pub of_close : (h : SocketsView) (id : SocketId) → TellsOf (close_refusal h id)
 of_close h id = refused_by_role (role_of h id) (λ role. None) (λ role e. cc)

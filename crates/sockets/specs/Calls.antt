@@ -28,7 +28,7 @@ use Rattle.sockets.specs.declared.role.Role.TheVariants.{Idle, Listener, Connect
 use Rattle.sockets.specs.declared.refusal.Refusal.{Refusal}
 use Rattle.sockets.specs.declared.refusal.Refusal.TheVariants.{EBADF, EINVAL, EADDRINUSE, EADDRNOTAVAIL, EISCONN, ENOTCONN, EALREADY, EAGAIN, ENETUNREACH, EOPNOTSUPP, ECONNREFUSED, ECONNRESET, ETIMEDOUT, EPIPE, EDESTADDRREQ}
 use Rattle.sockets.specs.Ports.{first_port, is_free_port, is_unused_port, is_free_datagram_port}
-use Rattle.sockets.specs.Entries.{is_socket, is_between, is_waiting_as, is_waiting_id, peer_of, shown_state, new_socket, new_datagram_socket, role_after_bind, role_after_listen, role_after_connect, role_after_accept, role_after_send, role_after_recv, role_after_shutdown, role_after_leaving, leaving_fate_of, role_after_listener_close, listener_close_fate_of, entries_after_step, entries_after_steps, with_role}
+use Rattle.sockets.specs.Entries.{is_socket, is_between, is_waiting_as, is_waiting_id, peer_of, shown_state, new_socket, new_datagram_socket, role_after_bind, role_after_listen, role_after_connect, role_after_accept, role_after_send, role_after_recv, role_after_shutdown, role_after_nodelay, role_after_leaving, leaving_fate_of, role_after_listener_close, listener_close_fate_of, entries_after_step, entries_after_steps, with_role}
 use Rattle.sockets.specs.SocketsView.{SocketsView, role_of, with_socket, room_of}
 use Rattle.sockets.specs.Lists.{change_first, remove_first}
 
@@ -250,6 +250,19 @@ shutdown_refusal h id = refusal_at h id role_shutdown_refusal
 
 abbrev pub after_shutdown : SocketsView → SocketId → SocketsView
 after_shutdown h id = with_socket h id (role_after_shutdown h.kept)
+
+-- what the wish for no delay is refused for: no connection, in any state
+abbrev pub role_nodelay_refusal : Role → Option Refusal
+role_nodelay_refusal (Idle buffers bound) = Some ENOTCONN
+role_nodelay_refusal (Listener bound backlog) = Some EOPNOTSUPP
+role_nodelay_refusal (Connected c listener) = None
+role_nodelay_refusal (Datagrams bound socket) = Some EOPNOTSUPP
+
+abbrev pub nodelay_refusal : SocketsView → SocketId → Option Refusal
+nodelay_refusal h id = refusal_at h id role_nodelay_refusal
+
+abbrev pub after_nodelay : SocketsView → SocketId → Bool → SocketsView
+after_nodelay h id on = with_socket h id (role_after_nodelay on h.kept)
 
 -- close and abort are refused only where the id names no socket
 abbrev pub close_refusal : SocketsView → SocketId → Option Refusal

@@ -12,7 +12,7 @@ use Rattle.tcp_segment.specs.Segment.{Segment}
 use Rattle.tcp_state.specs.declared.connection.Fate.{Fate}
 use Rattle.tcp_state.specs.declared.connection.Fate.TheVariants.{Stays, Removed, Rejected}
 use Rattle.tcp_state.specs.Arrival.{after_segment_at, fate}
-use Rattle.tcp_state.specs.Calls.{after_send, after_recv, after_shutdown, after_abort, abort_fate}
+use Rattle.tcp_state.specs.Calls.{after_send, after_recv, after_shutdown, after_set_nodelay, after_abort, abort_fate}
 use Rattle.tcp_state.specs.Unreachable.{after_unreachable, unreachable_fate}
 use Rattle.tcp_state.specs.declared.emission.Due.{Due}
 use Rattle.tcp_state.specs.Due.{first_due, emitted_len, segment_octets}
@@ -266,6 +266,10 @@ role_after_accept (Datagrams bound socket) = Datagrams bound socket
 -- octets are given to the connection at a moment, and as many are taken as there is room for
 abbrev pub role_after_send : Moment → List ℕ → Role → Role
 role_after_send now octets role = on_connection (λ c. after_send c octets now) role
+
+-- small segments of the connection wait for what is outstanding from this moment on, or don't
+abbrev pub role_after_nodelay : Bool → Moment → Role → Role
+role_after_nodelay on now role = on_connection (λ c. after_set_nodelay c on now) role
 
 -- our side of the connection is closed at a moment, where it is past its opening and told no error
 abbrev pub role_after_shutdown : Moment → Role → Role

@@ -33,7 +33,7 @@ impl Sockets {
     ghost use Rattle.sockets.specs.Index.{filed};
     ghost use Rattle.sockets.specs.Ports.{is_bindable};
     ghost use Rattle.udp_socket.specs.SocketView.{new_socket as new_udp_socket};
-    ghost use Rattle.sockets.specs.Calls.{after_socket, after_datagram_socket, bind_refusal, after_bind, port_at, port_bound, last_port_bound, sockname_answer, peername_answer, listen_refusal, after_listen, state_answer, is_table_full, IsMade, is_next_at, accept_answer, after_accept, send_answer, after_send, recv_answer, recv_front, after_recv, connect_refusal, after_connect, reach_refusal, port_for, last_port_after, pair_connected, shutdown_refusal, after_shutdown};
+    ghost use Rattle.sockets.specs.Calls.{after_socket, after_datagram_socket, bind_refusal, after_bind, port_at, port_bound, last_port_bound, sockname_answer, peername_answer, listen_refusal, after_listen, state_answer, is_table_full, IsMade, is_next_at, accept_answer, after_accept, send_answer, after_send, recv_answer, recv_front, after_recv, connect_refusal, after_connect, reach_refusal, port_for, last_port_after, pair_connected, shutdown_refusal, after_shutdown, nodelay_refusal, after_nodelay};
 
     /// Makes a socket, with the room for one connection, or with the two queues of a UDP socket. EMFILE where the table is full or the last id
     /// is given, ENOMEM.
@@ -394,6 +394,20 @@ impl Sockets {
         let place = self.socket_place(id)?;
         let kept = self.kept;
         self.entries[place].role.shutdown(kept)
+    }
+
+    /// Whether small segments of a connection go out without waiting for what is outstanding, from now on (TCP_NODELAY, RFC 9293 section
+    /// 3.7.4); at first they wait.
+    ///
+    /// EBADF; EOPNOTSUPP of a UDP socket and where the socket listens; ENOTCONN where it has had no connection.
+    pub fn set_nodelay(&mut self, id: SocketId, on: bool) -> Result<(), Refusal>
+        ensures refused { result_err result ≡ nodelay_refusal self.old id }
+        ensures ok { OnOk result (self.new ≡ after_nodelay self.old id on) }
+        ensures err { OnErr result (self.new ≡ self.old) }
+    {
+        let place = self.socket_place(id)?;
+        let kept = self.kept;
+        self.entries[place].role.set_nodelay(kept, on)
     }
 
     /// The state of a socket (RFC 9293 section 3.3.2), CLOSED where it has had no connection, or that it is a UDP socket. EBADF.

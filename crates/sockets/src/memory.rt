@@ -5,7 +5,7 @@ ghost use Rattle.ipv4.specs.declared.addr.Endpoint.{Endpoint};
 ghost use Rattle.sockets.specs.declared.entry.SocketId.{SocketId};
 ghost use Rattle.sockets.specs.declared.refusal.Refusal.TheVariants.{ENOMEM};
 ghost use Rattle.sockets.specs.SocketsView.{SocketsView};
-ghost use Rattle.sockets.specs.Calls.{bind_refusal, listen_refusal, accept_answer, connect_refusal, send_answer, recv_answer, shutdown_refusal, close_refusal, state_answer, sockname_answer, peername_answer};
+ghost use Rattle.sockets.specs.Calls.{bind_refusal, listen_refusal, accept_answer, connect_refusal, send_answer, recv_answer, shutdown_refusal, nodelay_refusal, close_refusal, state_answer, sockname_answer, peername_answer};
 ghost use Rattle.sockets.specs.Datagrams.{sendto_answer, recvfrom_answer};
 
 /// No call but `socket` is refused memory, whatever the table is and whatever is asked of it.
@@ -19,6 +19,7 @@ pub fn only_socket_is_refused_memory()
     ensures sendto { (h : SocketsView) (id : SocketId) (peer : Endpoint) (octets : List ℕ) (routed : Bool) → ¬ (sendto_answer h id peer octets routed ≡ Err ENOMEM) }
     ensures recvfrom { (h : SocketsView) (id : SocketId) (len : ℕ) → ¬ (recvfrom_answer h id len ≡ Err ENOMEM) }
     ensures shutdown { (h : SocketsView) (id : SocketId) → ¬ (shutdown_refusal h id ≡ Some ENOMEM) }
+    ensures nodelay { (h : SocketsView) (id : SocketId) → ¬ (nodelay_refusal h id ≡ Some ENOMEM) }
     ensures close { (h : SocketsView) (id : SocketId) → ¬ (close_refusal h id ≡ Some ENOMEM) }
     ensures state { (h : SocketsView) (id : SocketId) → ¬ (state_answer h id ≡ Err ENOMEM) }
     ensures sockname { (h : SocketsView) (id : SocketId) → ¬ (sockname_answer h id ≡ Err ENOMEM) }
