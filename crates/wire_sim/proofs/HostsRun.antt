@@ -16,6 +16,7 @@ use Rattle.frames.specs.declared.meaning.Meaning.TheVariants.{Icmp}
 use Rattle.frames.specs.Meaning.{heard}
 use Rattle.interface.specs.InterfaceView.{InterfaceView}
 use Rattle.interface.specs.Ways.{is_routed}
+use Rattle.sockets.specs.Ready.{readiness}
 use Rattle.sockets.specs.declared.role.Leave.TheVariants.{Close, Abort}
 use Rattle.sockets.specs.declared.entry.Entry.{Entry}
 use Rattle.sockets.specs.declared.entry.Kind.{Kind}
@@ -25,7 +26,7 @@ use Rattle.sockets.specs.declared.role.Role.{Role}
 use Rattle.sockets.specs.declared.role.Role.TheVariants.{Idle, Connected, Listener as RoleListener, Datagrams as RoleDatagrams}
 use Rattle.sockets.specs.declared.refusal.Refusal.{Refusal}
 use Rattle.sockets.specs.declared.refusal.Refusal.TheVariants.{EMFILE, ENOMEM}
-use Rattle.sockets.specs.Calls.{unless_refused, bind_refusal, listen_refusal, accept_answer, connect_refusal, send_answer, recv_answer, shutdown_refusal, close_refusal, state_answer, sockname_answer, peername_answer}
+use Rattle.sockets.specs.Calls.{unless_refused, bind_refusal, listen_refusal, accept_answer, connect_refusal, send_answer, recv_answer, shutdown_refusal, nodelay_refusal, close_refusal, state_answer, sockname_answer, peername_answer}
 use Rattle.sockets.specs.Causes as table
 use Rattle.sockets.specs.Datagrams.{sendto_answer, recvfrom_answer}
 use Rattle.sockets.specs.Order.{IsAllowed}
@@ -127,9 +128,11 @@ called i (call.Recv id len) h answer new small meets = read i h id (recv_len len
 called i (call.SendTo id peer octets) h answer new small meets = answered i (sendto_answer h id peer octets.items (is_routed i peer.addr)) _ h (table.SendsTo id peer octets.items (is_routed i peer.addr)) answer new tt (λ latest. tt) (refl, tt) (λ taken. taken) meets
 called i (call.RecvFrom id len) h answer new small meets = read_from i h id (recv_len len) (recvfrom_answer h id (recv_len len)) refl answer new meets
 called i (call.Shutdown id) h answer new small meets = answered i _ _ h (table.Shuts id) answer new tt (λ latest. tt) (tt, tt) (unrefused (shutdown_refusal h id)) meets
+called i (call.SetNoDelay id on) h answer new small meets = answered i _ _ h (table.SetsNoDelay id on) answer new tt (λ latest. tt) (tt, tt) (unrefused (nodelay_refusal h id)) meets
 called i (call.Close id) h answer new small meets = answered i _ _ h (table.Leaves Close id) answer new tt (λ latest. tt) (tt, tt) (unrefused (close_refusal h id)) meets
 called i (call.Abort id) h answer new small meets = answered i _ _ h (table.Leaves Abort id) answer new tt (λ latest. tt) (tt, tt) (unrefused (close_refusal h id)) meets
 called i (call.State id) h answer new small meets = asked i (state_answer h id) _ h answer new meets
+called i (call.Ready id) h answer new small meets = asked i (readiness h id) _ h answer new meets
 called i (call.SockName id) h answer new small meets = asked i (sockname_answer h id) _ h answer new meets
 called i (call.PeerName id) h answer new small meets = asked i (peername_answer h id) _ h answer new meets
 

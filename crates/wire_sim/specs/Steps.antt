@@ -27,7 +27,8 @@ use Rattle.wire_sim.specs.declared.event.Opening.{Opening}
 use Rattle.wire_sim.specs.declared.world.bag.Frame.{Frame}
 use Rattle.wire_sim.specs.declared.world.bag.Note.{Note}
 use Rattle.wire_sim.specs.declared.world.station.Station.{Station}
-use Rattle.sockets.specs.Calls.{unless_refused, is_table_full, IsMade, bind_refusal, after_bind, listen_refusal, after_listen, accept_answer, after_accept, connect_refusal, after_connect, send_answer, after_send, recv_answer, after_recv, shutdown_refusal, after_shutdown, close_refusal, after_close, after_abort, state_answer, sockname_answer, peername_answer}
+use Rattle.sockets.specs.Ready.{readiness}
+use Rattle.sockets.specs.Calls.{unless_refused, is_table_full, IsMade, bind_refusal, after_bind, listen_refusal, after_listen, accept_answer, after_accept, connect_refusal, after_connect, send_answer, after_send, recv_answer, after_recv, shutdown_refusal, after_shutdown, nodelay_refusal, after_nodelay, close_refusal, after_close, after_abort, state_answer, sockname_answer, peername_answer}
 use Rattle.sockets.specs.Datagrams.{sendto_answer, after_sendto, recvfrom_answer, after_recvfrom}
 use Rattle.host.specs.Arrival.{IsDelivered}
 use Rattle.sockets.specs.SocketsView.{SocketsView, role_of}
@@ -112,9 +113,11 @@ MeetsCall routed (call.Recv id len) h answer new = MeetsReceived h id (recv_len 
 MeetsCall routed (call.SendTo id peer octets) h answer new = Answers (sendto_answer h id peer octets.items (routed peer.addr)) (λ count. reply.Sent count) (after_sendto h id peer octets.items (routed peer.addr)) h answer new
 MeetsCall routed (call.RecvFrom id len) h answer new = MeetsReceivedFrom h id (recvfrom_answer h id (recv_len len)) answer new
 MeetsCall routed (call.Shutdown id) h answer new = Answers (unless_refused (shutdown_refusal h id) (tt {0})) (λ _. reply.Done) (after_shutdown h id) h answer new
+MeetsCall routed (call.SetNoDelay id on) h answer new = Answers (unless_refused (nodelay_refusal h id) (tt {0})) (λ _. reply.Done) (after_nodelay h id on) h answer new
 MeetsCall routed (call.Close id) h answer new = Answers (unless_refused (close_refusal h id) (tt {0})) (λ _. reply.Done) (after_close h id) h answer new
 MeetsCall routed (call.Abort id) h answer new = Answers (unless_refused (close_refusal h id) (tt {0})) (λ _. reply.Done) (after_abort h id) h answer new
 MeetsCall routed (call.State id) h answer new = Answers (state_answer h id) (λ state. reply.State state) h h answer new
+MeetsCall routed (call.Ready id) h answer new = Answers (readiness h id) (λ ready. reply.Ready ready) h h answer new
 MeetsCall routed (call.SockName id) h answer new = Answers (sockname_answer h id) (λ local. reply.Endpoint local) h h answer new
 MeetsCall routed (call.PeerName id) h answer new = Answers (peername_answer h id) (λ peer. reply.Endpoint peer) h h answer new
 

@@ -4,7 +4,7 @@ ghost use Rattle.std.specs.Prelude.{◌≡◌, ◌<◌, ◌≤◌, ◌==◌, ◌
 
 use crate::room::filled;
 use clock::Moment;
-use host::{DropCause, Kind, Refusal, SocketId, SocketState};
+use host::{DropCause, Kind, Ready, Refusal, SocketId, SocketState};
 use ipv4::{Endpoint, Pair};
 use sides::Side;
 use std::fmt;
@@ -61,6 +61,11 @@ pub enum Call {
     Shutdown {
         id: SocketId,
     },
+    /// Lets small segments of a connection go out at once from now on, or wait.
+    SetNoDelay {
+        id: SocketId,
+        on: bool,
+    },
     /// Closes a socket.
     Close {
         id: SocketId,
@@ -71,6 +76,10 @@ pub enum Call {
     },
     /// Asks for a socket's state.
     State {
+        id: SocketId,
+    },
+    /// Asks what a socket is ready for.
+    Ready {
         id: SocketId,
     },
     /// Asks where a socket is bound, or for the local end of its connection.
@@ -113,6 +122,8 @@ pub enum Answer {
     EndOfStream,
     /// The state of a socket.
     State(SocketState),
+    /// What a socket is ready for.
+    Ready(Ready),
     /// An end of a socket: its own, or its peer.
     Endpoint(Endpoint),
     /// A frame went into the bag: its index there, and its length in octets.
@@ -149,6 +160,7 @@ impl Answer {
             },
             Answer::EndOfStream => Answer::EndOfStream,
             Answer::State(state) => Answer::State(*state),
+            Answer::Ready(ready) => Answer::Ready(*ready),
             Answer::Endpoint(endpoint) => Answer::Endpoint(*endpoint),
             Answer::Frame { index, len } => Answer::Frame {
                 index: *index,

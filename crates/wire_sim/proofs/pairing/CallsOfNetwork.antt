@@ -5,9 +5,10 @@ use Rattle.ipv4.specs.declared.addr.Addr.{Addr}
 use Rattle.ipv4.specs.declared.addr.Endpoint.{Endpoint}
 use Rattle.tcp_segment.specs.declared.seq.Seq.{Seq}
 use Rattle.interface.specs.Ways.{is_routed}
+use Rattle.sockets.specs.Ready.{readiness}
 use Rattle.sockets.specs.declared.entry.SocketId.{SocketId}
 use Rattle.sockets.specs.declared.role.Leave.TheVariants.{Close, Abort}
-use Rattle.sockets.specs.Calls.{unless_refused, bind_refusal, after_bind, listen_refusal, after_listen, accept_answer, after_accept, connect_refusal, after_connect, pair_connected, send_answer, after_send, after_recv, shutdown_refusal, after_shutdown, close_refusal, after_close, after_abort, state_answer, sockname_answer, peername_answer}
+use Rattle.sockets.specs.Calls.{unless_refused, bind_refusal, after_bind, listen_refusal, after_listen, accept_answer, after_accept, connect_refusal, after_connect, pair_connected, send_answer, after_send, after_recv, shutdown_refusal, after_shutdown, nodelay_refusal, after_nodelay, close_refusal, after_close, after_abort, state_answer, sockname_answer, peername_answer}
 use Rattle.sockets.specs.Datagrams.{sendto_answer, after_sendto, recvfrom_answer, after_recvfrom}
 use Rattle.sockets.specs.Entries.{is_socket, role_after_listen}
 use Rattle.sockets.specs.SocketsView.{SocketsView}
@@ -34,7 +35,8 @@ use Rattle.wire_sim.proofs.pairing.CallsAreMoves.{socket_outcome, recv_outcome, 
 use Rattle.wire_sim.proofs.pairing.CloseIsMoves.{call-leaves}
 use Rattle.wire_sim.proofs.pairing.ConnectIsMove.{IsFirst, projects-connects, projects-socket_made}
 use Rattle.wire_sim.proofs.pairing.DatagramsMoveNothing.{projects-sent_to, projects-received_from}
-use Rattle.wire_sim.proofs.told.TraceAndOneMore.{IsQuiet, answered, tallies, tallies-counted, tallies-quiet, tallies-opened, quiet-everywhere, quiet-socket, quiet-bind, quiet-listen, quiet-accept, quiet-connect, quiet-state, quiet-sockname, quiet-peername, quiet-sendto, quiet-recvfrom, quiet-send_refused, quiet-recv_refused, quiet-shutdown_refused, quiet-close_refused, quiet-abort}
+use Rattle.wire_sim.proofs.pairing.NoDelayIsMove.{projects-delayed}
+use Rattle.wire_sim.proofs.told.TraceAndOneMore.{IsQuiet, answered, tallies, tallies-counted, tallies-quiet, tallies-opened, quiet-everywhere, quiet-socket, quiet-bind, quiet-listen, quiet-accept, quiet-connect, quiet-state, quiet-sockname, quiet-peername, quiet-sendto, quiet-recvfrom, quiet-send_refused, quiet-recv_refused, quiet-shutdown_refused, quiet-close_refused, quiet-nodelay, quiet-abort, quiet-ready}
 
 -- What a call made of the network: nothing beside its host, a count, or an opening.
 pub data CallGoes (limit : ℕ) (hs ts : Side) (a b : Addr) (host' : HostView) (other : SocketsView) (n : NetworkView) (bag : Bag) (c : Call) (answer : Answer) (place : ℕ) (trace : List Happening) : Type 0 where
@@ -186,6 +188,13 @@ projects-called limit hs ts a b host host' other n bag place trace (call.Shutdow
           subst (λ r. CallGoes limit hs ts a b host' other n bag (call.Shutdown id) r place trace) (sym x.2)
           (plain limit hs ts a b host' other n bag (call.Shutdown id) (reply.Refused x.0) place trace refl (λ i. quiet-shutdown_refused hs id x.0 i) (kept limit hs ts a b own host'.sockets other bag n.openings trace x.3 h))
     ]
+projects-called limit hs ts a b host host' other n bag place trace (call.SetNoDelay id on) answer sound opposite is_host is_other numbered fair m h =
+    let own = host.sockets in
+    let quiet = quiet-nodelay hs id on answer in
+    elim (outcome (unless_refused (nodelay_refusal own id) (tt {0})) (λ _. reply.Done) (after_nodelay own id on) own answer host'.sockets m) [
+      | inl x ↦ plain limit hs ts a b host' other n bag (call.SetNoDelay id on) answer place trace refl quiet (kept limit hs ts a b (after_nodelay own id on) host'.sockets other bag n.openings trace x.3 (projects-delayed limit hs ts a b own other bag n.openings trace id on h))
+      | inr x ↦ plain limit hs ts a b host' other n bag (call.SetNoDelay id on) answer place trace refl quiet (kept limit hs ts a b own host'.sockets other bag n.openings trace x.3 h)
+    ]
 projects-called limit hs ts a b host host' other n bag place trace (call.Close id) answer sound opposite is_host is_other numbered fair m h =
     let own = host.sockets in
     elim (outcome (unless_refused (close_refusal own id) (tt {0})) (λ _. reply.Done) (after_close own id) own answer host'.sockets m) [
@@ -217,6 +226,12 @@ projects-called limit hs ts a b host host' other n bag place trace (call.State i
     elim (outcome (state_answer own id) (λ s. reply.State s) own own answer host'.sockets m) [
       | inl x ↦ plain limit hs ts a b host' other n bag (call.State id) answer place trace refl (λ i. quiet-state hs id answer i) (kept limit hs ts a b own host'.sockets other bag n.openings trace x.3 h)
       | inr x ↦ plain limit hs ts a b host' other n bag (call.State id) answer place trace refl (λ i. quiet-state hs id answer i) (kept limit hs ts a b own host'.sockets other bag n.openings trace x.3 h)
+    ]
+projects-called limit hs ts a b host host' other n bag place trace (call.Ready id) answer sound opposite is_host is_other numbered fair m h =
+    let own = host.sockets in
+    elim (outcome (readiness own id) (λ s. reply.Ready s) own own answer host'.sockets m) [
+      | inl x ↦ plain limit hs ts a b host' other n bag (call.Ready id) answer place trace refl (λ i. quiet-ready hs id answer i) (kept limit hs ts a b own host'.sockets other bag n.openings trace x.3 h)
+      | inr x ↦ plain limit hs ts a b host' other n bag (call.Ready id) answer place trace refl (λ i. quiet-ready hs id answer i) (kept limit hs ts a b own host'.sockets other bag n.openings trace x.3 h)
     ]
 projects-called limit hs ts a b host host' other n bag place trace (call.SockName id) answer sound opposite is_host is_other numbered fair m h =
     let own = host.sockets in

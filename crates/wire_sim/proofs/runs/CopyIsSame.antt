@@ -18,9 +18,11 @@ cloned (event.Call s (call.Recv ia na)) (event.Call t (call.Recv ib nb)) is = (i
 cloned (event.Call s (call.SendTo ia pa oa)) (event.Call t (call.SendTo ib pb ob)) is = (is.0, (is.1.0, is.1.1.0, same_from_all_zip _ oa.items ob.items is.1.1.1.0 (λ x y r. r)))
 cloned (event.Call s (call.RecvFrom ia na)) (event.Call t (call.RecvFrom ib nb)) is = (is.0, let e0 = is.1.0 in let e1 = is.1.1 in cc)
 cloned (event.Call s (call.Shutdown ia)) (event.Call t (call.Shutdown ib)) is = (is.0, let e0 = is.1 in cc)
+cloned (event.Call s (call.SetNoDelay ia oa)) (event.Call t (call.SetNoDelay ib ob)) is = (is.0, let e0 = is.1.0 in let e1 = is.1.1 in cc)
 cloned (event.Call s (call.Close ia)) (event.Call t (call.Close ib)) is = (is.0, let e0 = is.1 in cc)
 cloned (event.Call s (call.Abort ia)) (event.Call t (call.Abort ib)) is = (is.0, let e0 = is.1 in cc)
 cloned (event.Call s (call.State ia)) (event.Call t (call.State ib)) is = (is.0, let e0 = is.1 in cc)
+cloned (event.Call s (call.Ready ia)) (event.Call t (call.Ready ib)) is = (is.0, let e0 = is.1 in cc)
 cloned (event.Call s (call.SockName ia)) (event.Call t (call.SockName ib)) is = (is.0, let e0 = is.1 in cc)
 cloned (event.Call s (call.PeerName ia)) (event.Call t (call.PeerName ib)) is = (is.0, let e0 = is.1 in cc)
 cloned (event.Call s a) (event.Call t b) is = absurd is.1

@@ -278,6 +278,10 @@ quiet-accept side id a i = (refl, refl, refl, refl)
 pub quiet-connect : (side : Side) (isn : Seq) (id : SocketId) (peer : Endpoint) (a : Answer) (i : SocketId) → IsQuiet side i (answered side (call.Connect isn id peer) a)
 quiet-connect side isn id peer a i = (refl, refl, refl, refl)
 
+-- the wish for no delay, whatever is answered
+pub quiet-nodelay : (side : Side) (id : SocketId) (on : Bool) (a : Answer) (i : SocketId) → IsQuiet side i (answered side (call.SetNoDelay id on) a)
+quiet-nodelay side id on a i = (refl, refl, refl, refl)
+
 -- an abort, whatever is answered
 pub quiet-abort : (side : Side) (id : SocketId) (a : Answer) (i : SocketId) → IsQuiet side i (answered side (call.Abort id) a)
 quiet-abort side id a i = (refl, refl, refl, refl)
@@ -285,6 +289,10 @@ quiet-abort side id a i = (refl, refl, refl, refl)
 -- a question for the state, whatever is answered
 pub quiet-state : (side : Side) (id : SocketId) (a : Answer) (i : SocketId) → IsQuiet side i (answered side (call.State id) a)
 quiet-state side id a i = (refl, refl, refl, refl)
+
+-- for what it is ready for, whatever is answered
+pub quiet-ready : (side : Side) (id : SocketId) (a : Answer) (i : SocketId) → IsQuiet side i (answered side (call.Ready id) a)
+quiet-ready side id a i = (refl, refl, refl, refl)
 
 -- for its own end, whatever is answered
 pub quiet-sockname : (side : Side) (id : SocketId) (a : Answer) (i : SocketId) → IsQuiet side i (answered side (call.SockName id) a)

@@ -85,9 +85,11 @@ impl Station {
             }
             Call::RecvFrom { id, .. } => received_from(host, *id, buffer),
             Call::Shutdown { id } => answered(host.shutdown_write(*id), |()| Answer::Done),
+            Call::SetNoDelay { id, on } => answered(host.set_nodelay(*id, *on), |()| Answer::Done),
             Call::Close { id } => answered(host.close(*id), |()| Answer::Done),
             Call::Abort { id } => answered(host.abort(*id), |()| Answer::Done),
             Call::State { id } => answered(host.state(*id), Answer::State),
+            Call::Ready { id } => answered(host.ready(*id), Answer::Ready),
             Call::SockName(id) => answered(host.sockname(*id), Answer::Endpoint),
             Call::PeerName(id) => answered(host.peername(*id), Answer::Endpoint),
         }
