@@ -294,6 +294,12 @@ int64_t host_recv(struct host *host, uint64_t id, uint8_t *buffer, size_t len);
  * is opening. */
 int64_t host_shutdown_write(struct host *host, uint64_t id);
 
+/* Lets small segments of a connection go out at once from now on, and not wait until what went out before is acknowledged (TCP_NODELAY); with `on` 0
+ * they wait, as they do at first. It answers 0.
+ *
+ * HOST_EBADF. HOST_EOPNOTSUPP: UDP, or listening. HOST_ENOTCONN: it has had no connection. */
+int64_t host_set_nodelay(struct host *host, uint64_t id, uint32_t on);
+
 /* Takes the socket away: its id is HOST_EBADF from now on. What was given to a connection still goes out, and its end behind it, unless the peer
  * sends octets after this call: then it is reset, and what has not gone out is lost. So use host_shutdown_write and read to the end where the peer
  * may still send. A connection with octets that nobody read is reset at once. What waits at a listener is reset, and what waits in a UDP socket is

@@ -151,6 +151,7 @@ _CALLS = {
     "host_send": [_U64, _OCTETS, _SIZE],
     "host_recv": [_U64, _OCTETS, _SIZE],
     "host_shutdown_write": [_U64],
+    "host_set_nodelay": [_U64, _U32],
     "host_close": [_U64],
     "host_abort": [_U64],
     "host_sendto": [_U64, _U32, _U16, _OCTETS, _SIZE],
@@ -344,6 +345,10 @@ class Host:
     def shutdown_write(self, id: int) -> None:
         """Closes our side of a connection, behind all octets that were given."""
         self._call("host_shutdown_write", _id(id))
+
+    def set_nodelay(self, id: int, on: bool = True) -> None:
+        """Lets small segments of a connection go out at once, and not wait until what went out before is acknowledged; or wait, as at first."""
+        self._call("host_set_nodelay", _id(id), int(bool(on)))
 
     def close(self, id: int) -> None:
         """Takes a socket away. (`free` ends the host.)"""

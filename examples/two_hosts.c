@@ -156,7 +156,8 @@ static void connection(int64_t room)
     fill(&a, caller, &b, (uint64_t)accepted, room);
     CHECK(host_info(&a, caller, &info) == 0 && info.state == HOST_STATE_ESTABLISHED && info.held == info.in_flight + info.unsent);
     CHECK(info.smss == 1460 && info.rto >= 1000 && info.ends == -1 && info.error == 0);
-    CHECK(host_info(&b, listener, &info) == HOST_EOPNOTSUPP);
+    CHECK(host_info(&b, listener, &info) == HOST_EOPNOTSUPP && host_set_nodelay(&b, listener, 1) == HOST_EOPNOTSUPP);
+    CHECK(host_set_nodelay(&a, caller, 1) == 0);
 
     CHECK(host_shutdown_write(&a, caller) == 0);
     turns();

@@ -1,9 +1,9 @@
 //! The calls of stream sockets.
 
-ghost use Rattle.std.specs.Prelude.{◌≡◌, length, option_map, Option, Result};
+ghost use Rattle.std.specs.Prelude.{◌≡◌, ◌==◌, not, length, option_map, Option, Result};
 ghost use Rattle.std.specs.Result.{result_ok, result_err};
 ghost use Rattle.interface.specs.Ways.{is_routed};
-ghost use Rattle.sockets.specs.Calls.{bind_refusal, after_bind, listen_refusal, after_listen, accept_answer, after_accept, connect_refusal, after_connect, send_answer, after_send, recv_answer, recv_front, after_recv, shutdown_refusal, after_shutdown, close_refusal, after_close, after_abort};
+ghost use Rattle.sockets.specs.Calls.{bind_refusal, after_bind, listen_refusal, after_listen, accept_answer, after_accept, connect_refusal, after_connect, send_answer, after_send, recv_answer, recv_front, after_recv, shutdown_refusal, after_shutdown, nodelay_refusal, after_nodelay, close_refusal, after_close, after_abort};
 ghost use Rattle.hostc.specs.Calls.{of_host, left_in, after_call, SocketCall};
 ghost use Rattle.hostc.specs.Numbers.{answered, done, numbered, received_count, kind_of};
 ghost use Rattle.hostc.specs.Types.{addr_of, endpoint_of, socket_of, end_of, written};
@@ -127,6 +127,17 @@ pub extern "C" fn host_shutdown_write(alloc: Global, handle: &mut Handle, id: u6
     ensures after { handle.new.host ≡ option_map (λ h. after_call (shutdown_refusal h.sockets (socket_of id)) h (after_shutdown h.sockets (socket_of id))) handle.old.host }
 {
     done(handle.ask(alloc, |host| host.shutdown_write(SocketId(id))))
+}
+
+/// `Host::set_nodelay`: small segments don't wait where `on` is another number than 0. Answers 0. EBADF where the handle holds no host; else as
+/// `Host::set_nodelay`.
+#[unsafe(no_mangle)]
+pub extern "C" fn host_set_nodelay(alloc: Global, handle: &mut Handle, id: u64, on: u32) -> i64
+    ensures answer { result ≡ answered (of_host (λ h. done (nodelay_refusal h.sockets (socket_of id))) handle.old.host) }
+    ensures after { handle.new.host ≡ option_map (λ h. after_call (nodelay_refusal h.sockets (socket_of id)) h (after_nodelay h.sockets (socket_of id) (not (on == 0)))) handle.old.host }
+{
+    let is_on = on != 0;
+    done(handle.ask(alloc, |host| host.set_nodelay(SocketId(id), is_on)))
 }
 
 /// `Host::close`. Answers 0. EBADF where the handle holds no host; else as `Host::close`.

@@ -175,6 +175,11 @@ impl Host {
         done(unsafe { c::host_shutdown_write(&mut self.0, id.0) })
     }
 
+    /// Lets small segments of a connection go out at once from now on, and not wait until what went out before is acknowledged; or wait, as at first.
+    pub fn set_nodelay(&mut self, id: SocketId, on: bool) -> Result<(), Error> {
+        done(unsafe { c::host_set_nodelay(&mut self.0, id.0, u32::from(on)) })
+    }
+
     /// Takes a socket away. A connection with octets that nobody read is reset, and one whose peer sends more; else what was given still goes out.
     pub fn close(&mut self, id: SocketId) -> Result<(), Error> {
         done(unsafe { c::host_close(&mut self.0, id.0) })

@@ -58,10 +58,12 @@ fn refusals_have_their_names() {
     assert_eq!(host.peername(stream), Err(Error::ENOTCONN));
     assert_eq!(host.sockname(stream), Ok(SocketAddrV4::new(Ipv4Addr::UNSPECIFIED, 0)));
     assert_eq!(host.listen(stream, 1), Err(Error::EDESTADDRREQ));
+    assert_eq!(host.set_nodelay(stream, true), Err(Error::ENOTCONN));
     let datagrams = host.socket(Kind::Udp).unwrap();
     assert_eq!(host.state(datagrams), Ok(State::Datagram));
     assert_eq!(host.accept(datagrams), Err(Error::EOPNOTSUPP));
     assert_eq!(host.send(datagrams, b"x"), Err(Error::EDESTADDRREQ));
+    assert_eq!(host.set_nodelay(datagrams, true), Err(Error::EOPNOTSUPP));
     assert_eq!(host.sendto(datagrams, SocketAddrV4::new(Ipv4Addr::new(192, 0, 2, 1), 9), b"x"), Err(Error::ENETUNREACH));
     assert_eq!(host.recvfrom(datagrams, &mut [0]), Err(Error::EAGAIN));
     for _ in 2..64 {
