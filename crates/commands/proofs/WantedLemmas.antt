@@ -14,7 +14,7 @@ use Rattle.wire_sim.specs.WorldRoom.{RoomyWorld, ListRoom, HasRoomFor, event_oct
 use Rattle.wire_sim.specs.WorldView.{WorldView}
 use Rattle.wire_sim.proofs.RunGiven.{same_event}
 use Rattle.wire_sim.proofs.runs.RoomyRunsLast.{bare-runs}
-use Rattle.script.specs.declared.action.Action.TheVariants.{Socket, Bind, Listen, Accept, Connect, Send, Fill, Recv, Count, SendTo, FillTo, RecvFrom, CountFrom, Shutdown, Close, Abort, State, Tick, Emit, Deliver}
+use Rattle.script.specs.declared.action.Action.TheVariants.{Socket, Bind, Listen, Accept, Connect, Send, Fill, Recv, Count, SendTo, FillTo, RecvFrom, CountFrom, Shutdown, NoDelay, Close, Abort, State, Ready, Tick, Emit, Deliver}
 use Rattle.commands.specs.Play.{ComesTo}
 use Rattle.commands.specs.Wanted.{MemoryIsWantedForOctets}
 
@@ -77,9 +77,11 @@ wanted side (FillTo id port count) e w v is came = absurd is
 wanted side (RecvFrom id most) e w v is came = reads e w v most (λ n. event.Call side (call.RecvFrom id n)) is (bare _ refl refl refl) came
 wanted side (CountFrom id most) e w v is came = reads e w v most (λ n. event.Call side (call.RecvFrom id n)) is (bare _ refl refl refl) came
 wanted side (Shutdown id) e w v is came = absurd (bare_is_taken e _ w v is (bare _ refl refl refl) came)
+wanted side (NoDelay id on) e w v is came = absurd (bare_is_taken e _ w v is (bare _ refl refl refl) came)
 wanted side (Close id) e w v is came = absurd (bare_is_taken e _ w v is (bare _ refl refl refl) came)
 wanted side (Abort id) e w v is came = absurd (bare_is_taken e _ w v is (bare _ refl refl refl) came)
 wanted side (State id) e w v is came = absurd (bare_is_taken e _ w v is (bare _ refl refl refl) came)
+wanted side (Ready id) e w v is came = absurd (bare_is_taken e _ w v is (bare _ refl refl refl) came)
 wanted side (Tick moment) e w v is came = absurd (bare_is_taken e _ w v is (bare _ refl refl refl) came)
 wanted side Emit e w v is came = tt
 wanted side (Deliver index isn) e w v is came = absurd (bare_is_taken e _ w v is (bare _ refl refl refl) came)

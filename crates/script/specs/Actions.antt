@@ -1,5 +1,5 @@
 -- What a script's line has one host do, by the words that follow the host's name.
-use Rattle.std.specs.Prelude.{ℕ, ◌-◌, ◌^◌, List, [], ◌∷◌, Option, Some, None, codes, option_map, option_and_then, if◌then◌else◌}
+use Rattle.std.specs.Prelude.{ℕ, ◌-◌, ◌^◌, Bool, true, false, List, [], ◌∷◌, Option, Some, None, codes, option_map, option_and_then, if◌then◌else◌}
 use Rattle.std.specs.Str.{bytes_eq}
 use Rattle.tcp_segment.specs.declared.seq.Seq.{Seq}
 use Rattle.clock.specs.declared.moment.Moment.{Moment}
@@ -11,13 +11,20 @@ use Rattle.script.specs.Keywords.{keyword_of}
 use Rattle.script.specs.declared.action.Keyword.{Keyword}
 use Rattle.script.specs.declared.action.Keyword.TheVariants as keyword
 use Rattle.script.specs.declared.action.Action.{Action}
-use Rattle.script.specs.declared.action.Action.TheVariants.{Socket, Bind, Listen, Accept, Connect, Send, Fill, Recv, Count, SendTo, FillTo, RecvFrom, CountFrom, Shutdown, Close, Abort, State, Tick, Emit, Deliver}
+use Rattle.script.specs.declared.action.Action.TheVariants.{Socket, Bind, Listen, Accept, Connect, Send, Fill, Recv, Count, SendTo, FillTo, RecvFrom, CountFrom, Shutdown, NoDelay, Close, Abort, State, Ready, Tick, Emit, Deliver}
 
 -- the kind of a socket
 abbrev pub kind_of : List ℕ → Option Kind
 kind_of word =
     if bytes_eq word (codes "tcp") then Some Tcp
     else if bytes_eq word (codes "udp") then Some Udp
+    else None
+
+-- whether it is on
+abbrev pub switch_of : List ℕ → Option Bool
+switch_of word =
+    if bytes_eq word (codes "on") then Some true
+    else if bytes_eq word (codes "off") then Some false
     else None
 
 -- a number of 64 bits
@@ -68,9 +75,11 @@ said_by keyword.FillTo (id ∷ port ∷ count ∷ []) = for_port FillTo id port 
 said_by keyword.RecvFrom (id ∷ most ∷ []) = together RecvFrom (id_of id) (octets_of most)
 said_by keyword.CountFrom (id ∷ most ∷ []) = together CountFrom (id_of id) (octets_of most)
 said_by keyword.Shutdown (id ∷ []) = option_map Shutdown (id_of id)
+said_by keyword.NoDelay (id ∷ on ∷ []) = together NoDelay (id_of id) (switch_of on)
 said_by keyword.Close (id ∷ []) = option_map Close (id_of id)
 said_by keyword.Abort (id ∷ []) = option_map Abort (id_of id)
 said_by keyword.State (id ∷ []) = option_map State (id_of id)
+said_by keyword.Ready (id ∷ []) = option_map Ready (id_of id)
 said_by keyword.Tick (moment ∷ []) = option_map Tick (moment_of moment)
 said_by keyword.Emit [] = Some Emit
 said_by keyword.Deliver (index ∷ isn ∷ []) = together Deliver (wide index) (isn_of isn)

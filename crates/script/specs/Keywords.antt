@@ -2,7 +2,7 @@
 use Rattle.std.specs.Prelude.{ℕ, List, Option, Some, None, codes, if◌then◌else◌}
 use Rattle.std.specs.Str.{bytes_eq}
 use Rattle.script.specs.declared.action.Keyword.{Keyword}
-use Rattle.script.specs.declared.action.Keyword.TheVariants.{Socket, Bind, Listen, Accept, Connect, Send, Fill, Recv, Count, SendTo, FillTo, RecvFrom, CountFrom, Shutdown, Close, Abort, State, Tick, Emit, Deliver}
+use Rattle.script.specs.declared.action.Keyword.TheVariants.{Socket, Bind, Listen, Accept, Connect, Send, Fill, Recv, Count, SendTo, FillTo, RecvFrom, CountFrom, Shutdown, NoDelay, Close, Abort, State, Ready, Tick, Emit, Deliver}
 
 -- the keyword that a word is
 abbrev pub keyword_of : List ℕ → Option Keyword
@@ -21,9 +21,11 @@ keyword_of word =
     else if bytes_eq word (codes "recvfrom") then Some RecvFrom
     else if bytes_eq word (codes "countfrom") then Some CountFrom
     else if bytes_eq word (codes "shutdown") then Some Shutdown
+    else if bytes_eq word (codes "nodelay") then Some NoDelay
     else if bytes_eq word (codes "close") then Some Close
     else if bytes_eq word (codes "abort") then Some Abort
     else if bytes_eq word (codes "state") then Some State
+    else if bytes_eq word (codes "ready") then Some Ready
     else if bytes_eq word (codes "tick") then Some Tick
     else if bytes_eq word (codes "emit") then Some Emit
     else if bytes_eq word (codes "deliver") then Some Deliver

@@ -1,11 +1,12 @@
 -- How octets are shown in a printed line.
-use Rattle.std.specs.Prelude.{◌++◌, codes, slice_index, length, ℕ, ◌+◌, ◌/◌, ◌%◌, List, [], ◌∷◌, ◌&&◌, ◌==◌, nat_lt, not, if◌then◌else◌}
+use Rattle.std.specs.Prelude.{◌++◌, codes, slice_index, length, ℕ, ◌+◌, ◌/◌, ◌%◌, List, [], ◌∷◌, Bool, true, false, ◌&&◌, ◌||◌, ◌==◌, nat_lt, not, if◌then◌else◌}
 use Rattle.std.specs.List.{flat_map}
 use Rattle.std.specs.Fmt.{decimal}
 use Rattle.wire_sim.specs.declared.event.Answer.{Answer}
-use Rattle.wire_sim.specs.declared.event.Answer.TheVariants.{Socket, Done, Accepted, Started, Sent, Octets, Datagram, EndOfStream, State, Frame, NoFrame, Taken, Dropped, Refused}
+use Rattle.wire_sim.specs.declared.event.Answer.TheVariants.{Socket, Done, Accepted, Started, Sent, Octets, Datagram, EndOfStream, State, Ready, Frame, NoFrame, Taken, Dropped, Refused}
 use Rattle.wire_sim.specs.declared.event.Answer.TheVariants as answered
 use Rattle.ipv4.specs.declared.addr.Endpoint.{Endpoint}
+use Rattle.sockets.specs.declared.ready.Ready.{Ready as Readiness}
 use Rattle.sockets.specs.Names.{refusal_text, socket_state_text}
 use Rattle.frames.specs.Drops.{number_of}
 use Rattle.script.specs.declared.action.Action.{Action}
@@ -45,6 +46,18 @@ abbrev pub octets_text : Style → List ℕ → List ℕ
 octets_text style.Text octets = codes "octets " ++ escaped_of octets
 octets_text style.Count octets = codes "octets " ++ decimal (length octets)
 
+-- a word where it holds, behind a blank where another stands before it
+abbrev pub word_shown : Bool → Bool → List ℕ → List ℕ
+word_shown holds others word = if holds then (if others then codes " " ++ word else word) else []
+
+-- what a socket is ready for: the words that hold, or `none`
+abbrev pub ready_text : Readiness → List ℕ
+ready_text r =
+    word_shown r.accept false (codes "ACCEPT") ++ (word_shown r.read r.accept (codes "READ") ++ (word_shown r.write (r.accept || r.read) (codes "WRITE")
+    ++ (word_shown r.ended (r.accept || r.read || r.write) (codes "ENDED") ++ (word_shown r.failed (r.accept || r.read || r.write || r.ended) (codes "FAILED")
+    ++ (word_shown r.opening (r.accept || r.read || r.write || r.ended || r.failed) (codes "OPENING")
+    ++ word_shown (not (r.accept || r.read || r.write || r.ended || r.failed || r.opening)) false (codes "none"))))))
+
 -- what is printed of an answer
 abbrev pub shown_of : Style → Answer → List ℕ
 shown_of how (Socket id) = codes "id " ++ decimal id.0
@@ -56,6 +69,7 @@ shown_of how (Octets octets) = octets_text how octets.items
 shown_of how (Datagram octets from) = octets_text how octets.items ++ (codes " from " ++ peer_text from)
 shown_of how EndOfStream = codes "end"
 shown_of how (State told) = socket_state_text told
+shown_of how (Ready told) = ready_text told
 shown_of how (answered.Endpoint end) = peer_text end
 shown_of how (Frame index len) = codes "frame " ++ decimal index ++ codes " " ++ decimal len
 shown_of how NoFrame = codes "none"

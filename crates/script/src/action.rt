@@ -2,7 +2,7 @@
 
 ghost use Rattle.std.specs.Prelude.{◌≡◌, ◌≢◌, [], ◌∷◌, map};
 ghost use Rattle.script.specs.Keywords.{keyword_of};
-ghost use Rattle.script.specs.Actions.{action_of, said_by, id_of, kind_of, moment_of, isn_of, port_of, octets_of};
+ghost use Rattle.script.specs.Actions.{action_of, said_by, id_of, kind_of, switch_of, moment_of, isn_of, port_of, octets_of};
 
 use crate::words::{Text, number};
 use clock::Moment;
@@ -83,6 +83,11 @@ pub enum Action<'a> {
     Shutdown {
         id: SocketId,
     },
+    /// Let small segments of a connection go out at once from now on, or wait.
+    NoDelay {
+        id: SocketId,
+        on: bool,
+    },
     /// Give a socket back: its id is gone, and its connection ends by itself.
     Close {
         id: SocketId,
@@ -93,6 +98,10 @@ pub enum Action<'a> {
     },
     /// Ask for a socket's state.
     State {
+        id: SocketId,
+    },
+    /// Ask what a socket is ready for.
+    Ready {
         id: SocketId,
     },
     /// Tell the moment, in milliseconds.
@@ -137,12 +146,16 @@ pub enum Keyword {
     CountFrom,
     /// `shutdown`
     Shutdown,
+    /// `nodelay`
+    NoDelay,
     /// `close`
     Close,
     /// `abort`
     Abort,
     /// `state`
     State,
+    /// `ready`
+    Ready,
     /// `tick`
     Tick,
     /// `emit`
@@ -171,9 +184,11 @@ impl Keyword {
             b"recvfrom" => Keyword::RecvFrom,
             b"countfrom" => Keyword::CountFrom,
             b"shutdown" => Keyword::Shutdown,
+            b"nodelay" => Keyword::NoDelay,
             b"close" => Keyword::Close,
             b"abort" => Keyword::Abort,
             b"state" => Keyword::State,
+            b"ready" => Keyword::Ready,
             b"tick" => Keyword::Tick,
             b"emit" => Keyword::Emit,
             b"deliver" => Keyword::Deliver,
@@ -235,6 +250,9 @@ fn with_one<'a>(keyword: Keyword, word: &'a [u8]) -> Option<Action<'a>>
         Keyword::State => Some(Action::State {
             id: socket_id(word)?,
         }),
+        Keyword::Ready => Some(Action::Ready {
+            id: socket_id(word)?,
+        }),
         Keyword::Tick => Some(Action::Tick(moment(word)?)),
         _ => None,
     }
@@ -287,6 +305,10 @@ fn on_socket<'a>(keyword: Keyword, first: &'a [u8], second: &'a [u8]) -> Option<
             id,
             most: octets(second)?,
         }),
+        Keyword::NoDelay => Some(Action::NoDelay {
+            id,
+            on: switch(second)?,
+        }),
         Keyword::CountFrom => Some(Action::CountFrom {
             id,
             most: octets(second)?,
@@ -329,6 +351,17 @@ fn socket_kind(word: &[u8]) -> Option<Kind>
     match word {
         b"tcp" => Some(Kind::Tcp),
         b"udp" => Some(Kind::Udp),
+        _ => None,
+    }
+}
+
+/// Whether a word says `on` or `off`.
+fn switch(word: &[u8]) -> Option<bool>
+    ensures { result ≡ switch_of word.now }
+{
+    match word {
+        b"on" => Some(true),
+        b"off" => Some(false),
         _ => None,
     }
 }

@@ -1,11 +1,11 @@
 //! How the answers of a world are printed.
 
 ghost use Rattle.std.specs.Prelude.{◌≡◌, ◌<◌, ◌++◌, [], ◌∷◌, OnOk, IfOk, codes, length, string_bytes};
-ghost use Rattle.script.specs.Text.{hex_digit_of, escape_of, escaped_of, octets_text, peer_text, shown_of};
+ghost use Rattle.script.specs.Text.{hex_digit_of, escape_of, escaped_of, octets_text, peer_text, ready_text, shown_of, word_shown};
 ghost use Rattle.wire_sim.specs.Names.{unfair_text};
 ghost use Rattle.std.specs.Fmt.{decimal};
 
-use host::SocketId;
+use host::{Ready, SocketId};
 use ipv4::Endpoint;
 use std::alloc::AllocError;
 use wire_sim::{Answer, Unfair};
@@ -66,6 +66,7 @@ pub fn show(answer: &Answer, style: Style, line: &mut String) -> Result<(), Allo
         Answer::Datagram { octets, from } => show_datagram(octets.as_slice(), *from, style, line),
         Answer::EndOfStream => line.push_str("end"),
         Answer::State(state) => write!(line, "{state}"),
+        Answer::Ready(ready) => show_ready(*ready, line),
         Answer::Endpoint(end) => show_peer(*end, line),
         Answer::Frame { index, len } => write!(line, "frame {index} {len}"),
         Answer::NoFrame => line.push_str("none"),
@@ -73,6 +74,37 @@ pub fn show(answer: &Answer, style: Style, line: &mut String) -> Result<(), Allo
         Answer::Dropped(cause) => write!(line, "drop F{}", cause.number()),
         Answer::Refused(refusal) => write!(line, "{refusal}"),
     }
+}
+
+/// What a socket is ready for: the words that hold, or `none`.
+fn show_ready(ready: Ready, line: &mut String) -> Result<(), AllocError>
+    ensures { OnOk result (string_bytes line.new ≡ string_bytes line.old ++ ready_text ready) }
+{
+    show_word(ready.accept, false, "ACCEPT", line)?;
+    let others = ready.accept;
+    show_word(ready.read, others, "READ", line)?;
+    let others = others || ready.read;
+    show_word(ready.write, others, "WRITE", line)?;
+    let others = others || ready.write;
+    show_word(ready.ended, others, "ENDED", line)?;
+    let others = others || ready.ended;
+    show_word(ready.failed, others, "FAILED", line)?;
+    let others = others || ready.failed;
+    show_word(ready.opening, others, "OPENING", line)?;
+    show_word(!(others || ready.opening), false, "none", line)
+}
+
+/// A word where it holds, behind a blank where another stands before it.
+fn show_word(holds: bool, others: bool, word: &str, line: &mut String) -> Result<(), AllocError>
+    ensures { OnOk result (string_bytes line.new ≡ string_bytes line.old ++ word_shown holds others word.now) }
+{
+    if holds && others {
+        line.push_str(" ")?;
+    }
+    if holds {
+        line.push_str(word)?;
+    }
+    Ok(())
 }
 
 /// The id of an accepted connection, and its peer.

@@ -84,9 +84,14 @@ pub fn event(alloc: Global, side: Side, action: &Action<'_>) -> Result<Event, Al
             },
         )),
         Action::Shutdown { id } => Ok(Event::Call(side, Call::Shutdown { id: *id })),
+        Action::NoDelay { id, on } => {
+            let (id, on) = (*id, *on);
+            Ok(Event::Call(side, Call::SetNoDelay { id, on }))
+        }
         Action::Close { id } => Ok(Event::Call(side, Call::Close { id: *id })),
         Action::Abort { id } => Ok(Event::Call(side, Call::Abort { id: *id })),
         Action::State { id } => Ok(Event::Call(side, Call::State { id: *id })),
+        Action::Ready { id } => Ok(Event::Call(side, Call::Ready { id: *id })),
     }
 }
 

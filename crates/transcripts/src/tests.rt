@@ -13,6 +13,7 @@ mod failures;
 mod hops;
 mod ladders;
 mod lines;
+mod ready;
 mod recordings;
 mod refusals;
 mod resets;
@@ -69,7 +70,7 @@ pass 0 -> a 1 b 0
 
 /// All transcripts. Each is a list of parts, in whose lines an arrow parts a script's line from what it prints; a line without
 /// one prints nothing.
-const TRANSCRIPTS: [&[&[&str]]; 16] = [
+const TRANSCRIPTS: [&[&[&str]]; 17] = [
     aborts::TRANSCRIPTS,
     backlog::TRANSCRIPTS,
     closing::TRANSCRIPTS,
@@ -77,6 +78,7 @@ const TRANSCRIPTS: [&[&[&str]]; 16] = [
     drops::TRANSCRIPTS,
     examples::TRANSCRIPTS,
     hops::TRANSCRIPTS,
+    ready::TRANSCRIPTS,
     refusals::TRANSCRIPTS,
     resets::TRANSCRIPTS,
     rounds::TRANSCRIPTS,

@@ -59,6 +59,13 @@ const BAD: &str = " \n\
     limit 1073741825\n\
     a shutdown\n\
     a shutdown 1 1\n\
+    a nodelay 1\n\
+    a nodelay on\n\
+    a nodelay 1 On\n\
+    a nodelay 1 1\n\
+    a nodelay 1 on off\n\
+    a ready\n\
+    a ready 1 1\n\
     a close\n\
     a close 1 1\n\
     a abort\n\

@@ -22,6 +22,8 @@ a recvfrom 1 1 -> E1 EBADF
 a recvfrom 1 0 -> E1 EBADF
 a countfrom 1 0 -> E1 EBADF
 a shutdown 1 -> E1 EBADF
+a nodelay 1 on -> E1 EBADF
+a nodelay 1 off -> E1 EBADF
 a close 1 -> E1 EBADF
 a abort 1 -> E1 EBADF
 a state 1 -> E1 EBADF
@@ -39,6 +41,7 @@ b state 2 -> E1 EBADF
 b send 2 x -> E1 EBADF
 b recv 2 1 -> E1 EBADF
 b shutdown 2 -> E1 EBADF
+b nodelay 2 on -> E1 EBADF
 b close 2 -> E1 EBADF
 b abort 2 -> E1 EBADF
 b accept 1 -> id 2 10.0.0.1 49152
@@ -61,6 +64,7 @@ a recv 1 1 -> E6 ENOTCONN
 a count 1 0 -> E2 EINVAL
 a count 1 1 -> E6 ENOTCONN
 a shutdown 1 -> E6 ENOTCONN
+a nodelay 1 on -> E6 ENOTCONN
 a bind 1 5 -> ok
 a bind 1 0 -> E2 EINVAL
 a bind 1 6 -> E2 EINVAL
@@ -71,6 +75,7 @@ a connect 1 0 5 -> E4 EADDRNOTAVAIL
 a send 1 x -> E6 ENOTCONN
 a recv 1 1 -> E6 ENOTCONN
 a shutdown 1 -> E6 ENOTCONN
+a nodelay 1 off -> E6 ENOTCONN
 a sendto 1 80 x -> E17 EOPNOTSUPP
 a fillto 1 0 65508 -> E17 EOPNOTSUPP
 a recvfrom 1 1 -> E17 EOPNOTSUPP
@@ -96,6 +101,7 @@ a recv 1 1 -> E17 EOPNOTSUPP
 a count 1 0 -> E17 EOPNOTSUPP
 a count 1 1 -> E17 EOPNOTSUPP
 a shutdown 1 -> E17 EOPNOTSUPP
+a nodelay 1 on -> E17 EOPNOTSUPP
 a sendto 1 80 x -> E17 EOPNOTSUPP
 a fillto 1 0 65508 -> E17 EOPNOTSUPP
 a recvfrom 1 1 -> E17 EOPNOTSUPP
@@ -118,6 +124,8 @@ a recv 1 1 -> E8 EAGAIN
 a count 1 0 -> E2 EINVAL
 a count 1 1 -> E8 EAGAIN
 a shutdown 1 -> E6 ENOTCONN
+a nodelay 1 on -> ok
+a nodelay 1 off -> ok
 a sendto 1 80 x -> E17 EOPNOTSUPP
 a fillto 1 0 65508 -> E17 EOPNOTSUPP
 a recvfrom 1 1 -> E17 EOPNOTSUPP
@@ -136,6 +144,7 @@ a recv 1 0 -> E17 EOPNOTSUPP
 a recv 1 1 -> E17 EOPNOTSUPP
 a count 1 0 -> E17 EOPNOTSUPP
 a shutdown 1 -> E17 EOPNOTSUPP
+a nodelay 1 on -> E17 EOPNOTSUPP
 a recvfrom 1 0 -> E2 EINVAL
 a recvfrom 1 1 -> E8 EAGAIN
 a countfrom 1 0 -> E2 EINVAL
@@ -188,6 +197,7 @@ a fill 1 0 -> E12 EPIPE
 a connect 1 80 9 -> E5 EISCONN
 a recv 1 1 -> E8 EAGAIN
 a shutdown 1 -> ok
+a nodelay 1 on -> ok
 a sendto 1 80 x -> E17 EOPNOTSUPP
 a fillto 1 0 65508 -> E17 EOPNOTSUPP
 a recvfrom 1 1 -> E17 EOPNOTSUPP
@@ -213,6 +223,7 @@ b recv 2 1 -> end
 b count 2 0 -> E2 EINVAL
 b count 2 1 -> end
 b shutdown 2 -> ok
+b nodelay 2 on -> ok
 b close 2 -> ok
 b close 2 -> E1 EBADF
 ";
@@ -257,6 +268,7 @@ a recv 1 1 -> E10 ECONNRESET
 a count 1 0 -> E2 EINVAL
 a count 1 1 -> E10 ECONNRESET
 a shutdown 1 -> E10 ECONNRESET
+a nodelay 1 on -> ok
 a close 1 -> ok
 a close 1 -> E1 EBADF
 ";

@@ -26,6 +26,51 @@ b deliver 5 0 -> taken
 b recv 2 100 -> octets 0123456789abcdefghij
 ";
 
+/// With no delay a second small segment goes out at once, and so does one that waits. Without it a third one waits again, for half a second.
+const UNDELAYED: &str = "a nodelay 1 on -> ok
+a send 1 0123456789 -> sent 10
+a emit -> frame 5 64
+a send 1 abcdefghij -> sent 10
+a emit -> frame 6 64
+a emit -> none
+a nodelay 1 off -> ok
+a send 1 klmnopqrst -> sent 10
+a emit -> none
+a tick 499 -> ok
+a emit -> none
+a tick 500 -> ok
+a emit -> frame 7 64
+b deliver 5 0 -> taken
+b deliver 6 0 -> taken
+b deliver 7 0 -> taken
+b recv 2 100 -> octets 0123456789abcdefghijklmnopqrst
+";
+
+/// Octets that wait already go out at once where no delay is wanted from then on.
+const UNDELAYED_LATER: &str = "a send 1 0123456789 -> sent 10
+a emit -> frame 5 64
+a send 1 abcdefghij -> sent 10
+a emit -> none
+a nodelay 1 on -> ok
+a emit -> frame 6 64
+a emit -> none
+a tick 500 -> ok
+a emit -> none
+b deliver 5 0 -> taken
+b deliver 6 0 -> taken
+b recv 2 100 -> octets 0123456789abcdefghij
+";
+
+/// The wish is of one connection: that of its peer, which is the other end of it, goes on waiting.
+const UNDELAYED_ALONE: &str = "a nodelay 1 on -> ok
+b send 2 0123456789 -> sent 10
+b emit -> frame 5 64
+b send 2 abcdefghij -> sent 10
+b emit -> none
+b nodelay 2 off -> ok
+b emit -> none
+";
+
 /// An end that comes ahead of its octets isn't kept. It goes out again with them.
 const END_AHEAD: &str = "a send 1 hello -> sent 5
 a emit -> frame 5 60
@@ -233,6 +278,9 @@ a emit -> none
 pub const TRANSCRIPTS: &[&[&str]] = &[
     &[OPENING, ACCEPTED, HELLO],
     &[OPENING, ACCEPTED, OVERRIDDEN],
+    &[OPENING, ACCEPTED, UNDELAYED],
+    &[OPENING, ACCEPTED, UNDELAYED_LATER],
+    &[OPENING, ACCEPTED, UNDELAYED_ALONE],
     &[OPENING, ACCEPTED, END_AHEAD],
     &[OPENING, ACCEPTED, UNREAD],
     &[UNSCALED, OPENING, ACCEPTED, DELAYED],

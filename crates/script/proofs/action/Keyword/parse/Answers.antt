@@ -68,3 +68,18 @@ pub returns-in-state : goal.returns-in-state
 returns-in-state c =
     let same : c.args.word.now ≡ codes "state" = text_from_reads _ _ (omega arith) (search rules) in
     ap keyword_of (sym same)
+
+pub returns-in-abort : goal.returns-in-abort
+returns-in-abort c =
+    let same : c.args.word.now ≡ codes "abort" = text_from_reads _ _ (omega arith) (search rules) in
+    ap keyword_of (sym same)
+
+pub returns-in-ready : goal.returns-in-ready
+returns-in-ready c =
+    let same : c.args.word.now ≡ codes "ready" = text_from_reads _ _ (omega arith) (search rules) in
+    ap keyword_of (sym same)
+
+pub returns-in-nodelay : goal.returns-in-nodelay
+returns-in-nodelay c =
+    let same : c.args.word.now ≡ codes "nodelay" = text_from_reads _ _ (omega arith) (search rules) in
+    ap keyword_of (sym same)
