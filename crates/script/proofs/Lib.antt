@@ -1,3 +1,4 @@
 pub mod ActionLemmas
+pub mod ReadyLemmas
 pub mod ScriptLemmas
 pub mod WordLemmas

@@ -1,5 +1,5 @@
 -- How octets are shown in a printed line.
-use Rattle.std.specs.Prelude.{◌++◌, codes, slice_index, length, ℕ, ◌+◌, ◌/◌, ◌%◌, List, [], ◌∷◌, Bool, true, false, ◌&&◌, ◌||◌, ◌==◌, nat_lt, not, if◌then◌else◌}
+use Rattle.std.specs.Prelude.{◌++◌, codes, slice_index, length, ℕ, ◌+◌, ◌/◌, ◌%◌, List, [], ◌∷◌, Bool, true, false, ◌&&◌, ◌==◌, nat_lt, not, if◌then◌else◌}
 use Rattle.std.specs.List.{flat_map}
 use Rattle.std.specs.Fmt.{decimal}
 use Rattle.wire_sim.specs.declared.event.Answer.{Answer}
@@ -46,17 +46,25 @@ abbrev pub octets_text : Style → List ℕ → List ℕ
 octets_text style.Text octets = codes "octets " ++ escaped_of octets
 octets_text style.Count octets = codes "octets " ++ decimal (length octets)
 
+-- the words that hold
+abbrev pub that_hold : List (Bool × List ℕ) → List (List ℕ)
+that_hold [] = []
+that_hold ((true, word) ∷ rest) = word ∷ that_hold rest
+that_hold ((false, word) ∷ rest) = that_hold rest
+
+-- words with a blank between them; where there is none, `none`
+abbrev pub words_text : List (List ℕ) → List ℕ
+words_text [] = codes "none"
+words_text (first ∷ rest) = first ++ flat_map (λ word. codes " " ++ word) rest
+
+-- what a socket is ready for
+abbrev pub ready_text : Readiness → List ℕ
+ready_text r = words_text (that_hold (
+    (r.accept, codes "ACCEPT") ∷ (r.read, codes "READ") ∷ (r.write, codes "WRITE") ∷ (r.ended, codes "ENDED") ∷ (r.failed, codes "FAILED") ∷ (r.opening, codes "OPENING") ∷ []))
+
 -- a word where it holds, behind a blank where another stands before it
 abbrev pub word_shown : Bool → Bool → List ℕ → List ℕ
 word_shown holds others word = if holds then (if others then codes " " ++ word else word) else []
-
--- what a socket is ready for: the words that hold, or `none`
-abbrev pub ready_text : Readiness → List ℕ
-ready_text r =
-    word_shown r.accept false (codes "ACCEPT") ++ (word_shown r.read r.accept (codes "READ") ++ (word_shown r.write (r.accept || r.read) (codes "WRITE")
-    ++ (word_shown r.ended (r.accept || r.read || r.write) (codes "ENDED") ++ (word_shown r.failed (r.accept || r.read || r.write || r.ended) (codes "FAILED")
-    ++ (word_shown r.opening (r.accept || r.read || r.write || r.ended || r.failed) (codes "OPENING")
-    ++ word_shown (not (r.accept || r.read || r.write || r.ended || r.failed || r.opening)) false (codes "none"))))))
 
 -- what is printed of an answer
 abbrev pub shown_of : Style → Answer → List ℕ
