@@ -20,7 +20,7 @@ import time
 
 TOP = os.path.dirname(os.path.dirname(os.path.realpath(__file__)))
 # What is asked of rt; another kit's may lack one.
-ASKED = ("checked", "free", "in_lanes", "must_fail", "need", "processors", "read_edit", "read_files", "rtlib")
+ASKED = ("REFUSED", "checked", "free", "in_lanes", "must_fail", "need", "processors", "read_edit", "read_files", "rtlib")
 # The seconds that each crate took from nothing when it was last proved here.
 TOOK = f"{TOP}/tools/out/seconds.json"
 PERFORMANCE = f"{TOP}/docs/PERFORMANCE.md"
