@@ -350,7 +350,8 @@ void host_tick(struct host *host, uint64_t now);
 
 /* Answers 1 and writes to `moment` when host_tick is wanted next, at the latest; or 0, and writes nothing, where nothing waits for a moment. Any
  * call, frame or emission may move it. A program that takes frames until there is none, and ticks at that moment at the latest, never sleeps for
- * ever over octets that a peer to whom a route leads has not acknowledged: they can go out now, or there is such a moment. */
+ * ever over octets that a peer to whom a route leads has not acknowledged: they can go out now, or there is such a moment. Where nobody answers
+ * the requests for the peer's MAC, there is one each second, until the connection is given up after 483,000 ms. */
 int64_t host_next_deadline(struct host *host, uint64_t *moment);
 
 /* Hands a frame that arrived to the host. `isn` is used where the frame opens a connection: hand in a fresh one each time. It answers 0 for a

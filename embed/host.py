@@ -445,7 +445,8 @@ class Host:
 
     def next_deadline(self) -> Optional[int]:
         """The moment at which `tick` is wanted at the latest, or None. A program that takes frames until there is none, and ticks then, never sleeps
-        for ever over octets that a peer to whom a route leads has not acknowledged."""
+        for ever over octets that a peer to whom a route leads has not acknowledged. Where nobody answers the requests for the peer's MAC, there is one
+        each second, until the connection is given up after 483,000 ms."""
         moment = _U64()
         return moment.value if self._call("host_next_deadline", moment) else None
 

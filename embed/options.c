@@ -36,7 +36,7 @@ static const char help[] =
     "\n"
     "Others:\n"
     "  --openings N               takes at most N connections a second; a SYN beyond them is passed over, and comes again\n"
-    "  --idle SECONDS             an accepted connection on which nothing moves for so long is closed (300)\n"
+    "  --idle SECONDS             an accepted connection on which nothing moves for so long is reset (300)\n"
     "  --patience SECONDS         --connect ends where the peer is silent for so long (60)\n"
     "  --verbose                  tells of each connection, and at the end how many frames came, went and were dropped\n"
     "  --help                     this text\n"

@@ -110,10 +110,11 @@ static int64_t give(struct served *served, struct tap *tap)
     return HOST_EAGAIN;
 }
 
-static void end_one(struct served *served, struct tap *tap, const char *why)
+/* Closes a connection, or resets it, which gives its place in the table back at once. */
+static void end_one(struct served *served, struct tap *tap, const char *why, bool is_reset)
 {
     tell(tap, "ended", served->id, why);
-    host_close(&tap->host, served->id);
+    (is_reset ? host_abort : host_close)(&tap->host, served->id);
     served->id = 0;
 }
 
@@ -123,11 +124,11 @@ static void served_step(struct served *served, struct tap *tap)
         const int64_t taken = take(served, tap);
         const int64_t given = taken < 0 && taken != HOST_EAGAIN ? taken : give(served, tap);
         if (given < 0 && given != HOST_EAGAIN) {
-            end_one(served, tap, host_refusal_name(given));
+            end_one(served, tap, host_refusal_name(given), false);
             return;
         }
         if (served->ended && served->shut) {
-            end_one(served, tap, "");
+            end_one(served, tap, "", false);
             return;
         }
         if (taken < 0 && given < 0) {
@@ -202,7 +203,7 @@ static void step(struct tap *tap)
             served_step(served, tap);
         }
         if (served->id != 0 && later(served->moved, tap->options.idle) <= tap->now) {
-            end_one(served, tap, "idle");
+            end_one(served, tap, "idle", true);
         }
     }
 }
@@ -221,7 +222,7 @@ static void end(struct tap *tap)
 {
     for (size_t i = 0; i < CONNECTIONS; i++) {
         if (at.all[i].id != 0) {
-            end_one(&at.all[i], tap, "the program ends");
+            end_one(&at.all[i], tap, "the program ends", false);
         }
     }
 }

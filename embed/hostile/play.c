@@ -2,7 +2,8 @@
 
    - A twin gets the same calls and frames, but those that the host refused or dropped: both answer and emit the same, to the octet. (An ARP request that
      finds no room for its reply is learnt and dropped, so the twin gets it too.)
-   - Each frame that goes out is well formed; none goes to all but an ARP request; no reset answers a reset, and no error an error.
+   - Each frame that goes out is well formed; none goes to all but an ARP request, or where a neighbour claimed that MAC; no reset answers a reset, and no
+     error an error.
    - A host without a socket sends at most one frame for one that came, with at most 7/6 of its octets and the options of its datagram once more, which an
      error quotes, and beside it an ARP request a second for 3,000 ms.
    - A connection to a third host that no forged frame speaks for carries its octets unharmed.
@@ -344,8 +345,24 @@ static uint64_t room_of(const uint8_t *octets, size_t len)
     return 7 * (uint64_t)(len < 60 ? 60 : len) + 6 * (uint64_t)options_len(octets, len);
 }
 
-/* Takes what is due at the host without a socket: how many frames that are no ARP requests, whose octets it adds. */
-static uint64_t bare_drain(const struct reading *came, uint64_t *octets_out, uint64_t *requests)
+/* When a hop was asked for: the first time and the last one. */
+struct asks {
+    bool any;
+    uint64_t first, last;
+};
+
+static void ask(struct asks *asks)
+{
+    want(!asks->any || now - asks->last >= 1000, "a hop is asked for twice in a second");
+    asks->first = asks->any ? asks->first : now;
+    asks->last = now;
+    asks->any = true;
+    want(now - asks->first < 3000, "a hop is asked for past 3,000 ms");
+}
+
+/* Takes what is due at the host without a socket: how many frames that are no ARP requests, whose octets it adds. Where one hop alone can be asked for, it
+ * is seen how often it is. */
+static uint64_t bare_drain(const struct reading *came, uint64_t *octets_out, struct asks *asks)
 {
     uint8_t octets[HOST_FRAME_SIZE];
     uint64_t count = 0;
@@ -353,7 +370,9 @@ static uint64_t bare_drain(const struct reading *came, uint64_t *octets_out, uin
     while ((len = next_frame(BARE, now, octets)) > 0) {
         const struct reading reading = read_frame(octets, len);
         if (reading.format == ARP && reading.is_request) {
-            (*requests)++;
+            if (asks != NULL) {
+                ask(asks);
+            }
             continue;
         }
         want(came == NULL || !is_forbidden_answer(came, &reading), "without a socket a reset answers a reset, or an error an error");
@@ -367,26 +386,28 @@ static uint64_t bare_drain(const struct reading *came, uint64_t *octets_out, uin
 /* The host without a socket that lives as long as the victim: in all no more goes out than came. */
 static void bare_hears(const uint8_t *octets, size_t len)
 {
-    uint64_t requests = 0, out = 0;
+    uint64_t out = 0;
     const int64_t answer = deliver(BARE, now, octets, len);
     if (answer == 0) {
         bare_came++;
         bare_octets += room_of(octets, len);
     }
-    bare_went += bare_drain(NULL, &out, &requests);
+    bare_went += bare_drain(NULL, &out, NULL);
     want(bare_went <= bare_came, "without a socket more frames go out than came");
     want(6 * out <= bare_octets, "without a socket more octets go out than may");
     bare_octets -= 6 * out;
 }
 
-/* A fresh host hears one frame, and knows the way to its source or not: what goes out for it in all, while time passes. */
+/* A fresh host hears one frame, and knows the way to its source or not: what goes out for it in all, while time passes. Its hop is asked for when the
+ * answer is there, and then a second apart, for 3,000 ms. */
 static void bare_alone(const struct frame *frame)
 {
     static struct host kept;
     const uint64_t held = memory_held(), kept_now = now;
     const struct reading came = read_frame(frame->octets, frame->len);
     struct frame teaches = {.len = 60};
-    uint64_t count = 0, octets = 0, requests = 0, seconds = 0;
+    struct asks asks = {.any = false};
+    uint64_t count = 0, octets = 0;
     kept = hosts[BARE];
     hosts[BARE] = (struct host){0};
     now = 0;
@@ -402,21 +423,16 @@ static void bare_alone(const struct frame *frame)
         memcpy(teaches.octets + 32, macs[BARE], 6);
         write32(teaches.octets + 38, addresses[BARE]);
         (void)deliver(BARE, now, teaches.octets, teaches.len);
-        want(bare_drain(NULL, &octets, &requests) == 0, "an ARP reply is answered");
+        want(bare_drain(NULL, &octets, &asks) == 0, "an ARP reply is answered");
     }
     (void)deliver(BARE, now, frame->octets, frame->len);
-    count += bare_drain(&came, &octets, &requests);
+    count += bare_drain(&came, &octets, &asks);
     for (; now <= 70000; now += 250) {
-        const uint64_t before = requests;
         host_tick(&hosts[BARE], now);
-        count += bare_drain(&came, &octets, &requests);
-        seconds += requests > before;
-        want(requests - before <= 1, "two ARP requests at once");
+        count += bare_drain(&came, &octets, &asks);
     }
     want(count <= 1, "without a socket two frames go out for one");
     want(6 * octets <= room_of(frame->octets, frame->len), "without a socket more octets go out for one frame than may");
-    /* The hop is asked for when the answer is there, and a second and two later. */
-    want(requests <= 3, "without a socket a hop is asked for more often than a second apart for 3,000 ms");
     host_free(&hosts[BARE]);
     hosts[BARE] = kept;
     now = kept_now;

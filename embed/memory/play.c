@@ -1,5 +1,6 @@
 /* Plays two hosts over the library, with each growth of memory refused in turn: a connection with octets both ways, a datagram in fragments, an echo
-   request, a close by each side. A refused call changes nothing, and is made again; from then on all is to the octet what it is without the refusal. */
+   request, a close by each side, a connection that is aborted. A refused call changes nothing, and is made again; from then on all is to the octet what it
+   is without the refusal. */
 #include "host.h"
 #include "refuse.h"
 
@@ -156,10 +157,11 @@ static const struct host_route routes[] = {{HOST_ADDR(10, 0, 0, 0), 0, 24}, {0, 
 
 static int64_t make(int which)
 {
-    struct host_config config = {.size = sizeof config, .routes = routes, .count = sizeof routes / sizeof routes[0], .addr = addrs[which]};
+    enum { ROUTES = sizeof routes / sizeof routes[0] };
+    struct host_config config = {.size = sizeof config, .routes = routes, .count = ROUTES, .addr = addrs[which], .no_window_scale = 1};
     memcpy(config.mac, macs[which], sizeof config.mac);
-    config.no_window_scale = !scales;
-    const int64_t answer = host_new_with(&hosts[which], &config);
+    const int64_t answer =
+        scales ? host_new(&hosts[which], macs[which], addrs[which], routes, ROUTES) : host_new_with(&hosts[which], &config);
     want(answer == 0 || hosts[which].at == NULL, "it is refused, and the handle isn't all zero");
     return answer;
 }
@@ -246,27 +248,36 @@ static void turns(void)
 /* One end of the connection at each host, and the listener. */
 static uint64_t caller, called, listener;
 
-static void open_connection(void)
+static void listen_at_b(void)
 {
-    struct host_endpoint peer;
-    uint32_t bits;
     listener = socket_of(b, HOST_KIND_TCP);
     done(PLAIN(host_bind(b, listener, HOST_ADDR_ANY, 80)));
     done(PLAIN(host_listen(b, listener, 1)));
+}
+
+static void open_connection(void)
+{
+    struct host_endpoint peer, pair[2];
+    uint32_t bits;
     caller = socket_of(a, HOST_KIND_TCP);
+    want(PLAIN(host_would_connect(a, caller, addrs[1], 80, pair)) == 1, "it would open no connection");
     done(PLAIN(host_connect(a, now, 100, caller, addrs[1], 80)));
     turns();
     want(PLAIN(host_next_ready(b, 0, HOST_READY_ACCEPT, &bits)) == (int64_t)listener && bits == HOST_READY_ACCEPT, "the listener isn't ready");
     called = done(PLAIN(host_accept(b, listener, &peer)));
-    want(peer.addr == addrs[0] && peer.port == 49152, "another peer");
+    want(peer.addr == pair[0].addr && peer.port == pair[0].port, "another peer");
 }
 
 static void say(struct host *from, uint64_t from_id, struct host *to, uint64_t to_id, const char *text)
 {
     uint8_t buffer[100];
+    struct host_info info = {.size = sizeof info};
     const size_t len = strlen(text);
+    done(PLAIN(host_set_nodelay(from, from_id, 1)));
     want(PLAIN(host_send_room(from, from_id)) >= (int64_t)len, "it has no room");
     want(PLAIN(host_send(from, from_id, (const uint8_t *)text, len)) == (int64_t)len, "not all octets are taken");
+    done(PLAIN(host_info(from, from_id, &info)));
+    want(info.state == HOST_STATE_ESTABLISHED && info.held == (int64_t)len, "other things are told of the connection");
     turns();
     want(PLAIN(host_ready(to, to_id)) == (HOST_READY_READ | HOST_READY_WRITE), "it isn't ready");
     want(PLAIN(host_recv_len(to, to_id)) == (int64_t)len, "another number of octets is told");
@@ -283,8 +294,11 @@ static void send_large(void)
     }
     const uint64_t server = socket_of(b, HOST_KIND_UDP), client = socket_of(a, HOST_KIND_UDP);
     done(PLAIN(host_bind(b, server, addrs[1], 5001)));
+    want(PLAIN(host_send_room(a, client)) >= LARGE, "it has no room");
     want(PLAIN(host_sendto(a, client, addrs[1], 5001, large, LARGE)) == LARGE, "not all octets are taken");
     turns();
+    want(PLAIN(host_ready(b, server)) == (HOST_READY_READ | HOST_READY_WRITE), "it isn't ready");
+    want(PLAIN(host_recv_len(b, server)) == LARGE, "another number of octets is told");
     want(PLAIN(host_recvfrom(b, server, buffer, sizeof buffer, &from)) == LARGE, "not all octets are read");
     want(memcmp(buffer, large, LARGE) == 0 && from.addr == addrs[0], "other octets are read");
     done(PLAIN(host_close(a, client)));
@@ -326,6 +340,17 @@ static void close_connection(void)
     now = moment;
     turns();
     done(PLAIN(host_close(a, caller)));
+}
+
+/* A second connection ends by a reset. */
+static void abort_connection(void)
+{
+    uint8_t octet;
+    open_connection();
+    done(PLAIN(host_abort(a, caller)));
+    turns();
+    want(PLAIN(host_recv(b, called, &octet, 1)) == HOST_ECONNRESET, "it isn't reset");
+    done(PLAIN(host_close(b, called)));
     done(PLAIN(host_close(b, listener)));
 }
 
@@ -338,13 +363,16 @@ static void play(uint64_t first, uint64_t last, uint64_t calls)
     place = 0;
     now = 1000;
     memory_refuse(first, last);
+    want(PLAIN(host_version()) == HOST_VERSION, "another version");
     make_hosts();
+    listen_at_b();
     open_connection();
     say(a, caller, b, called, "hello");
     say(b, called, a, caller, "welcome");
     send_large();
     echo();
     close_connection();
+    abort_connection();
     end_hosts();
     want(place == kept, "it tells less than without the refusal");
     want(calls_refused == calls, "another number of calls is refused");

@@ -33,8 +33,8 @@ pub(crate) const MOST_EVENTS: usize = 2 * MOST_FRAMES;
 /// and then nothing is run; `Read` or `Write` where a device fails; `NoMemory` for want of memory. What was printed before
 /// a fault stays printed.
 ///
-/// Before each command the world is given room for its events, and where there is no memory for that, the run ends. So `U5 NoMemory` is printed
-/// only of a command that reads octets, or of an emission; of all else a line says what the host answers, or which rule it breaks.
+/// Before each command but a round the world is given room for its events, and where there is no memory for that, the run ends. So `U5 NoMemory` is
+/// printed only of a command that reads octets, of an emission, or of a round; of all else a line says what the host answers, or which rule it breaks.
 pub fn sim<R: Source, W: Sink>(alloc: Global, script: &mut R, out: &mut W) -> Result<(), TextFault>
     ensures read { R.failures script.new ≡ counted (read_fails result) (R.failures script.old) }
     ensures written { W.failures out.new ≡ counted (write_fails_in result) (W.failures out.old) }

@@ -52,8 +52,8 @@ pub fn every_reader_reads()
     ensures { EveryReaderReads }
 {}
 
-/// A round moves data (RFC 9293 sections 3.4, 3.8.1, 3.8.6 and 3.10): from a world in which nothing is due at either host, two sockets are each other's ends and the only live connections, and less was read than was written, more is read than before,
-/// or the writer holds fewer octets; and neither connection ends. So no host is safe by silence: what is written gets on with each round that loses nothing.
+/// A round moves data (RFC 9293 sections 3.4, 3.8.1, 3.8.6 and 3.10): from a world in which nothing is due at either host and each has heard the other lately, two sockets are each other's ends and the only live connections, the reader holds no octets of
+/// its own, the writer's timers expired under twelve times, and less was read than was written, more is read than before, or the writer holds fewer octets; and neither connection ends. So no host is safe by silence.
 pub fn every_round_moves_data()
     ensures { EveryRoundMovesData }
 {}
