@@ -80,6 +80,7 @@ impl<S: MachineSocket> DatagramSocket for PeerSocket<S> {
         }
     }
 
+    #[tactic(auto, using(crate::proofs::AskedLemmas::passes_on))]
     fn recv(&mut self, buffer: &mut [u8; FRAME_MAX]) -> Result<Option<usize>>
         ensures bound { IfOk result (λ given. IfSome given (λ len. len ≤ FRAME_MAX)) }
         ensures failures { self.new.failures ≡ counted (is_err result) self.old.failures }
