@@ -12,14 +12,14 @@ use Rattle.tcp_state.specs.declared.state.State.TheVariants.{Closed, SynSent, Sy
 use Rattle.tcp_halves.specs.Stream.{peer_unit, is_new_ack}
 use Rattle.tcp_halves.specs.Windows.{updates_window}
 use Rattle.tcp_halves.specs.Halves.{Sending, Receiving}
-use Rattle.tcp_halves.proofs.Choices.{either, by, clash, and_left}
+use Rattle.tcp_halves.proofs.Choices.{either, by, clash, and_left, and_right, not_true}
 use Rattle.tcp_state.specs.View.{View, IsSound, is_closed, is_syn_sent, after_reset}
 use Rattle.tcp_state.specs.Timing.{clocked, after_timers}
 use Rattle.tcp_state.specs.Arrival.{owing_ack, scales_with, after_first_syn, is_receiving, reset_error, is_acceptable_to, after_rst_in_syn_sent, after_rst, is_right_syn_ack, is_simultaneous_syn, after_simultaneous_syn, after_syn_ack, after_ack, after_window, after_text, after_fin, after_acceptable_segment, after_segment, is_lost, after_lost, after_heard}
 use Rattle.tcp_state.specs.Due.{first_due, octets_of, octets_of_stretch, probe_stretch, again, new_octets, fin_alone}
 use Rattle.tcp_state.specs.Edges.{Event, Hears, Emits, after_event}
 use Rattle.tcp_state.specs.Counted.{BringsSyn}
-use Rattle.tcp_state.specs.Opening.{TakesSyn}
+use Rattle.tcp_state.specs.Opening.{TakesSyn, HearsSyn}
 use Rattle.tcp_state.proofs.Clocked.{timers_keep, emission_keeps}
 use Rattle.tcp_state.proofs.Segments.{opened_by_syn_ack, by_ack, by_fin, by_segment, by_clock}
 use Rattle.tcp_state.proofs.StillStreams.{emissions_leave}
@@ -58,10 +58,14 @@ Same v w = terms_of w ≡ terms_of v
 abbrev Stays : View → View → Type 0
 Stays v w = Same v w × (v.state ≡ SynSent → (w.state ≡ SynSent) ⊎ (w.state ≡ Closed))
 
--- it is the peer's SYN, and left SYN-SENT
+-- it leads out of SYN-SENT, and not to CLOSED
+abbrev Opens : View → Type 0
+Opens w = (w.state ≡ SynReceived) ⊎ (w.state ≡ Established)
+
+-- it is the peer's SYN, and is taken
 record Settles (v : View) (s : Segment) (w : View) : Type 0 where
   terms : terms_of w ≡ terms_by v s
-  left : is_syn_sent w.state ≡ false
+  opens : Opens w
 
 abbrev Settled : View → Segment → View → Type 0
 Settled v s w = Stays v w ⊎ (BringsSyn v s × Settles v s w)
@@ -112,13 +116,30 @@ rst_settled : (v : View) (s : Segment) → Stays v (after_rst_in_syn_sent v s)
 rst_settled v s =
     either View (Stays v) (s.flags.ack && is_new_ack v.sending s.acknowledgement) (after_reset v (reset_error v.state)) v (λ acts. (refl, λ waits. inr refl)) (λ other. as_it_was v)
 
+-- a SYN without ACK is the peer's, and so is one that acknowledges ours
+
+crossing_syn : (v : View) (s : Segment) → is_syn_sent v.state ≡ true → s.flags.rst ≡ false → is_simultaneous_syn v s ≡ true → BringsSyn v s
+crossing_syn v s waits no_rst crosses = record {
+  waits = is_sent v.state waits;
+  no_rst = no_rst;
+  syn = and_left s.flags.syn (not s.flags.ack) crosses;
+  answers = λ ack. clash s.flags.ack ack (not_true s.flags.ack (and_right s.flags.syn (not s.flags.ack) crosses));
+}
+
+answering_syn : (v : View) (s : Segment) → is_syn_sent v.state ≡ true → s.flags.rst ≡ false → is_right_syn_ack v s ≡ true → BringsSyn v s
+answering_syn v s waits no_rst right = record {
+  waits = is_sent v.state waits;
+  no_rst = no_rst;
+  syn = and_left s.flags.syn s.flags.ack (and_left (s.flags.syn && s.flags.ack) (is_new_ack v.sending s.acknowledgement) right);
+  answers = λ ack. and_right (s.flags.syn && s.flags.ack) (is_new_ack v.sending s.acknowledgement) right;
+}
+
 syn_settled : (v : View) (s : Segment) → is_syn_sent v.state ≡ true → s.flags.rst ≡ false → Settled v s (if is_simultaneous_syn v s then after_simultaneous_syn v s else after_syn_ack v s)
 syn_settled v s waits no_rst =
-    let syn : s.flags.syn ≡ true → BringsSyn v s = λ set. record { waits = is_sent v.state waits; no_rst = no_rst; syn = set } in
     either View (Settled v s) (is_simultaneous_syn v s) (after_simultaneous_syn v s) (after_syn_ack v s)
-    (λ crosses. inr (syn (and_left s.flags.syn (not s.flags.ack) crosses), record { terms = refl; left = refl }))
+    (λ crosses. inr (crossing_syn v s waits no_rst crosses, record { terms = refl; opens = inl refl }))
     (λ answers. either View (Settled v s) (is_right_syn_ack v s) (opened_by_syn_ack v s) v
-    (λ right. inr (syn (and_left s.flags.syn s.flags.ack (and_left (s.flags.syn && s.flags.ack) (is_new_ack v.sending s.acknowledgement) right)), record { terms = refl; left = refl }))
+    (λ right. inr (answering_syn v s waits no_rst right, record { terms = refl; opens = inr refl }))
     (λ wrong. inl (as_it_was v)))
 
 segment_settled : (v : View) (s : Segment) → Settled v s (after_segment v s)
@@ -136,7 +157,7 @@ heard_settled v s =
     either View (Settled v s) (is_lost v s) (after_lost v s) (after_segment v s) (λ lost. inl (windowed v s, λ waits. inr refl)) (λ kept. segment_settled v s)
 
 timed_settled : (v : View) (s : Segment) (now : Moment) → Settled v s (after_event v (Hears s now))
-timed_settled v s now = by_clock (Settled v s) v s now (inl (as_it_was v)) (λ lives. elim (heard_settled v s) [ inl stays ↦ inl stays | inr takes ↦ inr (takes.0, record { terms = takes.1.terms; left = takes.1.left }) ])
+timed_settled v s now = by_clock (Settled v s) v s now (inl (as_it_was v)) (λ lives. elim (heard_settled v s) [ inl stays ↦ inl stays | inr takes ↦ inr (takes.0, record { terms = takes.1.terms; opens = takes.1.opens }) ])
 
 -- in SYN-SENT the SYN that opens settles them
 syn_settles : (v : View) (s : Segment) (now : Moment) → v.state ≡ SynSent → TakesSyn v s now → terms_of (after_event v (Hears s now)) ≡ terms_by v s
@@ -182,7 +203,7 @@ SettledBy v e w = Same v w ⊎ ((s : Segment) × (now : Moment) × (e ≡ Hears 
 settled_by : (v : View) (e : Event) → SettledBy v e (after_event v e)
 settled_by v e = by_event (SettledBy v) v (record {
   same = λ e. inl refl;
-  heard = λ s now lives. elim (heard_settled v s) [ inl stays ↦ inl stays.0 | inr takes ↦ inr (s, now, refl, takes.0, record { terms = takes.1.terms; left = takes.1.left }) ];
+  heard = λ s now lives. elim (heard_settled v s) [ inl stays ↦ inl stays.0 | inr takes ↦ inr (s, now, refl, takes.0, record { terms = takes.1.terms; opens = takes.1.opens }) ];
   over = λ now ends. inl refl;
   given_up = λ now going expired. inl refl;
   acts = λ now. inl (ticked_settled v now);
@@ -209,9 +230,28 @@ stay v e either_way = elim (settled_by v e) [
   | inl same ↦ same
   | inr by_syn ↦ elim either_way [
     | inl past_opening ↦ clash (is_syn_sent v.state) (ap is_syn_sent by_syn.3.waits) past_opening
-    | inr waits ↦ clash (is_syn_sent (after_event v e).state) waits by_syn.4.left
+    | inr waits ↦ clash (is_syn_sent (after_event v e).state) waits (is_past (after_event v e) by_syn.4.opens)
   ]
 ]
+  where
+    is_past : (w : View) → Opens w → is_syn_sent w.state ≡ false
+    is_past w opens = elim opens [ inl received ↦ ap is_syn_sent received | inr established ↦ ap is_syn_sent established ]
+
+-- in any state all stays but where a SYN is taken in SYN-SENT
+untaken : (v : View) (e : Event) → Same v (after_event v e) ⊎ HearsSyn v e
+untaken v e = elim (settled_by v e) [
+  | inl same ↦ inl same
+  | inr by_syn ↦ inr (by_syn.0, by_syn.1, by_syn.2, by_syn.3, subst (λ x. Opens (after_event v x)) by_syn.2 by_syn.4.opens)
+]
+
+pub scale_waits : (v : View) (e : Event) → ((after_event v e).scales ≡ v.scales) ⊎ HearsSyn v e
+scale_waits v e = elim (untaken v e) [ inl same ↦ inl (ap (λ (t : Terms). t.scales) same) | inr taken ↦ inr taken ]
+
+pub sizes_wait : (v : View) (e : Event) → (((after_event v e).sending.size ≡ v.sending.size) × ((after_event v e).receiving.size ≡ v.receiving.size)) ⊎ HearsSyn v e
+sizes_wait v e = elim (untaken v e) [ inl same ↦ inl (ap (λ (t : Terms). t.sending_size) same, ap (λ (t : Terms). t.receiving_size) same) | inr taken ↦ inr taken ]
+
+pub units_wait : (v : View) (e : Event) → (((after_event v e).sending.unit ≡ v.sending.unit) × ((after_event v e).receiving.unit ≡ v.receiving.unit)) ⊎ HearsSyn v e
+units_wait v e = elim (untaken v e) [ inl same ↦ inl (ap (λ (t : Terms). t.peer_unit) same, ap (λ (t : Terms). t.own_unit) same) | inr taken ↦ inr taken ]
 
 pub scale_stays : (v : View) (e : Event) → (is_syn_sent v.state ≡ false) ⊎ (is_syn_sent (after_event v e).state ≡ true) → (after_event v e).scales ≡ v.scales
 scale_stays v e either_way = ap (λ (t : Terms). t.scales) (stay v e either_way)

@@ -7,7 +7,7 @@ use Rattle.tcp_state.specs.declared.emission.Due.TheVariants.{Syn, Text, Probe}
 use Rattle.tcp_state.specs.declared.emission.Stretch.{Stretch}
 use Rattle.tcp_state.specs.declared.state.State.{State}
 use Rattle.tcp_state.specs.declared.state.State.TheVariants.{SynSent, FinWait2, TimeWait}
-use Rattle.tcp_halves.specs.Stream.{outstanding}
+use Rattle.tcp_halves.specs.Stream.{outstanding, is_new_ack}
 use Rattle.tcp_halves.specs.Windows.{window_in}
 use Rattle.tcp_state.specs.View.{View, is_opening}
 use Rattle.tcp_state.specs.declared.calls.Refusal.TheVariants.{ETIMEDOUT}
@@ -27,11 +27,12 @@ pub record BringsFinAgain (v : View) (s : Segment) : Type 0 where
   pub fin : s.flags.fin ≡ true
   pub last : wire s.number (span_of s) ≡ v.receiving.rnext
 
--- in SYN-SENT the peer's SYN comes
+-- in SYN-SENT the peer's SYN comes, with an acknowledgement of ours or with none (RFC 9293 section 3.10.7.3)
 pub record BringsSyn (v : View) (s : Segment) : Type 0 where
   pub waits : v.state ≡ SynSent
   pub no_rst : s.flags.rst ≡ false
   pub syn : s.flags.syn ≡ true
+  pub answers : s.flags.ack ≡ true → is_new_ack v.sending s.acknowledgement ≡ true
 
 -- some octet that is held has gone out, and is not acknowledged
 abbrev pub HasOctetOut : View → Type 0

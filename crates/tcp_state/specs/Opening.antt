@@ -5,7 +5,8 @@ use Rattle.tcp_segment.specs.Segment.{Segment, scale_option_of}
 use Rattle.tcp_segment.specs.Wire.{wire}
 use Rattle.tcp_state.specs.declared.state.State.TheVariants.{SynReceived, Established}
 use Rattle.tcp_state.specs.View.{View}
-use Rattle.tcp_state.specs.Edges.{Hears, after_event}
+use Rattle.tcp_state.specs.Edges.{Event, Hears, after_event}
+use Rattle.tcp_state.specs.Counted.{BringsSyn}
 
 -- a SYN has the window scale option (RFC 7323 section 2.2)
 abbrev pub TellsShift : Segment → Type 0
@@ -14,6 +15,10 @@ TellsShift syn = (shift : ℕ) × (scale_option_of syn ≡ Some shift)
 -- a segment leads out of SYN-SENT, and not to CLOSED: it is the peer's SYN, with an acknowledgement of ours or without
 abbrev pub TakesSyn : View → Segment → Moment → Type 0
 TakesSyn v s now = let w = after_event v (Hears s now) in (w.state ≡ SynReceived) ⊎ (w.state ≡ Established)
+
+-- an event is such a SYN, which comes in SYN-SENT
+abbrev pub HearsSyn : View → Event → Type 0
+HearsSyn v e = (s : Segment) × (now : Moment) × (e ≡ Hears s now) × BringsSyn v s × TakesSyn v s now
 
 -- A SYN-ACK opened it: our SYN is acknowledged, the number behind the peer's SYN comes next, the peer's window is known, and an acknowledgement is owed.
 pub record OpenedBy (s : Segment) (before after : View) : Type 0 where

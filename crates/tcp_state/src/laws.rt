@@ -34,7 +34,7 @@ ghost use Rattle.tcp_state.specs.Arrival.{opened_passively, fate, is_acceptable_
 ghost use Rattle.tcp_state.specs.Due.{MayGoOut, first_due, number_of, end_of, flags_of, octets_of, window_of, sends_again, again, after_emitted};
 ghost use Rattle.tcp_state.specs.Unreachable.{IsRefused};
 ghost use Rattle.tcp_state.specs.Simultaneous.{crossed, AnswersSyn, CanBeMade, HasOpened, KnowsWindow};
-ghost use Rattle.tcp_state.specs.Opening.{TellsShift, TakesSyn, OpenedBy, Confirmed};
+ghost use Rattle.tcp_state.specs.Opening.{TellsShift, TakesSyn, HearsSyn, OpenedBy, Confirmed};
 ghost use Rattle.tcp_state.specs.Said.{segment_of};
 ghost use Rattle.tcp_state.specs.Edges.{Event, after_event, fate_by, moment_of, state_after, IsEdge, ends_by, is_cause, may_raise, congestion_event_by};
 
@@ -53,7 +53,8 @@ pub fn constants()
 {}
 
 /// Windows are scaled exactly where both sides' SYNs have the option (RFC 7323 section 2.2), whichever side opens: for a listener from the SYN on, for a caller from the SYN-ACK on, and where SYNs cross from the
-/// peer's SYN on, whether ours went out or not. No event changes it later. Our SYN has the option where its caller's host uses it, a SYN-ACK where windows are scaled, and none where the SYN had none; no other segment has any.
+/// peer's SYN on, whether ours went out or not. In SYN-SENT nothing but a SYN that is taken changes what our SYN offers, and past it no event changes what was settled. Our SYN has the option where its caller's host uses it, a SYN-ACK where
+/// windows are scaled, and none where the SYN had none; no other segment has any.
 pub fn windows_are_scaled_where_both_sides_say_so()
     ensures offered { (room : Room) (local peer : Endpoint) (isn : ℕ) (now : Moment) → (opened_actively room local peer isn now).scales ≡ room.scales }
     ensures accepted { (room : Room) (local peer : Endpoint) (isn : ℕ) (syn : Segment) (now : Moment)
@@ -61,6 +62,7 @@ pub fn windows_are_scaled_where_both_sides_say_so()
     ensures answered { (v : View) (s : Segment) (now : Moment) → v.state ≡ State.SynSent → TakesSyn v s now
         → ((after_event v (Event.Hears s now)).scales ≡ true) ↔ ((v.scales ≡ true) × TellsShift s) }
     ensures stays { (v : View) (e : Event) → (is_syn_sent v.state ≡ false) ⊎ (is_syn_sent (after_event v e).state ≡ true) → (after_event v e).scales ≡ v.scales }
+    ensures waits { (v : View) (e : Event) → v.state ≡ State.SynSent → ((after_event v e).scales ≡ v.scales) ⊎ HearsSyn v e }
     ensures told { (v : View) (due : Due) → scale_option_of (segment_of v due) ≡ (let f = flags_of v due in if f.syn && v.scales then Some SHIFT else None) }
     ensures unasked { (room : Room) (local peer : Endpoint) (isn : ℕ) (syn : Segment) (now : Moment) (due : Due) → scale_option_of syn ≡ None
         → scale_option_of (segment_of (opened_passively room local peer isn syn now) due) ≡ None }
@@ -69,8 +71,8 @@ pub fn windows_are_scaled_where_both_sides_say_so()
     ensures plain { (v : View) (due : Due) → (let f = flags_of v due in f.syn) ≡ false → (segment_of v due).options ≡ [] }
 {}
 
-/// Each half holds at most as many octets as its buffer where windows are scaled, and else no more than 65,535: so of buffers of a mebibyte it uses all then, and only then. No event changes that but the peer's SYN, which settles
-/// whether windows are scaled, and none changes how many places were made for what comes.
+/// Each half holds at most as many octets as its buffer where windows are scaled, and else no more than 65,535: so of buffers of a mebibyte it uses all then, and only then. No event changes that but a SYN that is taken in
+/// SYN-SENT, which settles whether windows are scaled, and none changes how many places were made for what comes.
 pub fn sizes_stay()
     ensures opened { (room : Room) (local peer : Endpoint) (isn : ℕ) (now : Moment)
         → (let w = opened_actively room local peer isn now in (w.sending.size ≡ size_of room) × (w.receiving.size ≡ size_of room) × (w.receiving.capacity ≡ room.capacity)) }
@@ -79,18 +81,23 @@ pub fn sizes_stay()
     ensures settled { (v : View) → IsSound v → (v.sending.size ≡ size_in v.scales v.receiving.capacity) × (v.receiving.size ≡ size_in v.scales v.receiving.capacity) }
     ensures largest { (v : View) → IsSound v → v.receiving.capacity ≡ LARGEST_CAPACITY → ((v.sending.size ≡ 1048576) ↔ (v.scales ≡ true)) × ((v.receiving.size ≡ 1048576) ↔ (v.scales ≡ true)) }
     ensures stays { (v : View) (e : Event) → is_syn_sent v.state ≡ false → ((after_event v e).sending.size ≡ v.sending.size) × ((after_event v e).receiving.size ≡ v.receiving.size) }
+    ensures waits { (v : View) (e : Event) → v.state ≡ State.SynSent → (((after_event v e).sending.size ≡ v.sending.size) × ((after_event v e).receiving.size ≡ v.receiving.size)) ⊎ HearsSyn v e }
     ensures places { (v : View) (e : Event) → (after_event v e).receiving.capacity ≡ v.receiving.capacity }
 {}
 
-/// Where windows are scaled, a unit of ours has 32 octets, and one of the peer's as many as the shift in its SYN says; else a unit is an octet. No event changes that but the peer's SYN (RFC 7323 section 2.3).
+/// Where windows are scaled, a unit of ours has 32 octets, and one of the peer's as many as the shift in its SYN says; else a unit is an octet (RFC 7323 section 2.3). What a caller opens begins with our unit by what
+/// its SYN offers, and with an octet for the peer's. No event changes either but a SYN that is taken in SYN-SENT.
 pub fn units_stay()
     ensures own { (v : View) → IsSound v → v.receiving.unit ≡ (if v.scales then 32 else 1) }
     ensures peer { (v : View) → IsSound v → v.scales ≡ false → v.sending.unit ≡ 1 }
+    ensures opened { (room : Room) (local peer : Endpoint) (isn : ℕ) (now : Moment)
+        → (let w = opened_actively room local peer isn now in (w.sending.unit ≡ 1) × (w.receiving.unit ≡ (if room.scales then 32 else 1))) }
     ensures accepted { (room : Room) (local peer : Endpoint) (isn : ℕ) (syn : Segment) (now : Moment)
         → (let w = opened_passively room local peer isn syn now in w.sending.unit ≡ peer_unit w.scales (shift_of syn)) }
     ensures answered { (v : View) (s : Segment) (now : Moment) → v.state ≡ State.SynSent → TakesSyn v s now
         → (let w = after_event v (Event.Hears s now) in w.sending.unit ≡ peer_unit w.scales (shift_of s)) }
     ensures stays { (v : View) (e : Event) → is_syn_sent v.state ≡ false → ((after_event v e).sending.unit ≡ v.sending.unit) × ((after_event v e).receiving.unit ≡ v.receiving.unit) }
+    ensures waits { (v : View) (e : Event) → v.state ≡ State.SynSent → (((after_event v e).sending.unit ≡ v.sending.unit) × ((after_event v e).receiving.unit ≡ v.receiving.unit)) ⊎ HearsSyn v e }
 {}
 
 /// One event joins only states that the table of edges joins, or leaves the state.

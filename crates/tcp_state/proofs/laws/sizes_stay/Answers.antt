@@ -1,7 +1,7 @@
 use Rattle.std.proofs.Common.{refl, is_some}
 use Rattle.tcp_segment.specs.Segment.{scale_option_of}
 use Rattle.tcp_state.proofs.Scales.{settled_once, sizes_are, largest_where_scaled}
-use Rattle.tcp_state.proofs.PeerSizes.{sizes_stay, places_stay}
+use Rattle.tcp_state.proofs.PeerSizes.{sizes_stay, sizes_wait, places_stay}
 use Rattle.tcp_state.proofs.laws.sizes_stay.Goals as goal
 
 pub returns : goal.returns
@@ -11,5 +11,6 @@ returns c = record {
   settled = sizes_are;
   largest = largest_where_scaled;
   stays = sizes_stay;
+  waits = λ v e sent. sizes_wait v e;
   places = places_stay;
 }
