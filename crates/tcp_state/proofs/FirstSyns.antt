@@ -36,6 +36,7 @@ first_syn_sound v s advertised sound waits few =
       readable = unread;
       window = keeps.fits;
       untold = refl;
+      unsettled = refl;
       buffer = keeps.buffer;
       kept = keeps.kept;
       flight = subst (λ t. outstanding v.sending ≤ length v.sending.held + (if takes_flag_number t then 1 else 0)) waits sound.flight;

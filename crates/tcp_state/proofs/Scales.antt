@@ -1,5 +1,6 @@
 -- Why windows are scaled exactly where both sides' SYNs have the option, and what that makes of sizes and units.
-use Rattle.std.proofs.Common.{◌≡◌, ℕ, ◌≤◌, ◌^◌, ◌&&◌, ◌↔◌, min, if◌then◌else◌, Bool, true, false, [], ◌∷◌, Option, Some, None, is_some, arith, refl, sym, ◌∙◌, ap, subst}
+use Rattle.std.proofs.Common.{◌≡◌, ℕ, ◌≤◌, ◌^◌, ◌==◌, ◌&&◌, ◌↔◌, not, min, if◌then◌else◌, Bool, true, false, [], ◌∷◌, Option, Some, None, is_some, inl, inr, arith, refl, sym, ◌∙◌, ap, subst}
+use Rattle.std.proofs.lemmas.Bool.Decides.{eqb_tells}
 use lib.Pow.{pow_mono, pow_pos}
 use Rattle.ipv4.specs.declared.addr.Endpoint.{Endpoint}
 use Rattle.clock.specs.declared.moment.Moment.{Moment}
@@ -9,7 +10,7 @@ use Rattle.tcp_state.specs.declared.emission.Due.{Due}
 use Rattle.tcp_state.specs.declared.state.State.TheVariants.{SynSent}
 use Rattle.tcp_halves.specs.Stream.{size_in, own_unit, peer_unit}
 use Rattle.tcp_halves.specs.Halves.{Room}
-use Rattle.tcp_state.specs.View.{View, AreTerms, IsSound}
+use Rattle.tcp_state.specs.View.{View, AreTerms, IsSound, is_syn_sent}
 use Rattle.tcp_state.specs.Arrival.{opened_passively}
 use Rattle.tcp_state.specs.Due.{flags_of}
 use Rattle.tcp_state.specs.Said.{segment_of}
@@ -81,6 +82,12 @@ own_units v sound = sound.terms.settled_unit
 
 pub peer_units : (v : View) → IsSound v → v.scales ≡ false → v.sending.unit ≡ 1
 peer_units v sound unscaled = sound.terms.settled_peer_unit unscaled
+
+pub unsettled_units : (v : View) → IsSound v → is_syn_sent v.state ≡ true → v.sending.unit ≡ 1
+unsettled_units v sound waits = one v.sending.unit (subst (λ b. (b && not (v.sending.unit == 1)) ≡ false) waits sound.unsettled)
+  where
+    one : (n : ℕ) → not (n == 1) ≡ false → n ≡ 1
+    one n e = elim (eqb_tells n 1) [ inl same ↦ same.1 | inr other ↦ let bad : true ≡ false = sym (ap not other.0) ∙ e in cc ]
 
 -- The terms of a connection that opens ..
 

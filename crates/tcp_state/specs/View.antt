@@ -204,7 +204,7 @@ pub record AreTerms (scales : Bool) (sent peer size made unit : ℕ) : Type 0 wh
   pub settled_unit : unit ≡ own_unit scales
   pub settled_peer_unit : scales ≡ false → peer ≡ 1
 
--- What holds of every connection. While it opens, nothing is held or readable, and before the peer's SYN came no window is advertised; nothing is held once our FIN is acknowledged or all is closed. What is
+-- What holds of every connection. While it opens, nothing is held or readable, and before the peer's SYN came no window is advertised and a unit of the peer's is an octet; nothing is held once our FIN is acknowledged or all is closed. What is
 -- outstanding is of what is held, with the SYN or the FIN; the resend mark stands within it. A segment may
 -- have `LEAST_MSS` octets at least, so that what is held can always go out. An acknowledgement is owed once a SYN came, and none when all is closed.
 -- An error is pending, and a reset owed, only where all is closed; what its caller closed is closed on our side.
@@ -216,6 +216,7 @@ pub record IsSound (v : View) : Type 0 where
   pub readable : length v.receiving.readable ≤ (if is_opening v.state then 0 else v.receiving.size)
   pub window : ReceivingFits v.receiving
   pub untold : (is_syn_sent v.state && not (receive_window v.receiving == 0)) ≡ false
+  pub unsettled : (is_syn_sent v.state && not (v.sending.unit == 1)) ≡ false
   pub buffer : IsReceiving (buffer_of v.receiving)
   pub kept : KeptInWindow v.receiving
   pub flight : outstanding v.sending ≤ most_outstanding v

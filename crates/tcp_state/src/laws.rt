@@ -86,10 +86,11 @@ pub fn sizes_stay()
 {}
 
 /// Where windows are scaled, a unit of ours has 32 octets, and one of the peer's as many as the shift in its SYN says; else a unit is an octet (RFC 7323 section 2.3). What a caller opens begins with our unit by what
-/// its SYN offers, and with an octet for the peer's. No event changes either but a SYN that is taken in SYN-SENT.
+/// its SYN offers, and with an octet for the peer's, as it stands in SYN-SENT. No event changes either but a SYN that is taken in SYN-SENT.
 pub fn units_stay()
     ensures own { (v : View) → IsSound v → v.receiving.unit ≡ (if v.scales then 32 else 1) }
     ensures peer { (v : View) → IsSound v → v.scales ≡ false → v.sending.unit ≡ 1 }
+    ensures unsettled { (v : View) → IsSound v → is_syn_sent v.state ≡ true → v.sending.unit ≡ 1 }
     ensures opened { (room : Room) (local peer : Endpoint) (isn : ℕ) (now : Moment)
         → (let w = opened_actively room local peer isn now in (w.sending.unit ≡ 1) × (w.receiving.unit ≡ (if room.scales then 32 else 1))) }
     ensures accepted { (room : Room) (local peer : Endpoint) (isn : ℕ) (syn : Segment) (now : Moment)
