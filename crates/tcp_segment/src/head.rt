@@ -26,7 +26,8 @@ pub struct Head {
     pub acknowledgement: Seq,
     /// The control bits.
     pub flags: Flags,
-    /// How many octets the sender has room for.
+    /// The window field: how many octets the sender has room for; without SYN, where windows are scaled, how many units
+    /// of its own (RFC 7323 section 2.3).
     pub window: u16,
     /// Whether a segment with SYN offers to scale windows (RFC 7323 section 2.2). It isn't read where SYN isn't set.
     pub scales: bool,

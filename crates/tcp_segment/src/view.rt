@@ -143,7 +143,8 @@ impl<'a> TcpView<'a> {
         self.head.flags
     }
 
-    /// How many octets the sender has room for.
+    /// The window field: how many octets the sender has room for; without SYN, where windows are scaled, how many units
+    /// of its own (RFC 7323 section 2.3).
     pub fn window(&self) -> u16
         ensures { result ≡ self.now.window }
     {
