@@ -16,6 +16,7 @@ use Rattle.frames.specs.declared.meaning.Meaning.TheVariants.{Icmp}
 use Rattle.frames.specs.Meaning.{heard}
 use Rattle.interface.specs.InterfaceView.{InterfaceView}
 use Rattle.interface.specs.Ways.{is_routed}
+use Rattle.sockets.specs.Info.{info_answer}
 use Rattle.sockets.specs.Ready.{readiness}
 use Rattle.sockets.specs.declared.role.Leave.TheVariants.{Close, Abort}
 use Rattle.sockets.specs.declared.entry.Entry.{Entry}
@@ -133,6 +134,7 @@ called i (call.Close id) h answer new small meets = answered i _ _ h (table.Leav
 called i (call.Abort id) h answer new small meets = answered i _ _ h (table.Leaves Abort id) answer new tt (λ latest. tt) (tt, tt) (unrefused (close_refusal h id)) meets
 called i (call.State id) h answer new small meets = asked i (state_answer h id) _ h answer new meets
 called i (call.Ready id) h answer new small meets = asked i (readiness h id) _ h answer new meets
+called i (call.Info id) h answer new small meets = asked i (info_answer h id) _ h answer new meets
 called i (call.SockName id) h answer new small meets = asked i (sockname_answer h id) _ h answer new meets
 called i (call.PeerName id) h answer new small meets = asked i (peername_answer h id) _ h answer new meets
 

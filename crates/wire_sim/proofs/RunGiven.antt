@@ -92,6 +92,7 @@ same_event (event.Call s c) = (refl, same_call c)
     same_call (call.Abort i) = refl
     same_call (call.State i) = refl
     same_call (call.Ready i) = refl
+    same_call (call.Info i) = refl
     same_call (call.SockName i) = refl
     same_call (call.PeerName i) = refl
 same_event (event.Tick s m) = refl

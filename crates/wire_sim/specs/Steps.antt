@@ -27,6 +27,7 @@ use Rattle.wire_sim.specs.declared.event.Opening.{Opening}
 use Rattle.wire_sim.specs.declared.world.bag.Frame.{Frame}
 use Rattle.wire_sim.specs.declared.world.bag.Note.{Note}
 use Rattle.wire_sim.specs.declared.world.station.Station.{Station}
+use Rattle.sockets.specs.Info.{info_answer}
 use Rattle.sockets.specs.Ready.{readiness}
 use Rattle.sockets.specs.Calls.{unless_refused, is_table_full, IsMade, bind_refusal, after_bind, listen_refusal, after_listen, accept_answer, after_accept, connect_refusal, after_connect, send_answer, after_send, recv_answer, after_recv, shutdown_refusal, after_shutdown, nodelay_refusal, after_nodelay, close_refusal, after_close, after_abort, state_answer, sockname_answer, peername_answer}
 use Rattle.sockets.specs.Datagrams.{sendto_answer, after_sendto, recvfrom_answer, after_recvfrom}
@@ -118,6 +119,7 @@ MeetsCall routed (call.Close id) h answer new = Answers (unless_refused (close_r
 MeetsCall routed (call.Abort id) h answer new = Answers (unless_refused (close_refusal h id) (tt {0})) (λ _. reply.Done) (after_abort h id) h answer new
 MeetsCall routed (call.State id) h answer new = Answers (state_answer h id) (λ state. reply.State state) h h answer new
 MeetsCall routed (call.Ready id) h answer new = Answers (readiness h id) (λ ready. reply.Ready ready) h h answer new
+MeetsCall routed (call.Info id) h answer new = Answers (info_answer h id) (λ info. reply.Info info) h h answer new
 MeetsCall routed (call.SockName id) h answer new = Answers (sockname_answer h id) (λ local. reply.Endpoint local) h h answer new
 MeetsCall routed (call.PeerName id) h answer new = Answers (peername_answer h id) (λ peer. reply.Endpoint peer) h h answer new
 

@@ -4,7 +4,7 @@ ghost use Rattle.std.specs.Prelude.{◌≡◌, ◌<◌, ◌≤◌, ◌==◌, ◌
 
 use crate::room::filled;
 use clock::Moment;
-use host::{DropCause, Kind, Ready, Refusal, SocketId, SocketState};
+use host::{DropCause, Info, Kind, Ready, Refusal, SocketId, SocketState};
 use ipv4::{Endpoint, Pair};
 use sides::Side;
 use std::fmt;
@@ -82,6 +82,10 @@ pub enum Call {
     Ready {
         id: SocketId,
     },
+    /// Asks how a socket's connection stands.
+    Info {
+        id: SocketId,
+    },
     /// Asks where a socket is bound, or for the local end of its connection.
     SockName(SocketId),
     /// Asks for the peer of a socket's connection.
@@ -124,6 +128,8 @@ pub enum Answer {
     State(SocketState),
     /// What a socket is ready for.
     Ready(Ready),
+    /// How a socket's connection stands.
+    Info(Info),
     /// An end of a socket: its own, or its peer.
     Endpoint(Endpoint),
     /// A frame went into the bag: its index there, and its length in octets.
@@ -161,6 +167,7 @@ impl Answer {
             Answer::EndOfStream => Answer::EndOfStream,
             Answer::State(state) => Answer::State(*state),
             Answer::Ready(ready) => Answer::Ready(*ready),
+            Answer::Info(info) => Answer::Info(*info),
             Answer::Endpoint(endpoint) => Answer::Endpoint(*endpoint),
             Answer::Frame { index, len } => Answer::Frame {
                 index: *index,

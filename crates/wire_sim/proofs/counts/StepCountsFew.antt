@@ -127,6 +127,7 @@ called-grows side (call.Close id) place i n answer routed new sound meets = kept
 called-grows side (call.Abort id) place i n answer routed new sound meets = kept-grows n side new i
 called-grows side (call.State id) place i n answer routed new sound meets = kept-grows n side new i
 called-grows side (call.Ready id) place i n answer routed new sound meets = kept-grows n side new i
+called-grows side (call.Info id) place i n answer routed new sound meets = kept-grows n side new i
 called-grows side (call.SockName id) place i n answer routed new sound meets = kept-grows n side new i
 called-grows side (call.PeerName id) place i n answer routed new sound meets = kept-grows n side new i
 
@@ -156,6 +157,7 @@ emitted-grows side place i (reply.Datagram octets from) old new steps = absurd s
 emitted-grows side place i reply.EndOfStream old new steps = absurd steps
 emitted-grows side place i (reply.State state) old new steps = absurd steps
 emitted-grows side place i (reply.Ready ready) old new steps = absurd steps
+emitted-grows side place i (reply.Info info) old new steps = absurd steps
 emitted-grows side place i (reply.Endpoint x) old new steps = absurd steps
 emitted-grows side place i reply.Taken old new steps = absurd steps
 emitted-grows side place i (reply.Dropped cause) old new steps = absurd steps

@@ -1,6 +1,7 @@
 -- What a call makes of a table that keeps to what was accepted.
 use Rattle.std.proofs.Common.{◌≡◌, inl, inr, Bool, List, [], ◌++◌, length, append-nil, refl, sym, subst}
 use Rattle.ipv4.specs.declared.addr.Addr.{Addr}
+use Rattle.sockets.specs.Info.{info_answer}
 use Rattle.sockets.specs.Ready.{readiness}
 use Rattle.sockets.specs.declared.role.Leave.TheVariants.{Close, Abort}
 use Rattle.sockets.specs.Calls.{unless_refused, bind_refusal, after_bind, listen_refusal, after_listen, accept_answer, after_accept, connect_refusal, after_connect, send_answer, after_send, after_recv, shutdown_refusal, after_shutdown, nodelay_refusal, after_nodelay, close_refusal, after_close, after_abort, state_answer, sockname_answer, peername_answer}
@@ -110,6 +111,11 @@ call-kept own other routed (call.State id) old new answer width numbered m t =
     ]
 call-kept own other routed (call.Ready id) old new answer width numbered m t =
     elim (outcome (readiness old id) (λ s. reply.Ready s) old old answer new m) [
+      | inl x ↦ unadded own other old new t x.3
+      | inr x ↦ unadded own other old new t x.3
+    ]
+call-kept own other routed (call.Info id) old new answer width numbered m t =
+    elim (outcome (info_answer old id) (λ s. reply.Info s) old old answer new m) [
       | inl x ↦ unadded own other old new t x.3
       | inr x ↦ unadded own other old new t x.3
     ]

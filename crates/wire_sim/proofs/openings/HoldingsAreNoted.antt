@@ -10,6 +10,7 @@ use Rattle.tcp_segment.specs.Segment.{Segment}
 use Rattle.clock.specs.declared.moment.Moment.{Moment}
 use Rattle.tcp_state.specs.Arrival.{fate, opened_passively}
 use Rattle.udp_socket.specs.SocketView.{new_socket}
+use Rattle.sockets.specs.Info.{info_answer}
 use Rattle.sockets.specs.Ready.{readiness}
 use Rattle.sockets.specs.declared.emission.Outgoing.{Outgoing}
 use Rattle.sockets.specs.declared.entry.Kind.{Kind}
@@ -196,6 +197,11 @@ call-keeps routed (call.State id) answer own own' other m =
     ]
 call-keeps routed (call.Ready id) answer own own' other m =
     elim (outcome (readiness own id) (λ s. reply.Ready s) own own answer own' m) [
+      | inl x ↦ keeps-same own own' x.3
+      | inr x ↦ keeps-same own own' x.3
+    ]
+call-keeps routed (call.Info id) answer own own' other m =
+    elim (outcome (info_answer own id) (λ s. reply.Info s) own own answer own' m) [
       | inl x ↦ keeps-same own own' x.3
       | inr x ↦ keeps-same own own' x.3
     ]

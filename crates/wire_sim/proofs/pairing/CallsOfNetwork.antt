@@ -5,6 +5,7 @@ use Rattle.ipv4.specs.declared.addr.Addr.{Addr}
 use Rattle.ipv4.specs.declared.addr.Endpoint.{Endpoint}
 use Rattle.tcp_segment.specs.declared.seq.Seq.{Seq}
 use Rattle.interface.specs.Ways.{is_routed}
+use Rattle.sockets.specs.Info.{info_answer}
 use Rattle.sockets.specs.Ready.{readiness}
 use Rattle.sockets.specs.declared.entry.SocketId.{SocketId}
 use Rattle.sockets.specs.declared.role.Leave.TheVariants.{Close, Abort}
@@ -36,7 +37,7 @@ use Rattle.wire_sim.proofs.pairing.CloseIsMoves.{call-leaves}
 use Rattle.wire_sim.proofs.pairing.ConnectIsMove.{IsFirst, projects-connects, projects-socket_made}
 use Rattle.wire_sim.proofs.pairing.DatagramsMoveNothing.{projects-sent_to, projects-received_from}
 use Rattle.wire_sim.proofs.pairing.NoDelayIsMove.{projects-delayed}
-use Rattle.wire_sim.proofs.told.TraceAndOneMore.{IsQuiet, answered, tallies, tallies-counted, tallies-quiet, tallies-opened, quiet-everywhere, quiet-socket, quiet-bind, quiet-listen, quiet-accept, quiet-connect, quiet-state, quiet-sockname, quiet-peername, quiet-sendto, quiet-recvfrom, quiet-send_refused, quiet-recv_refused, quiet-shutdown_refused, quiet-close_refused, quiet-nodelay, quiet-abort, quiet-ready}
+use Rattle.wire_sim.proofs.told.TraceAndOneMore.{IsQuiet, answered, tallies, tallies-counted, tallies-quiet, tallies-opened, quiet-everywhere, quiet-socket, quiet-bind, quiet-listen, quiet-accept, quiet-connect, quiet-state, quiet-sockname, quiet-peername, quiet-sendto, quiet-recvfrom, quiet-send_refused, quiet-recv_refused, quiet-shutdown_refused, quiet-close_refused, quiet-nodelay, quiet-abort, quiet-ready, quiet-info}
 
 -- What a call made of the network: nothing beside its host, a count, or an opening.
 pub data CallGoes (limit : ℕ) (hs ts : Side) (a b : Addr) (host' : HostView) (other : SocketsView) (n : NetworkView) (bag : Bag) (c : Call) (answer : Answer) (place : ℕ) (trace : List Happening) : Type 0 where
@@ -232,6 +233,12 @@ projects-called limit hs ts a b host host' other n bag place trace (call.Ready i
     elim (outcome (readiness own id) (λ s. reply.Ready s) own own answer host'.sockets m) [
       | inl x ↦ plain limit hs ts a b host' other n bag (call.Ready id) answer place trace refl (λ i. quiet-ready hs id answer i) (kept limit hs ts a b own host'.sockets other bag n.openings trace x.3 h)
       | inr x ↦ plain limit hs ts a b host' other n bag (call.Ready id) answer place trace refl (λ i. quiet-ready hs id answer i) (kept limit hs ts a b own host'.sockets other bag n.openings trace x.3 h)
+    ]
+projects-called limit hs ts a b host host' other n bag place trace (call.Info id) answer sound opposite is_host is_other numbered fair m h =
+    let own = host.sockets in
+    elim (outcome (info_answer own id) (λ s. reply.Info s) own own answer host'.sockets m) [
+      | inl x ↦ plain limit hs ts a b host' other n bag (call.Info id) answer place trace refl (λ i. quiet-info hs id answer i) (kept limit hs ts a b own host'.sockets other bag n.openings trace x.3 h)
+      | inr x ↦ plain limit hs ts a b host' other n bag (call.Info id) answer place trace refl (λ i. quiet-info hs id answer i) (kept limit hs ts a b own host'.sockets other bag n.openings trace x.3 h)
     ]
 projects-called limit hs ts a b host host' other n bag place trace (call.SockName id) answer sound opposite is_host is_other numbered fair m h =
     let own = host.sockets in

@@ -161,6 +161,7 @@ octets_given told given octets is same = by_answer given (subst (λ a. SameAnswe
     by_answer reply.EndOfStream s = let e = s.octets in cc
     by_answer (reply.State x) s = let e = s.octets in cc
     by_answer (reply.Ready x) s = let e = s.octets in cc
+    by_answer (reply.Info x) s = let e = s.octets in cc
     by_answer (reply.Endpoint x) s = let e = s.octets in cc
     by_answer (reply.Frame i n) s = let e = s.octets in cc
     by_answer reply.NoFrame s = let e = s.octets in cc
@@ -228,10 +229,13 @@ reads_end side id count told old w v empty so_far step = record {
     by_answer (Err x) (reply.Sent n) e m = absurd m
     by_answer (Ok (received.Octets count)) (reply.State y) e m = absurd m
     by_answer (Ok (received.Octets count)) (reply.Ready y) e m = absurd m
+    by_answer (Ok (received.Octets count)) (reply.Info y) e m = absurd m
     by_answer (Ok received.EndOfStream) (reply.State y) e m = absurd m
     by_answer (Ok received.EndOfStream) (reply.Ready y) e m = absurd m
+    by_answer (Ok received.EndOfStream) (reply.Info y) e m = absurd m
     by_answer (Err x) (reply.State y) e m = absurd m
     by_answer (Err x) (reply.Ready y) e m = absurd m
+    by_answer (Err x) (reply.Info y) e m = absurd m
     by_answer (Ok (received.Octets count)) (reply.Endpoint y) e m = absurd m
     by_answer (Ok received.EndOfStream) (reply.Endpoint y) e m = absurd m
     by_answer (Err x) (reply.Endpoint y) e m = absurd m

@@ -23,6 +23,7 @@ cloned (event.Call s (call.Close ia)) (event.Call t (call.Close ib)) is = (is.0,
 cloned (event.Call s (call.Abort ia)) (event.Call t (call.Abort ib)) is = (is.0, let e0 = is.1 in cc)
 cloned (event.Call s (call.State ia)) (event.Call t (call.State ib)) is = (is.0, let e0 = is.1 in cc)
 cloned (event.Call s (call.Ready ia)) (event.Call t (call.Ready ib)) is = (is.0, let e0 = is.1 in cc)
+cloned (event.Call s (call.Info ia)) (event.Call t (call.Info ib)) is = (is.0, let e0 = is.1 in cc)
 cloned (event.Call s (call.SockName ia)) (event.Call t (call.SockName ib)) is = (is.0, let e0 = is.1 in cc)
 cloned (event.Call s (call.PeerName ia)) (event.Call t (call.PeerName ib)) is = (is.0, let e0 = is.1 in cc)
 cloned (event.Call s a) (event.Call t b) is = absurd is.1

@@ -211,6 +211,7 @@ orderly-emitted limit hs ts old new trace (reply.Datagram o f) opposite sound st
 orderly-emitted limit hs ts old new trace reply.EndOfStream opposite sound step w = absurd step
 orderly-emitted limit hs ts old new trace (reply.State s) opposite sound step w = absurd step
 orderly-emitted limit hs ts old new trace (reply.Ready r) opposite sound step w = absurd step
+orderly-emitted limit hs ts old new trace (reply.Info r) opposite sound step w = absurd step
 orderly-emitted limit hs ts old new trace (reply.Endpoint x) opposite sound step w = absurd step
 orderly-emitted limit hs ts old new trace (reply.Frame i l) opposite sound step w =
     let answer : Answer = reply.Frame i l in

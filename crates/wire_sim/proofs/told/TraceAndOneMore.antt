@@ -294,6 +294,10 @@ quiet-state side id a i = (refl, refl, refl, refl)
 pub quiet-ready : (side : Side) (id : SocketId) (a : Answer) (i : SocketId) → IsQuiet side i (answered side (call.Ready id) a)
 quiet-ready side id a i = (refl, refl, refl, refl)
 
+-- for how its connection stands, whatever is answered
+pub quiet-info : (side : Side) (id : SocketId) (a : Answer) (i : SocketId) → IsQuiet side i (answered side (call.Info id) a)
+quiet-info side id a i = (refl, refl, refl, refl)
+
 -- for its own end, whatever is answered
 pub quiet-sockname : (side : Side) (id : SocketId) (a : Answer) (i : SocketId) → IsQuiet side i (answered side (call.SockName id) a)
 quiet-sockname side id a i = (refl, refl, refl, refl)

@@ -90,6 +90,7 @@ impl Station {
             Call::Abort { id } => answered(host.abort(*id), |()| Answer::Done),
             Call::State { id } => answered(host.state(*id), Answer::State),
             Call::Ready { id } => answered(host.ready(*id), Answer::Ready),
+            Call::Info { id } => answered(host.info(*id), Answer::Info),
             Call::SockName(id) => answered(host.sockname(*id), Answer::Endpoint),
             Call::PeerName(id) => answered(host.peername(*id), Answer::Endpoint),
         }

@@ -1,5 +1,5 @@
 -- A round by its stages, and where memory ran out those that were done.
-use Rattle.std.proofs.Common.{ℕ, Result, Ok, Err, refl, sym, subst}
+use Rattle.std.proofs.Common.{Result, Ok, Err, refl, sym, subst}
 use Rattle.std.specs.Result.{IfOk, OnOk, OnErr}
 use Rattle.std.proofs.lemmas.Result.{IfOk-weaker}
 use Rattle.wire_sim.specs.Rounds.{IsBegun, at_minute_of_writer, at_minute_of_reader, at_bringing, at_answering, at_reading}
