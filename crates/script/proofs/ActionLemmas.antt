@@ -24,6 +24,7 @@ four_say_nothing keyword.Close a b c d rest = refl
 four_say_nothing keyword.Abort a b c d rest = refl
 four_say_nothing keyword.State a b c d rest = refl
 four_say_nothing keyword.Ready a b c d rest = refl
+four_say_nothing keyword.Info a b c d rest = refl
 four_say_nothing keyword.Tick a b c d rest = refl
 four_say_nothing keyword.Emit a b c d rest = refl
 four_say_nothing keyword.Deliver a b c d rest = refl

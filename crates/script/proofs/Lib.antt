@@ -1,4 +1,5 @@
 pub mod ActionLemmas
+pub mod InfoLemmas
 pub mod ReadyLemmas
 pub mod ScriptLemmas
 pub mod WordLemmas

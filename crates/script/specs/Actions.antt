@@ -11,7 +11,7 @@ use Rattle.script.specs.Keywords.{keyword_of}
 use Rattle.script.specs.declared.action.Keyword.{Keyword}
 use Rattle.script.specs.declared.action.Keyword.TheVariants as keyword
 use Rattle.script.specs.declared.action.Action.{Action}
-use Rattle.script.specs.declared.action.Action.TheVariants.{Socket, Bind, Listen, Accept, Connect, Send, Fill, Recv, Count, SendTo, FillTo, RecvFrom, CountFrom, Shutdown, NoDelay, Close, Abort, State, Ready, Tick, Emit, Deliver}
+use Rattle.script.specs.declared.action.Action.TheVariants.{Socket, Bind, Listen, Accept, Connect, Send, Fill, Recv, Count, SendTo, FillTo, RecvFrom, CountFrom, Shutdown, NoDelay, Close, Abort, State, Ready, Info, Tick, Emit, Deliver}
 
 -- the kind of a socket
 abbrev pub kind_of : List ℕ → Option Kind
@@ -80,6 +80,7 @@ said_by keyword.Close (id ∷ []) = option_map Close (id_of id)
 said_by keyword.Abort (id ∷ []) = option_map Abort (id_of id)
 said_by keyword.State (id ∷ []) = option_map State (id_of id)
 said_by keyword.Ready (id ∷ []) = option_map Ready (id_of id)
+said_by keyword.Info (id ∷ []) = option_map Info (id_of id)
 said_by keyword.Tick (moment ∷ []) = option_map Tick (moment_of moment)
 said_by keyword.Emit [] = Some Emit
 said_by keyword.Deliver (index ∷ isn ∷ []) = together Deliver (wide index) (isn_of isn)

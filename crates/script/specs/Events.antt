@@ -8,7 +8,7 @@ use Rattle.wire_sim.specs.declared.event.Event.TheVariants as event
 use Rattle.wire_sim.specs.declared.event.Call.TheVariants as call
 use Rattle.wire_sim.specs.Hosts.{address_of}
 use Rattle.script.specs.declared.action.Action.{Action}
-use Rattle.script.specs.declared.action.Action.TheVariants.{Socket, Bind, Listen, Accept, Connect, Send, Fill, Recv, Count, SendTo, FillTo, RecvFrom, CountFrom, Shutdown, NoDelay, Close, Abort, State, Ready, Tick, Emit, Deliver}
+use Rattle.script.specs.declared.action.Action.TheVariants.{Socket, Bind, Listen, Accept, Connect, Send, Fill, Recv, Count, SendTo, FillTo, RecvFrom, CountFrom, Shutdown, NoDelay, Close, Abort, State, Ready, Info, Tick, Emit, Deliver}
 
 -- a port of a side's host
 abbrev pub endpoint_of : Side → ℕ → Endpoint
@@ -41,6 +41,7 @@ IsEventOf side (Close id) happens = happens ≡ event.Call side (call.Close id)
 IsEventOf side (Abort id) happens = happens ≡ event.Call side (call.Abort id)
 IsEventOf side (State id) happens = happens ≡ event.Call side (call.State id)
 IsEventOf side (Ready id) happens = happens ≡ event.Call side (call.Ready id)
+IsEventOf side (Info id) happens = happens ≡ event.Call side (call.Info id)
 IsEventOf side (Tick moment) happens = happens ≡ event.Tick side moment
 IsEventOf side Emit happens = happens ≡ event.Emit side
 IsEventOf side (Deliver index isn) happens = happens ≡ event.Deliver side index isn

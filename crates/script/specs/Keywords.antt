@@ -2,7 +2,7 @@
 use Rattle.std.specs.Prelude.{ℕ, List, Option, Some, None, codes, if◌then◌else◌}
 use Rattle.std.specs.Str.{bytes_eq}
 use Rattle.script.specs.declared.action.Keyword.{Keyword}
-use Rattle.script.specs.declared.action.Keyword.TheVariants.{Socket, Bind, Listen, Accept, Connect, Send, Fill, Recv, Count, SendTo, FillTo, RecvFrom, CountFrom, Shutdown, NoDelay, Close, Abort, State, Ready, Tick, Emit, Deliver}
+use Rattle.script.specs.declared.action.Keyword.TheVariants.{Socket, Bind, Listen, Accept, Connect, Send, Fill, Recv, Count, SendTo, FillTo, RecvFrom, CountFrom, Shutdown, NoDelay, Close, Abort, State, Ready, Info, Tick, Emit, Deliver}
 
 -- the keyword that a word is
 abbrev pub keyword_of : List ℕ → Option Keyword
@@ -26,6 +26,7 @@ keyword_of word =
     else if bytes_eq word (codes "abort") then Some Abort
     else if bytes_eq word (codes "state") then Some State
     else if bytes_eq word (codes "ready") then Some Ready
+    else if bytes_eq word (codes "info") then Some Info
     else if bytes_eq word (codes "tick") then Some Tick
     else if bytes_eq word (codes "emit") then Some Emit
     else if bytes_eq word (codes "deliver") then Some Deliver

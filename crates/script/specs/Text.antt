@@ -1,9 +1,9 @@
--- How octets are shown in a printed line.
+-- How octets and answers are printed.
 use Rattle.std.specs.Prelude.{◌++◌, codes, slice_index, length, ℕ, ◌+◌, ◌/◌, ◌%◌, List, [], ◌∷◌, Bool, true, false, ◌&&◌, ◌==◌, nat_lt, not, if◌then◌else◌}
 use Rattle.std.specs.List.{flat_map}
 use Rattle.std.specs.Fmt.{decimal}
 use Rattle.wire_sim.specs.declared.event.Answer.{Answer}
-use Rattle.wire_sim.specs.declared.event.Answer.TheVariants.{Socket, Done, Accepted, Started, Sent, Octets, Datagram, EndOfStream, State, Ready, Frame, NoFrame, Taken, Dropped, Refused}
+use Rattle.wire_sim.specs.declared.event.Answer.TheVariants.{Socket, Done, Accepted, Started, Sent, Octets, Datagram, EndOfStream, State, Ready, Info, Frame, NoFrame, Taken, Dropped, Refused}
 use Rattle.wire_sim.specs.declared.event.Answer.TheVariants as answered
 use Rattle.ipv4.specs.declared.addr.Endpoint.{Endpoint}
 use Rattle.sockets.specs.declared.ready.Ready.{Ready as Readiness}
@@ -11,6 +11,7 @@ use Rattle.sockets.specs.Names.{refusal_text, socket_state_text}
 use Rattle.frames.specs.Drops.{number_of}
 use Rattle.script.specs.declared.action.Action.{Action}
 use Rattle.script.specs.declared.action.Action.TheVariants.{Count, CountFrom}
+use Rattle.script.specs.Info.{info_text}
 use Rattle.script.specs.declared.answer.Style.{Style}
 use Rattle.script.specs.declared.answer.Style.TheVariants as style
 use Rattle.std.specs.Char.{is_ascii_graphic}
@@ -78,6 +79,7 @@ shown_of how (Datagram octets from) = octets_text how octets.items ++ (codes " f
 shown_of how EndOfStream = codes "end"
 shown_of how (State told) = socket_state_text told
 shown_of how (Ready told) = ready_text told
+shown_of how (Info told) = info_text told
 shown_of how (answered.Endpoint end) = peer_text end
 shown_of how (Frame index len) = codes "frame " ++ decimal index ++ codes " " ++ decimal len
 shown_of how NoFrame = codes "none"

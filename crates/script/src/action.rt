@@ -104,6 +104,10 @@ pub enum Action<'a> {
     Ready {
         id: SocketId,
     },
+    /// Ask how a socket's connection stands.
+    Info {
+        id: SocketId,
+    },
     /// Tell the moment, in milliseconds.
     Tick(Moment),
     /// Emit a frame, where one is due.
@@ -156,6 +160,8 @@ pub enum Keyword {
     State,
     /// `ready`
     Ready,
+    /// `info`
+    Info,
     /// `tick`
     Tick,
     /// `emit`
@@ -189,6 +195,7 @@ impl Keyword {
             b"abort" => Keyword::Abort,
             b"state" => Keyword::State,
             b"ready" => Keyword::Ready,
+            b"info" => Keyword::Info,
             b"tick" => Keyword::Tick,
             b"emit" => Keyword::Emit,
             b"deliver" => Keyword::Deliver,
@@ -251,6 +258,9 @@ fn with_one<'a>(keyword: Keyword, word: &'a [u8]) -> Option<Action<'a>>
             id: socket_id(word)?,
         }),
         Keyword::Ready => Some(Action::Ready {
+            id: socket_id(word)?,
+        }),
+        Keyword::Info => Some(Action::Info {
             id: socket_id(word)?,
         }),
         Keyword::Tick => Some(Action::Tick(moment(word)?)),

@@ -5,6 +5,7 @@ ghost use Rattle.script.specs.Text.{hex_digit_of, escape_of, escaped_of, octets_
 ghost use Rattle.wire_sim.specs.Names.{unfair_text};
 ghost use Rattle.std.specs.Fmt.{decimal};
 
+use crate::info::show_info;
 use host::{Ready, SocketId};
 use ipv4::Endpoint;
 use std::alloc::AllocError;
@@ -52,7 +53,7 @@ fn hex_digit(value: u8) -> char
     }
 }
 
-/// Adds what is printed of `answer` to `line`.
+/// Adds what is printed of `answer` to `line`: one line, or where it is how a connection stands one for each field, with a newline between them.
 pub fn show(answer: &Answer, style: Style, line: &mut String) -> Result<(), AllocError>
     ensures { OnOk result (string_bytes line.new ≡ string_bytes line.old ++ shown_of style answer.now) }
 {
@@ -67,6 +68,7 @@ pub fn show(answer: &Answer, style: Style, line: &mut String) -> Result<(), Allo
         Answer::EndOfStream => line.push_str("end"),
         Answer::State(state) => write!(line, "{state}"),
         Answer::Ready(ready) => show_ready(*ready, line),
+        Answer::Info(info) => show_info(info, line),
         Answer::Endpoint(end) => show_peer(*end, line),
         Answer::Frame { index, len } => write!(line, "frame {index} {len}"),
         Answer::NoFrame => line.push_str("none"),

@@ -92,6 +92,7 @@ pub fn event(alloc: Global, side: Side, action: &Action<'_>) -> Result<Event, Al
         Action::Abort { id } => Ok(Event::Call(side, Call::Abort { id: *id })),
         Action::State { id } => Ok(Event::Call(side, Call::State { id: *id })),
         Action::Ready { id } => Ok(Event::Call(side, Call::Ready { id: *id })),
+        Action::Info { id } => Ok(Event::Call(side, Call::Info { id: *id })),
     }
 }
 

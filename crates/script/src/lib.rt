@@ -5,6 +5,7 @@ mod action;
 mod answer;
 mod events;
 mod fault;
+mod info;
 mod lines;
 mod words;
 
