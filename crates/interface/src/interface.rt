@@ -9,7 +9,7 @@ use crate::queue::Queue;
 use crate::reply::{QueueFault, Reply, ResetHead, Waiting};
 use crate::room::Quoted;
 use crate::way::Way;
-use arp::{ArpCache, ArpPacket};
+use arp::{ArpCache, ArpPacket, Operation};
 use clock::Moment;
 use ether::Mac;
 use icmp::Reason;
@@ -47,7 +47,8 @@ impl Model for Interface {
 impl Interface {
     ghost use Rattle.interface.specs.InterfaceView.{fresh};
     ghost use Rattle.interface.specs.Ways.{is_routed, knows_hop, way};
-    ghost use Rattle.interface.specs.Replies.{after_heard, heard_answer, after_answer, after_echo, after_report, answer_result, way_of, is_due};
+    ghost use Rattle.arp.specs.Cache.{is_request_for};
+    ghost use Rattle.interface.specs.Replies.{after_heard, heard_answer, is_full, after_answer, after_echo, after_report, answer_result, way_of, is_due};
 
     /// An interface with this MAC, address and routes, that heard nothing. Fails only where memory is refused.
     pub fn new(alloc: Global, mac: Mac, addr: Addr, routes: Routes) -> Result<Interface, AllocError>
@@ -110,6 +111,20 @@ impl Interface {
             self.replies.push(now, Reply::Arp(packet.reply(self.mac)))?;
         }
         Ok(())
+    }
+
+    /// Whether an ARP packet is a request for our address, to which a reply is owed (RFC 826).
+    pub fn is_asked_by(&self, packet: &ArpPacket) -> bool
+        ensures { result ≡ is_request_for self.now.addr packet.now }
+    {
+        packet.target_addr == self.addr && matches!(packet.operation, Operation::Request)
+    }
+
+    /// Whether 16 control replies wait, so that none that is owed finds a place.
+    pub fn is_full(&self) -> bool
+        ensures { result ≡ is_full self.now }
+    {
+        self.replies.is_full()
     }
 
     /// Queues a reset to an address, a segment with this header, which has RST, and no octets (RFC 9293 section 3.5.2). Where no route

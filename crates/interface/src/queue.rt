@@ -1,6 +1,6 @@
 //! The queue of the control replies that wait.
 
-ghost use Rattle.std.specs.Prelude.{◌≡◌, ◌<◌, ℕ, List, [], length, remove, true, false, IfOk, OnOk};
+ghost use Rattle.std.specs.Prelude.{◌≡◌, ◌<◌, ◌==◌, ℕ, List, [], length, remove, true, false, IfOk, OnOk};
 ghost use Rattle.interface.specs.declared.reply.Reply.{Reply};
 ghost use Rattle.interface.specs.Queue.{joined, join_answer, has_room};
 
@@ -61,6 +61,13 @@ impl Queue {
         ensures { result ≡ length self.now }
     {
         self.replies.len()
+    }
+
+    /// Whether 16 wait.
+    pub(crate) fn is_full(&self) -> bool
+        ensures { result ≡ (length self.now == 16) }
+    {
+        self.replies.is_full()
     }
 
     /// Takes a reply that needs no room. NoRoom where 16 wait already, and then nothing has changed.

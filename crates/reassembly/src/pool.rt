@@ -1,9 +1,10 @@
 //! The pool of the datagrams that are being put together.
 
-ghost use Rattle.std.specs.Prelude.{◌≡◌, ◌≤◌, ◌<◌, None, IfOk, IfSome, is_none, length, position, replicate};
+ghost use Rattle.std.specs.Prelude.{◌≡◌, ◌≤◌, ◌<◌, None, IfOk, IfSome, is_none, is_some, length, position, replicate};
 ghost use Rattle.std.specs.Borrow.{sem};
 ghost use Rattle.std.specs.Io.BufRead.{Rests};
 ghost use Rattle.reassembly.specs.contracts.pool.Pool.{the_row};
+ghost use Rattle.reassembly.specs.Fragments.{key_of};
 ghost use Rattle.reassembly.specs.Places.{is_of, place_for, after_take, AnswersTake, after_age, expired, next_deadline};
 
 use crate::assembled::{Assembled, Loss};
@@ -66,6 +67,13 @@ impl Pool {
                 place.take(now, fragment)
             }
         }
+    }
+
+    /// Whether a fragment would have a place: its datagram has one, or one is free.
+    pub fn has_place(&self, fragment: &Ipv4View) -> bool
+        ensures { result ≡ is_some (place_for (key_of fragment.now) self.now) }
+    {
+        place_for(&self.places, Key::of(fragment)).is_some()
     }
 
     /// Ends each datagram whose first fragment arrived sixty seconds ago or earlier (RFC 1122 section 3.3.2), and tells those of

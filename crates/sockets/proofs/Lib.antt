@@ -69,3 +69,4 @@ pub mod Closings
 pub mod Strays
 pub mod Calling
 pub mod NoMemory
+pub mod Needed

@@ -10,6 +10,7 @@ pub mod Ports
 pub mod Calls
 pub mod Datagrams
 pub mod Arrival
+pub mod Needs
 pub mod Pairs
 pub mod Ready
 pub mod Unreachable

@@ -25,6 +25,7 @@ ghost use Rattle.sockets.specs.SocketsView.{SocketsView, holder_id, new_sockets,
 ghost use Rattle.sockets.specs.Ticks.{after_tick, least_deadline, IsLeastDeadline, HasNoDeadline};
 ghost use Rattle.sockets.specs.Lost.{role_after_giving_up, after_giving_up, waiting_resets, waits_still};
 ghost use Rattle.sockets.specs.Arrival.{Opens, NoRoom, Answers, local_end, peer_end, arrival, opened_by, pair_opened};
+ghost use Rattle.sockets.specs.Needs.{IsNeededBy, need};
 ghost use Rattle.sockets.specs.declared.role.Role.{Role};
 ghost use Rattle.sockets.specs.declared.role.Role.TheVariants.{Connected, Datagrams};
 ghost use Rattle.sockets.specs.Datagrams.{sendto_answer, after_sendto, sending_end};
@@ -49,6 +50,12 @@ pub fn openings_are_foreseen()
     ensures foreseen { (h : SocketsView) (now : Moment) (isn : ℕ) (source : Addr) (s : Segment) → pair_opened h source s ≡ opened_by h source s (arrival h now isn source s) }
     ensures opened { (h : SocketsView) (now : Moment) (isn : ℕ) (source : Addr) (s : Segment) (next : SocketsView) → IsOrdered h → same_addr source h.addr ≡ false
         → arrival h now isn source s ≡ Opens next → holder_id next (pair_of (local_end h s) (peer_end source s)) ≡ Some (record { 0 = h.last_id + 1 }) }
+{}
+
+/// What `need_of_segment` tells of a segment is needed by what it leads to, whatever the moment and the initial number: nothing where the table takes
+/// it, memory where it opens a connection, a place at the listener or in the table where there is none, and a reply where it is answered.
+pub fn needs_are_foreseen()
+    ensures { (h : SocketsView) (now : Moment) (isn : ℕ) (source : Addr) (s : Segment) → IsNeededBy (arrival h now isn source s) (need h source s) }
 {}
 
 /// What answers a segment is a reset (RFC 9293 section 3.5.2), which can be sent where the segment's fields and the two addresses are of their width.

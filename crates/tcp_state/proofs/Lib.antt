@@ -83,3 +83,4 @@ pub mod Scales
 pub mod FirstSyns
 pub mod NoDelay
 pub mod Recount
+pub mod WouldReject

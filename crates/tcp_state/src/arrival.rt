@@ -541,6 +541,38 @@ impl Connection {
     }
 }
 
+/// What a segment would come to. Nothing changes.
+impl Connection {
+    ghost use Rattle.tcp_state.specs.Arrival.{acknowledges_unsent};
+    ghost use Rattle.tcp_state.specs.Asking.{is_rejection};
+
+    /// Whether `segment` would reject this segment, which is answered by a reset then (RFC 9293 sections 3.10.7.3, first, and 3.10.7.4, fifth).
+    pub fn would_reject(&self, segment: &TcpView<'_>) -> bool
+        ensures { result ≡ is_rejection (fate self.now segment.now) }
+    {
+        self.acknowledges_unsent(segment) && self.rejects_wrong_ack(segment)
+    }
+
+    /// Whether a segment acknowledges nothing that is outstanding.
+    fn acknowledges_unsent(&self, segment: &TcpView<'_>) -> bool
+        ensures { result ≡ acknowledges_unsent self.now segment.now }
+    {
+        let flags = segment.flags();
+        !flags.rst && flags.ack && !self.sender.is_new(segment.acknowledgement())
+    }
+
+    /// Whether that is rejected: while the connection opens, once the peer's SYN came only of an acceptable segment without SYN.
+    fn rejects_wrong_ack(&self, segment: &TcpView<'_>) -> bool
+        ensures { result ≡ (is_syn_sent self.now.state || (is_syn_received self.now.state && is_acceptable_to self.now segment.now && not segment.now.flags.syn)) }
+    {
+        match self.state {
+            State::SynSent => true,
+            State::SynReceived => self.is_acceptable(segment) && !segment.flags().syn,
+            _ => false,
+        }
+    }
+}
+
 impl Before {
     /// Whether a wait is counted from the segment that led to a state.
     fn starts_wait(self, state: State, owes_reset: bool) -> bool

@@ -35,6 +35,19 @@ none_has_room line n capacity refused = by_test (has_room line.items n) refl
     by_test false is = refl
     by_test true is = absurd (refused ((room_tested line n capacity).1 is))
 
+-- .. by the most that it has room for
+pub room_by_most : (line : Line) (n most : ℕ) → line.capacity ≡ 65535 → ((len : ℕ) → HasRoom line len ↔ (len ≤ most)) → nat_le n most ≡ has_room line.items n
+room_by_most line n most capacity answers = by_test (nat_le n most) refl
+  where
+    by_test : (b : Bool) → nat_le n most ≡ b → b ≡ has_room line.items n
+    by_test true is = sym (has_its_room line n capacity ((answers n).1 (grind (arith, nat_tests, is))))
+    by_test false is =
+        let beyond : most < n = grind (arith, nat_tests, is) in
+        sym (none_has_room line n capacity (λ room. let within = (answers n).0 room in absurd (omega (arith, within, beyond))))
+
+pub room_by_none : (line : Line) (n : ℕ) → line.capacity ≡ 65535 → ((len : ℕ) → HasRoom line len → ⊥) → false ≡ has_room line.items n
+room_by_none line n capacity refused = sym (none_has_room line n capacity (refused n))
+
 -- the datagrams that a socket shows have the room of those in its queue
 pub out_stored : (tags : List Tag) (line : Line) (s : SocketView) (n : ℕ) → AreBeside tags line.items → outgoing_of tags line.items ≡ s.outbox
     → has_room line.items n ≡ has_room_out s n

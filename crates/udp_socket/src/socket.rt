@@ -147,6 +147,17 @@ impl UdpSocket {
         }
     }
 
+    /// Whether a further datagram that comes would have room, of so many octets: whether `receive` would take it.
+    #[tactic(auto, using(crate::proofs::Rooms::room_by_most, crate::proofs::Rooms::room_by_none))]
+    pub fn would_receive(&self, len: usize) -> bool
+        ensures { result ≡ has_room_in self.now len }
+    {
+        match self.inbox.room() {
+            Some(room) => len <= room,
+            None => false,
+        }
+    }
+
     /// How many datagrams wait to go out.
     pub fn waiting(&self) -> usize
         ensures { result ≡ length self.now.outbox }
