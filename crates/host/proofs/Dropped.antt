@@ -76,7 +76,7 @@ unchanged h now isn octets cause new is other = of_meaning (heard_by h octets) h
 
 -- What is refused for lack of room joins nothing.
 
-refused : (is_owed : Bool) (i : InterfaceView) (cause : DropCause) → Err cause ≡ queue_answer (owed_answer is_owed i) → (is_owed && is_full i) ≡ true
+pub refused : (is_owed : Bool) (i : InterfaceView) (cause : DropCause) → Err cause ≡ queue_answer (owed_answer is_owed i) → (is_owed && is_full i) ≡ true
 refused is_owed i cause is = by_test (is_owed && is_full i) is
   where
     by_test : (b : Bool) → Err cause ≡ queue_answer (cond b (Err Full) (Ok tt)) → b ≡ true

@@ -4,6 +4,8 @@ pub mod DueSegments
 pub mod Hearing
 pub mod Carriage
 pub mod Dropped
+pub mod NoWantHeard
+pub mod Lacking
 pub mod FirstPlace
 pub mod Waiting
 pub mod HeldBack

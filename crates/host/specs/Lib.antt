@@ -3,6 +3,7 @@ pub mod HostView
 pub mod Messages
 pub mod Arrival
 pub mod Concerned
+pub mod Lack
 pub mod Emission
 pub mod Ticks
 pub mod Sound

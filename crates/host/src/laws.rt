@@ -62,6 +62,9 @@ ghost use Rattle.host.specs.Carried.{Carried, carried};
 ghost use Rattle.host.specs.Causes.{IsAbout};
 ghost use Rattle.host.specs.ComesUp.{IsDueSoon, IsQuiet, ComesUp, ConnectionComesUp, HasEnded, WaitsSince, address_of, is_on_route, most_wait};
 ghost use Rattle.host.specs.Emission.{Replies, Sends, Nothing, emission, emission_to, emission_len, after_emission, emission_octets, goes_out_from};
+ghost use Rattle.host.specs.declared.lack.Lack.{Lack};
+ghost use Rattle.host.specs.declared.lack.Lack.TheVariants.{Memory};
+ghost use Rattle.host.specs.Lack.{lack};
 ghost use Rattle.host.specs.Limits.{IsWithinLimits};
 ghost use Rattle.host.specs.Messages.{errors_of};
 ghost use Rattle.host.specs.Met.{IsLearntInVain, IsMetBy, IsNoEntry, IsOpenedAtMost, IsQuotedBy, StaysUnless};
@@ -124,6 +127,15 @@ pub fn dropped_frames_change_the_cache_alone()
         → cause ≢ NoRoom → new ≡ h }
     ensures learnt { (h : HostView) (now : Moment) (isn : ℕ) (octets : List ℕ) (cause : DropCause) (new : HostView) → IsDelivered h now isn octets (Err cause) new
         → (new ≡ h) ⊎ IsLearntInVain h (later_moment h.sockets now) octets new }
+{}
+
+/// A frame is dropped for want of room exactly where there is something that it finds none at, as `Host::lack` tells it, but for memory, which may be refused or not. It finds the same after
+/// that: so a program may ask once a frame was dropped, and then alone.
+pub fn want_of_room_has_its_reason()
+    ensures only { (h : HostView) (now : Moment) (isn : ℕ) (octets : List ℕ) (new : HostView) → IsDelivered h now isn octets (Err NoRoom) new → (what : Lack) × (lack h octets ≡ Some what) }
+    ensures always { (h : HostView) (now : Moment) (isn : ℕ) (octets : List ℕ) (answer : Result (Unit {0}) DropCause) (new : HostView) (what : Lack) → IsDelivered h now isn octets answer new
+        → lack h octets ≡ Some what → what ≢ Memory → answer ≡ Err NoRoom }
+    ensures still { (h : HostView) (now : Moment) (isn : ℕ) (octets : List ℕ) (new : HostView) → IsDelivered h now isn octets (Err NoRoom) new → lack new octets ≡ lack h octets }
 {}
 
 /// Whatever octets come, they move one connection at most. A segment moves the one between its two ends alone (RFC 9293 section 3.10.7): every other entry of the table stays as it was, in order, that one
