@@ -11,7 +11,7 @@ use Rattle.wire_sim.specs.declared.event.Answer.{Answer}
 use Rattle.wire_sim.specs.declared.event.Happening.{Happening}
 use Rattle.wire_sim.specs.declared.event.Unfair.{Unfair}
 use Rattle.sides.specs.Sides.{other_side}
-use Rattle.wire_sim.specs.Rounds.{IsRoundOutcome}
+use Rattle.wire_sim.specs.RoomyRuns.{IsRoundWithRoom}
 use Rattle.wire_sim.specs.WorldView.{WorldView}
 use Rattle.script.specs.declared.lines.Command.{Command}
 use Rattle.script.specs.declared.lines.Command.TheVariants.{At, Round, Pass}
@@ -66,7 +66,7 @@ Tells (At side action) passages text old new =
     (happens : Event) × (outcome : Result Answer Unfair) × IsEventOf side action happens × ComesTo happens outcome old new
     × (passages ≡ option_to_list (passage_of happens outcome)) × (text ≡ text_of_outcome (style_of action) outcome)
 Tells (Round writer reader_id) passages text old new =
-    (told : Result ℕ Unfair) × IsRoundOutcome writer reader_id told old new × (passages ≡ passages_since old new) × (text ≡ round_text told)
+    (told : Result ℕ Unfair) × IsRoundWithRoom writer reader_id told old new × (passages ≡ passages_since old new) × (text ≡ round_text told)
 Tells (Pass isn) passages text old new =
     (of_a : List ℕ) × (of_b : List ℕ) × (to_b : List (Option Passage)) × (to_a : List (Option Passage)) × (w : WorldView)
     × CarriesEach A isn of_a to_b old w × CarriesEach B isn of_b to_a w new

@@ -12,7 +12,7 @@ use Rattle.wire_sim.specs.declared.event.Answer.TheVariants.{Frame, NoFrame}
 use Rattle.wire_sim.specs.declared.event.Unfair.{Unfair}
 use Rattle.wire_sim.specs.Names.{unfair_text}
 use Rattle.sides.specs.Sides.{other_side}
-use Rattle.wire_sim.specs.Rounds.{IsRoundOutcome}
+use Rattle.wire_sim.specs.RoomyRuns.{IsRoundWithRoom}
 use Rattle.wire_sim.specs.Runs.{unfair, IsOutcome}
 use Rattle.wire_sim.specs.WorldRoom.{IsPlain}
 use Rattle.wire_sim.specs.WorldView.{WorldView, fresh_world}
@@ -92,7 +92,7 @@ round_line told = round_text told ++ codes "\n"
 abbrev pub Does : Command → WorldView → WorldView → Type 0
 Does (At side action) old new =
     (happens : Event) × (outcome : Result Answer Unfair) × IsEventOf side action happens × ComesTo happens outcome old new
-Does (Round writer reader_id) old new = (told : Result ℕ Unfair) × IsRoundOutcome writer reader_id told old new
+Does (Round writer reader_id) old new = (told : Result ℕ Unfair) × IsRoundWithRoom writer reader_id told old new
 Does (Pass isn) old new = (from_a : ℕ) × (from_b : ℕ) × (w : WorldView) × Carries A isn from_a old w × Carries B isn from_b w new
 
 -- a command prints this line: what is shown of the outcome of its event, or of its round, or how many frames of a and of b it carried
@@ -100,7 +100,7 @@ abbrev pub Prints : Command → List ℕ → WorldView → WorldView → Type 0
 Prints (At side action) line old new =
     (happens : Event) × (outcome : Result Answer Unfair) × IsEventOf side action happens × ComesTo happens outcome old new
     × (line ≡ line_of_outcome (style_of action) outcome)
-Prints (Round writer reader_id) line old new = (told : Result ℕ Unfair) × IsRoundOutcome writer reader_id told old new × (line ≡ round_line told)
+Prints (Round writer reader_id) line old new = (told : Result ℕ Unfair) × IsRoundWithRoom writer reader_id told old new × (line ≡ round_line told)
 Prints (Pass isn) line old new =
     (from_a : ℕ) × (from_b : ℕ) × (w : WorldView) × Carries A isn from_a old w × Carries B isn from_b w new × (line ≡ pass_line from_a from_b)
 

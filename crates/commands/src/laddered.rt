@@ -22,8 +22,8 @@ use crate::input::whole_script;
 use crate::output::{flush, write_all};
 use crate::recording::record;
 use crate::sim::{
-    Begun, Ends, MOST_EVENTS, MOST_FRAMES, begin, emit, give, happen, make_room, style, text_of,
-    text_of_pass, text_of_round,
+    Begun, Ends, MOST_EVENTS, MOST_FRAMES, begin, emit, give, go_round, happen, make_room, style,
+    text_of, text_of_pass, text_of_round,
 };
 use devices::{Sink, Source};
 use host::SocketId;
@@ -271,7 +271,7 @@ fn round(
     ensures left { OnErr result ((world.new.seen ≡ world.old.seen) ⊎ Does (Command.Round writer reader_id) world.old.seen world.new.seen) }
 {
     let before = world.trace().len();
-    let told = world.round(writer, reader_id);
+    let told = go_round(world, writer, reader_id)?;
     note_since(before, world.trace(), happened)?;
     text_of_round(alloc, &told)
 }

@@ -8,6 +8,7 @@ ghost use Rattle.devices.specs.Streams.{counted};
 ghost use Rattle.commands.specs.Sim.{read_fails, write_fails_in, is_before_run, run_in_all, capture_in_all, first_fault, IsDue, IsFaultDue};
 ghost use Rattle.script.specs.Text.{style_of};
 ghost use Rattle.wire_sim.specs.Hosts.{IsSetUp};
+ghost use Rattle.wire_sim.specs.RoomyRuns.{IsRoundWithRoom};
 ghost use Rattle.wire_sim.specs.WorldRoom.{HasRoomFor, HasRoom};
 ghost use Rattle.commands.specs.Room.{TakesUp};
 ghost use Rattle.commands.specs.Play.{ComesTo, text_of_outcome, line_of_outcome, Emits, Delivers, Carries, Does, Prints, pass_text, pass_line, round_text, round_line, IsPlayed, IsCutShort, IsFirst, setting_lines, TakesRun, TakesPrinted, TakesPrintedBy, TakesBoth};
@@ -29,12 +30,16 @@ pub(crate) const MOST_FRAMES: usize = 64;
 /// The most events by which it moves them: it asks for so many, and brings them to the other side.
 pub(crate) const MOST_EVENTS: usize = 2 * MOST_FRAMES;
 
+/// The most events of a round before its reads: two ticks, and then as many as a `pass` has.
+const MOST_BEFORE_READS: usize = 2 + 2 * MOST_EVENTS;
+
 /// Reads the whole script, then runs it and prints a line for each command. `Line` or `TooLong` where the script is bad,
 /// and then nothing is run; `Read` or `Write` where a device fails; `NoMemory` for want of memory. What was printed before
 /// a fault stays printed.
 ///
-/// Before each command but a round the world is given room for its events, and where there is no memory for that, the run ends. So `U5 NoMemory` is
-/// printed only of a command that reads octets, of an emission, or of a round; of all else a line says what the host answers, or which rule it breaks.
+/// Before each command the world is given room for its events, of a round for those up to its reads, and where there is no memory for that, the run ends. So `U5
+/// NoMemory` is printed only of a command that reads octets, of an emission, or of a round that stopped at one of these; of all else a line says what the host answers,
+/// or which rule it breaks.
 pub fn sim<R: Source, W: Sink>(alloc: Global, script: &mut R, out: &mut W) -> Result<(), TextFault>
     ensures read { R.failures script.new ≡ counted (read_fails result) (R.failures script.old) }
     ensures written { W.failures out.new ≡ counted (write_fails_in result) (W.failures out.old) }
@@ -258,8 +263,21 @@ fn round(
     ensures printed { IfOk result (λ line. Prints (Command.Round writer reader_id) (string_bytes line) world.old.seen world.new.seen) }
     ensures left { OnErr result ((world.new.seen ≡ world.old.seen) ⊎ Does (Command.Round writer reader_id) world.old.seen world.new.seen) }
 {
-    let told = world.round(writer, reader_id);
+    let told = go_round(world, writer, reader_id)?;
     line_of_round(alloc, &told)
+}
+
+/// Makes room in a world for the events of a round up to its reads, and goes through the round. Where there is no memory for the room, nothing that is seen has changed.
+pub(crate) fn go_round(
+    world: &mut World,
+    writer: Side,
+    reader_id: SocketId,
+) -> Result<Result<u64, Unfair>, AllocError>
+    ensures came { IfOk result (λ told. IsRoundWithRoom writer reader_id told world.old.seen world.new.seen) }
+    ensures left { OnErr result (world.new.seen ≡ world.old.seen) }
+{
+    make_room(world, MOST_BEFORE_READS)?;
+    Ok(world.round(writer, reader_id))
 }
 
 /// The line that shows what comes of a round.

@@ -4,3 +4,4 @@ pub mod ReadsInTurn
 pub mod FramesInTime
 pub mod RoundsAreExchanges
 pub mod ReadersRead
+pub mod RoundsHaveRoom

@@ -37,9 +37,13 @@ isn_of_round = record { 0 = 0 }
 abbrev pub minute_past : Moment → Moment
 minute_past now = record { 0 = min (now.0 + a_minute) (2 ^ 64 - 1) }
 
+-- the tick by which a minute passes at a side
+abbrev pub minute_of : Side → WorldView → Event
+minute_of side w = event.Tick side (minute_past (clock_of w.network side))
+
 -- a minute passes at a side
 abbrev pub PassesMinute : Side → WorldView → WorldView → Type 0
-PassesMinute side old new = IsStep (event.Tick side (minute_past (clock_of old.network side))) answer.Done old new
+PassesMinute side old new = IsStep (minute_of side old) answer.Done old new
 
 -- these frames went out of a side in turn
 abbrev pub Sends : Side → List ℕ → WorldView → WorldView → Type 0
@@ -102,28 +106,30 @@ pub record IsRound (writer : Side) (reader_id : SocketId) (count : ℕ) (old new
   pub answering : Carries (other_side writer) brought answered
   pub reading : Reads (other_side writer) reader_id count answered new
 
--- Beginnings, where memory ran out. Not all that is due went out; or it did, and memory ran out for a frame that no rule keeps from the other side.
-pub data BeginsToCarry (side : Side) (old : WorldView) : WorldView → Type 0 where
-  emitting : (frames : List ℕ) (new : WorldView) → length frames < most_frames → Sends side frames old new → BeginsToCarry side old new
+-- Beginnings, where memory ran out for the event that came next. Not all that is due went out; or it did, and the event is the delivery of a frame that no
+-- rule keeps from the other side.
+pub data BeginsToCarry (side : Side) (old : WorldView) : Event → WorldView → Type 0 where
+  emitting : (frames : List ℕ) (new : WorldView) → length frames < most_frames → Sends side frames old new → BeginsToCarry side old (event.Emit side) new
   bringing : (brought left : List ℕ) (index : ℕ) (out new : WorldView) → Emits most_frames side (brought ++ index ∷ left) old out →
-      Brings (other_side side) brought out new → unfair new (event.Deliver (other_side side) index isn_of_round) ≡ None → BeginsToCarry side old new
+      Brings (other_side side) brought out new → unfair new (event.Deliver (other_side side) index isn_of_round) ≡ None →
+      BeginsToCarry side old (event.Deliver (other_side side) index isn_of_round) new
 
--- the beginning of a round: the stages that are done, and the one at which it stopped
-pub data IsBegun (writer : Side) (reader_id : SocketId) (old : WorldView) : WorldView → Type 0 where
-  at_minute_of_writer : IsBegun writer reader_id old old
-  at_minute_of_reader : (later : WorldView) → PassesMinute writer old later → IsBegun writer reader_id old later
-  at_bringing : (later ticked new : WorldView) → PassesMinute writer old later → PassesMinute (other_side writer) later ticked →
-      BeginsToCarry writer ticked new → IsBegun writer reader_id old new
-  at_answering : (later ticked brought new : WorldView) → PassesMinute writer old later → PassesMinute (other_side writer) later ticked →
-      Carries writer ticked brought → BeginsToCarry (other_side writer) brought new → IsBegun writer reader_id old new
+-- the beginning of a round: the stages that are done, and the event at which it stopped
+pub data IsBegun (writer : Side) (reader_id : SocketId) (old : WorldView) : Event → WorldView → Type 0 where
+  at_minute_of_writer : IsBegun writer reader_id old (minute_of writer old) old
+  at_minute_of_reader : (later : WorldView) → PassesMinute writer old later → IsBegun writer reader_id old (minute_of (other_side writer) later) later
+  at_bringing : (later ticked new : WorldView) (next : Event) → PassesMinute writer old later → PassesMinute (other_side writer) later ticked →
+      BeginsToCarry writer ticked next new → IsBegun writer reader_id old next new
+  at_answering : (later ticked brought new : WorldView) (next : Event) → PassesMinute writer old later → PassesMinute (other_side writer) later ticked →
+      Carries writer ticked brought → BeginsToCarry (other_side writer) brought next new → IsBegun writer reader_id old next new
   at_reading : (later ticked brought answered new : WorldView) (count : ℕ) → PassesMinute writer old later → PassesMinute (other_side writer) later ticked →
       Carries writer ticked brought → Carries (other_side writer) brought answered → Receives (other_side writer) reader_id count answered new →
-      IsBegun writer reader_id old new
+      IsBegun writer reader_id old (event.Call (other_side writer) (call.Recv reader_id read_at_once)) new
 
 -- what is told of a round: how many octets were read in it, or that memory ran out on the way
 abbrev pub IsRoundOutcome : Side → SocketId → Result ℕ Unfair → WorldView → WorldView → Type 0
 IsRoundOutcome writer reader_id (Ok count) old new = IsRound writer reader_id count old new
-IsRoundOutcome writer reader_id (Err refusal) old new = (refusal ≡ NoMemory) × IsBegun writer reader_id old new
+IsRoundOutcome writer reader_id (Err refusal) old new = (refusal ≡ NoMemory) × (next : Event) × IsBegun writer reader_id old next new
 
 -- A round, and a beginning of one, is a list of events given in turn: what is so at each moment of a run is so at each moment within it.
 abbrev pub EveryRoundIsARun : Type 0

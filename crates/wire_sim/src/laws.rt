@@ -9,7 +9,7 @@ ghost use Rattle.wire_sim.specs.Notes.{EveryNoteIsTraced, EveryDelayIsTraced};
 ghost use Rattle.wire_sim.specs.Rounds.{EveryRoundIsARun};
 ghost use Rattle.wire_sim.specs.Exchanges.{EveryClockIsKept, EveryHostIsKept, EveryRoundIsAnExchange, EveryReaderReads};
 ghost use Rattle.wire_sim.specs.Progress.{EveryRoundMovesData};
-ghost use Rattle.wire_sim.specs.RoomyRuns.{EveryRoomyRunIsARun, EveryStepLeavesRoom, EveryRunLeavesRoom, EveryBareRunHasRoom};
+ghost use Rattle.wire_sim.specs.RoomyRuns.{EveryRoomyRunIsARun, EveryStepLeavesRoom, EveryRunLeavesRoom, EveryBareRunHasRoom, EveryRoundHasRoom};
 ghost use Rattle.wire_sim.specs.Datagrams.{EveryRunKeepsDatagrams, EveryDatagramIsTraced};
 ghost use Rattle.wire_sim.specs.Neighbours.{EveryNeighbourIsTheOtherHost, EveryKnownHopIsTheOtherHost, EveryOpenConnectionLeadsToTheOther};
 ghost use Rattle.wire_sim.specs.Passage.{EveryFrameIsHeardAsSent, EveryFrameIsMetAsSent, EverySegmentArrives, EveryHostStays};
@@ -217,4 +217,10 @@ pub fn every_run_leaves_room()
 /// want of memory, in whatever order and however many they are.
 pub fn every_bare_run_has_room()
     ensures { EveryBareRunHasRoom }
+{}
+
+/// A round that begins in a world with room for 258 events stops for want of memory only at an emission or a receive, which want octets of their own: at no tick, and at no
+/// delivery.
+pub fn every_round_has_room()
+    ensures { EveryRoundHasRoom }
 {}

@@ -9,6 +9,7 @@ use Rattle.host.specs.Arrival.{foreseen}
 use Rattle.std.specs.Result.{OnErr}
 use Rattle.sides.specs.Sides.{same_side, other_side}
 use Rattle.sides.specs.declared.side.Side.{Side}
+use Rattle.wire_sim.specs.declared.event.Event.{Event}
 use Rattle.wire_sim.specs.declared.event.Event.TheVariants as event
 use Rattle.wire_sim.specs.declared.event.Answer.{Answer}
 use Rattle.wire_sim.specs.declared.event.Answer.TheVariants as answer
@@ -23,7 +24,9 @@ use Rattle.wire_sim.specs.Tallies.{is_opening_of}
 use Rattle.wire_sim.specs.Runs.{unfair, written_len, IsStep, IsOutcome}
 use Rattle.wire_sim.specs.Rounds.{isn_of_round, most_frames, Sends, Emits, IsBrought, Brings, BeginsToCarry, emitting, bringing}
 use Rattle.wire_sim.specs.Steps.{MeetsEmission}
+use Rattle.wire_sim.specs.WorldRoom.{ListRoom, HasRoom, IsPlain, KeepsRoom}
 use Rattle.wire_sim.specs.WorldView.{WorldView, NetworkView, SameAnswer, host_of, plain}
+use Rattle.wire_sim.proofs.runs.RoomLasts.{full-at-first}
 
 -- numbers, and the next one
 pub range_more : (a n : ℕ) → range_with_len a (n + 1) ≡ range_with_len a n ++ (a + n) ∷ []
@@ -193,7 +196,7 @@ fair_without_memory side index old new o = ap (λ w. unfair w (event.Deliver sid
 -- The emission of a side, as it stands in its loop.
 
 -- memory ran out for a frame
-pub begun_emitting : (side : Side) (count : ℕ) (old w v : WorldView) → count < most_frames → HasSent side count old w → v ≡ w → BeginsToCarry side old v
+pub begun_emitting : (side : Side) (count : ℕ) (old w v : WorldView) → count < most_frames → HasSent side count old w → v ≡ w → BeginsToCarry side old (event.Emit side) v
 begun_emitting side count old w v few so_far same =
     let first = length old.network.frames in
     emitting (range_with_len first count) v (subst (λ n. n < most_frames) (sym (length-range_with_len first count)) few)
@@ -229,14 +232,26 @@ emitted_more side count told old w v so_far known x = by_told (emission_told sid
     by_told (inl frame) = sent_one_more side count frame.0 frame.1 old w v so_far frame.3
     by_told (inr last) = absurd (known last.0)
 
--- memory ran out for one of the frames that went out
-pub begun_bringing : {T E : Type 0} (r : Result T E) (side : Side) (first end n : ℕ) (old out new : WorldView) → Emits most_frames side (range_with_len first n) old out → end ≡ first + n
+-- all went out that may
+pub emitted_all : (side : Side) (count : ℕ) (old v : WorldView) → count ≡ most_frames → HasSent side count old v → HasEmitted side old v
+emitted_all side count old v all so_far = (
+  count,
+  so_far.grown,
+  record { sent = v; out = so_far.frames; ends = inr (length-range_with_len (length old.network.frames) count ∙ all, refl) },
+)
+
+-- memory ran out for one of the frames that went out, in a list that has no room left but what came to it since
+pub begun_bringing : {T E : Type 0} (r : Result T E) (side : Side) (first end n : ℕ) (old out new : WorldView) (before now : ListRoom) → Emits most_frames side (range_with_len first n) old out → end ≡ first + n
     → OnErr r ((count : ℕ) × (count < end - first) × Brings (other_side side) (range_with_len first count) out new × (unfair new (event.Deliver (other_side side) (first + count) isn_of_round) ≡ None))
-    → OnErr r (BeginsToCarry side old new)
-begun_bringing (Ok x) side first end n old out new emits is begun = tt
-begun_bringing (Err e) side first end n old out new emits is begun =
+    → OnErr r (¬ HasRoom (record { seen = new; room = now })) → KeepsRoom before now
+    → OnErr r ((next : Event) × BeginsToCarry side old next new × (IsPlain next → ¬ HasRoom (record { seen = new; room = before })))
+begun_bringing (Ok x) side first end n old out new before now emits is begun full kept = tt
+begun_bringing (Err e) side first end n old out new before now emits is begun full kept =
     let count = begun.0 in
     let m = n - count - 1 in
-    let all : n ≡ count + suc m = omega (arith, is, begun.1) in
-    bringing (range_with_len first count) (range_with_len (first + count + 1) m) (first + count) out new
-    (subst (λ l. Emits most_frames side l old out) (ap (range_with_len first) all ∙ range_apart first count m) emits) begun.2 begun.3
+    let all : n ≡ count + suc m = omega (arith, is, begun.1) in (
+      event.Deliver (other_side side) (first + count) isn_of_round,
+      bringing (range_with_len first count) (range_with_len (first + count + 1) m) (first + count) out new
+          (subst (λ l. Emits most_frames side l old out) (ap (range_with_len first) all ∙ range_apart first count m) emits) begun.2 begun.3,
+      λ plain. full-at-first before now new new kept refl full,
+    )

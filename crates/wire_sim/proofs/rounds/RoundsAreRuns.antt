@@ -1,6 +1,6 @@
 -- A round is a list of events given in turn.
 use Rattle.std.proofs.Common.{◌≡◌, ℕ, inl, inr, List, [], ◌∷◌, ◌++◌, Some, Result, Ok, Err, refl, subst}
-use Rattle.std.specs.Result.{IfOk, IfErr, OnErr}
+use Rattle.std.specs.Result.{OnErr}
 use Rattle.sockets.specs.declared.entry.SocketId.{SocketId}
 use Rattle.sides.specs.declared.side.Side.{Side}
 use Rattle.sides.specs.Sides.{other_side}
@@ -10,10 +10,9 @@ use Rattle.wire_sim.specs.declared.event.Event.TheVariants as event
 use Rattle.wire_sim.specs.declared.event.Answer.{Answer}
 use Rattle.wire_sim.specs.declared.event.Answer.TheVariants as answer
 use Rattle.wire_sim.specs.declared.event.Unfair.{Unfair}
-use Rattle.wire_sim.specs.declared.event.Unfair.TheVariants.{NoMemory}
 use Rattle.wire_sim.specs.Runs.{unfair, IsStep, RunsTo}
-use Rattle.wire_sim.specs.Rounds.{isn_of_round, read_at_once, minute_past, most_frames, PassesMinute, Sends, Emits, IsBrought, Brings, Carries, Receives, none, one_more, Reads, IsRound, BeginsToCarry, emitting, bringing, IsBegun, at_minute_of_writer, at_minute_of_reader, at_bringing, at_answering, at_reading, IsRoundOutcome, EveryRoundIsARun}
-use Rattle.wire_sim.specs.WorldView.{WorldView, clock_of}
+use Rattle.wire_sim.specs.Rounds.{isn_of_round, read_at_once, minute_of, most_frames, PassesMinute, Sends, Emits, IsBrought, Brings, Carries, Receives, none, one_more, Reads, IsRound, BeginsToCarry, emitting, bringing, IsBegun, at_minute_of_writer, at_minute_of_reader, at_bringing, at_answering, at_reading, EveryRoundIsARun}
+use Rattle.wire_sim.specs.WorldView.{WorldView}
 use Rattle.wire_sim.proofs.RunGiven.{same_event}
 
 -- some list of events leads there
@@ -71,26 +70,26 @@ by_receiving side id count w v (one_more n octets old m new so_far step) = leads
 by_reading : (side : Side) (id : SocketId) (count : ℕ) (w v : WorldView) → Reads side id count w v → Leads w v
 by_reading side id count w v reads = leads_on w reads.read v (by_receiving side id count w reads.read reads.octets) (by_step (event.Call side (call.Recv id read_at_once)) reads.told reads.read v reads.ends)
 
-by_beginning : (side : Side) (w v : WorldView) → BeginsToCarry side w v → Leads w v
-by_beginning side w v (emitting frames new few sends) = by_frames side frames w new sends
-by_beginning side w v (bringing brought left index out new emits brings fair) =
+by_beginning : (side : Side) (next : Event) (w v : WorldView) → BeginsToCarry side w next v → Leads w v
+by_beginning side next w v (emitting frames new few sends) = by_frames side frames w new sends
+by_beginning side next w v (bringing brought left index out new emits brings fair) =
     leads_on w out new (by_emission most_frames side _ w out emits) (by_bringing (other_side side) brought out new brings)
 
 by_minute : (side : Side) (w v : WorldView) → PassesMinute side w v → Leads w v
-by_minute side w v passes = by_step (event.Tick side (minute_past (clock_of w.network side))) answer.Done w v passes
+by_minute side w v passes = by_step (minute_of side w) answer.Done w v passes
 
 by_minutes : (side : Side) (w m v : WorldView) → PassesMinute side w m → PassesMinute (other_side side) m v → Leads w v
 by_minutes side w m v first second = leads_on w m v (by_minute side w m first) (by_minute (other_side side) m v second)
 
-by_begun : (writer : Side) (id : SocketId) (w v : WorldView) → IsBegun writer id w v → Leads w v
-by_begun writer id w v at_minute_of_writer = nowhere w w refl
-by_begun writer id w v (at_minute_of_reader later first) = by_minute writer w later first
-by_begun writer id w v (at_bringing later ticked new first second part) =
-    leads_on w ticked new (by_minutes writer w later ticked first second) (by_beginning writer ticked new part)
-by_begun writer id w v (at_answering later ticked brought new first second there part) =
+by_begun : (writer : Side) (id : SocketId) (w : WorldView) (next : Event) (v : WorldView) → IsBegun writer id w next v → Leads w v
+by_begun writer id w next v at_minute_of_writer = nowhere w w refl
+by_begun writer id w next v (at_minute_of_reader later first) = by_minute writer w later first
+by_begun writer id w next v (at_bringing later ticked new following first second part) =
+    leads_on w ticked new (by_minutes writer w later ticked first second) (by_beginning writer following ticked new part)
+by_begun writer id w next v (at_answering later ticked brought new following first second there part) =
     leads_on w ticked new (by_minutes writer w later ticked first second)
-    (leads_on ticked brought new (by_carrying writer ticked brought there) (by_beginning (other_side writer) brought new part))
-by_begun writer id w v (at_reading later ticked brought answered new count first second there back part) =
+    (leads_on ticked brought new (by_carrying writer ticked brought there) (by_beginning (other_side writer) following brought new part))
+by_begun writer id w next v (at_reading later ticked brought answered new count first second there back part) =
     leads_on w ticked new (by_minutes writer w later ticked first second)
     (leads_on ticked brought new (by_carrying writer ticked brought there)
     (leads_on brought answered new (by_carrying (other_side writer) brought answered back) (by_receiving (other_side writer) id count answered new part)))
@@ -103,13 +102,7 @@ by_round writer id count w v r =
 
 pub rounds-lead : EveryRoundIsARun
 rounds-lead writer id (Ok count) w v r = by_round writer id count w v r
-rounds-lead writer id (Err refusal) w v r = by_begun writer id w v r.1
-
--- what is told of a round
-pub round-outcome : (writer : Side) (id : SocketId) (r : Result ℕ Unfair) (w v : WorldView) → IfOk r (λ count. IsRound writer id count w v) → IfErr r (λ refusal. refusal ≡ NoMemory)
-    → OnErr r (IsBegun writer id w v) → IsRoundOutcome writer id r w v
-round-outcome writer id (Ok count) w v rounds refused begun = rounds
-round-outcome writer id (Err refusal) w v rounds refused begun = (refused, begun)
+rounds-lead writer id (Err refusal) w v r = by_begun writer id w r.1 v r.2
 
 -- what holds anyhow holds where a call failed
 pub on_err : {T E : Type 0} (r : Result T E) (P : Type 0) → P → OnErr r P

@@ -21,7 +21,8 @@ use Rattle.wire_sim.specs.Openings.{opened_by_connect, opened_by_frame}
 use Rattle.wire_sim.specs.RoomyRuns.{EveryStepLeavesRoom}
 use Rattle.wire_sim.specs.Steps.{with_station, with_opening, after_call, after_delivery, station_after_tick, MeetsEmission, DeliversFrame, Steps}
 use Rattle.wire_sim.specs.Tallies.{counts_after}
-use Rattle.wire_sim.specs.WorldView.{NetworkView, station_of, host_of, table_of}
+use Rattle.wire_sim.specs.WorldRoom.{ListRoom, HasRoom, KeepsRoom}
+use Rattle.wire_sim.specs.WorldView.{NetworkView, WorldView, station_of, host_of, table_of}
 
 -- no list of a network is longer by more than one element
 record IsOneLonger (old new : NetworkView) : Type 0 where
@@ -96,3 +97,26 @@ room-lasts more happens answer old new room step kept =
       written = omega (arith, room.written, longer.written, kept.network.written);
       trace = omega (arith, room.trace, traced, kept.trace);
     }
+
+-- room that is kept is kept from one moment to the next
+pub keeps-all : (r : ListRoom) → KeepsRoom r r
+keeps-all r = record { network = record { frames = omega arith; openings = omega arith; written = omega arith }; trace = omega arith }
+
+pub keeps-on : {a b c : ListRoom} → KeepsRoom a b → KeepsRoom b c → KeepsRoom a c
+keeps-on first second = record {
+  network = record {
+    frames = omega (arith, first.network.frames, second.network.frames);
+    openings = omega (arith, first.network.openings, second.network.openings);
+    written = omega (arith, first.network.written, second.network.written);
+  };
+  trace = omega (arith, first.trace, second.trace);
+}
+
+-- where a list is as long as it has room for now, it is as long as it had room for before
+pub full-at-first : (before now : ListRoom) (w v : WorldView) → KeepsRoom before now → v ≡ w → ¬ HasRoom (record { seen = w; room = now }) → ¬ HasRoom (record { seen = v; room = before })
+full-at-first before now w v kept same full = λ room. full (record {
+  frames = omega (arith, room.frames, kept.network.frames, ap (λ (x : WorldView). length x.network.frames) same);
+  openings = omega (arith, room.openings, kept.network.openings, ap (λ (x : WorldView). length x.network.openings) same);
+  written = omega (arith, room.written, kept.network.written, ap (λ (x : WorldView). length x.network.written) same);
+  trace = omega (arith, room.trace, kept.trace, ap (λ (x : WorldView). length x.trace) same);
+})

@@ -28,20 +28,25 @@ impl World {
     ghost use Rattle.tcp_state.specs.View.{View};
     ghost use Rattle.wire_sim.specs.Datagrams.{DatagramLaw};
     ghost use Rattle.wire_sim.specs.Progress.{MayMove, HasMoved};
-    ghost use Rattle.wire_sim.specs.Rounds.{most_frames, PassesMinute, Sends, Emits, IsBrought, Brings, Carries, Receives, Reads, IsRound, BeginsToCarry, IsBegun};
+    ghost use Rattle.wire_sim.specs.RoomyRuns.{MayWantMemory, IsStopped};
+    ghost use Rattle.wire_sim.specs.Rounds.{most_frames, PassesMinute, Sends, Emits, IsBrought, Brings, Carries, Receives, Reads, IsRound, BeginsToCarry};
     ghost use Rattle.wire_sim.specs.Runs.{unfair, IsReached};
     ghost use Rattle.wire_sim.specs.Trace.{StreamLaw};
+    ghost use Rattle.wire_sim.specs.WorldRoom.{HasRoom, KeepsRoom};
     ghost use Rattle.wire_sim.specs.WorldView.{clock_of};
 
     /// A round without loss, of steps alone: a minute passes at the writer's host and then at the other, which is the reader's; the writer's emits until it has no
     /// frame, 64 times at most, and these frames are delivered to the reader's in order, with the initial sequence number 0; its answers go the same way
     /// back; and it receives on the socket `reader_id`, into 4,096 octets at a time, until it is refused or the stream ends. Answers how many octets it read.
     ///
-    /// A delivery that a rule refuses is passed over. NoMemory is the one refusal: the round stops where it stands, and what was done stays in the trace.
+    /// A delivery that a rule refuses is passed over. NoMemory is the one refusal: the round stops where it stands, and what was done stays in the trace. It comes only
+    /// for an emission, for a receive, or where a list is as long as it had room for as the round began; so after `reserve(258)` for no tick and no delivery. No list
+    /// has less room in the end.
     pub fn round(&mut self, writer: Side, reader_id: SocketId) -> Result<u64, Unfair>
         ensures rounds { IfOk result (λ count. IsRound writer reader_id count self.old.seen self.new.seen) }
         ensures refused { IfErr result (λ refusal. refusal ≡ Unfair.NoMemory) }
-        ensures begun { OnErr result (IsBegun writer reader_id self.old.seen self.new.seen) }
+        ensures stopped { OnErr result (IsStopped writer reader_id self.old self.new) }
+        ensures room { KeepsRoom self.old.room self.new.room }
         ensures reached { IsReached self.new.seen.network.limit self.new.seen }
         ensures lawful { StreamLaw self.new.seen.trace self.new.seen.network.openings }
         ensures datagrams { (run : IsReached self.new.seen.network.limit self.new.seen) → DatagramLaw self.new.seen.network.limit self.new.seen run }
@@ -60,6 +65,8 @@ impl World {
         ensures passed { OnOk result (PassesMinute side self.old.seen self.new.seen) }
         ensures refused { IfErr result (λ refusal. refusal ≡ Unfair.NoMemory) }
         ensures kept { OnErr result (self.new.seen ≡ self.old.seen) }
+        ensures full { OnErr result (¬ HasRoom self.old) }
+        ensures room { KeepsRoom self.old.room self.new.room }
         ensures before { IsReached self.old.seen.network.limit self.old.seen }
         ensures reached { IsReached self.new.seen.network.limit self.new.seen }
     {
@@ -88,7 +95,8 @@ impl World {
     fn carry(&mut self, from: Side) -> Result<(), Unfair>
         ensures carried { OnOk result (Carries from self.old.seen self.new.seen) }
         ensures refused { IfErr result (λ refusal. refusal ≡ Unfair.NoMemory) }
-        ensures begun { OnErr result (BeginsToCarry from self.old.seen self.new.seen) }
+        ensures begun { OnErr result ((next : Event) × BeginsToCarry from self.old.seen next self.new.seen × MayWantMemory next self.old self.new) }
+        ensures room { KeepsRoom self.old.room self.new.room }
         ensures reached { OnErr result (IsReached self.new.seen.network.limit self.new.seen) }
     {
         let first = self.frames();
@@ -102,7 +110,8 @@ impl World {
         ensures emitted { OnOk result ((count : ℕ) × (length self.new.seen.network.frames ≡ length self.old.seen.network.frames + count)
             × Emits most_frames side (range_with_len (length self.old.seen.network.frames) count) self.old.seen self.new.seen) }
         ensures refused { IfErr result (λ refusal. refusal ≡ Unfair.NoMemory) }
-        ensures begun { OnErr result (BeginsToCarry side self.old.seen self.new.seen) }
+        ensures begun { OnErr result (BeginsToCarry side self.old.seen (Event.Emit side) self.new.seen) }
+        ensures room { KeepsRoom self.old.room self.new.room }
         ensures reached { OnErr result (IsReached self.new.seen.network.limit self.new.seen) }
     {
         for _ in 0..MOST_FRAMES {
@@ -120,6 +129,8 @@ impl World {
         ensures refused { IfErr result (λ refusal. refusal ≡ Unfair.NoMemory) }
         ensures begun { OnErr result ((count : ℕ) × (count < end - first) × Brings to (range_with_len first count) self.old.seen self.new.seen
             × (unfair self.new.seen (Event.Deliver to (first + count) ISN) ≡ None)) }
+        ensures full { OnErr result (¬ HasRoom (record { seen = self.new.seen; room = self.old.room })) }
+        ensures room { KeepsRoom self.old.room self.new.room }
         ensures reached { OnErr result (IsReached self.new.seen.network.limit self.new.seen) }
     {
         for index in first..end {
@@ -134,6 +145,8 @@ impl World {
         ensures refused { IfErr result (λ refusal. refusal ≡ Unfair.NoMemory) }
         ensures fair { OnErr result (unfair self.new.seen (Event.Deliver to index ISN) ≡ None) }
         ensures kept { OnErr result (self.new.seen ≡ self.old.seen) }
+        ensures full { OnErr result (¬ HasRoom self.old) }
+        ensures room { KeepsRoom self.old.room self.new.room }
         ensures reached { IsReached self.new.seen.network.limit self.new.seen }
     {
         match self.step(Event::Deliver(to, index, ISN)) {
@@ -147,6 +160,7 @@ impl World {
         ensures read { IfOk result (λ count. Reads side id count self.old.seen self.new.seen) }
         ensures refused { IfErr result (λ refusal. refusal ≡ Unfair.NoMemory) }
         ensures begun { OnErr result ((count : ℕ) × Receives side id count self.old.seen self.new.seen) }
+        ensures room { KeepsRoom self.old.room self.new.room }
         ensures reached { IsReached self.new.seen.network.limit self.new.seen }
     {
         self.network.sound();
