@@ -42,12 +42,12 @@ use Rattle.sockets.proofs.Near.{fresh_near, deadline_near}
 use Rattle.sockets.proofs.Telling.{socket_told, role_tells}
 use Rattle.host.specs.Emission.{after_emission, emission_octets}
 use Rattle.host.specs.HostView.{HostView}
-use Rattle.host.specs.Runs.{Event as HostEvent, Calls, Ticks, Delivers, Emits, IsCall, IsNumbered, IsUpTo, IsSized, Makes, Runs, Begins, GoesOn}
+use Rattle.host.specs.Runs.{Event as HostEvent, Calls, Ticks, Delivers, Emits, IsCall, IsAsked, IsNumbered, IsUpTo, IsSized, Makes, Runs, Begins, GoesOn}
 use Rattle.host.specs.Sound.{IsSoundHost}
 use Rattle.host.specs.ConfigView.{ConfigView}
 use Rattle.routes.specs.declared.route.Route.{Route}
 use Rattle.host.specs.Runs as host_runs
-use Rattle.host.proofs.Causes.{run-stands}
+use Rattle.host.proofs.Causes.{all-behind, run-stands}
 use Rattle.host.proofs.Messages.{request-there, cause-there}
 use Rattle.host.proofs.Tables.{event-near, event-leaves, event-tells, event-given, run-reached, run-ordered, run-over, run-timed}
 use Rattle.sides.specs.declared.side.Side.{Side}
@@ -264,25 +264,41 @@ set-up c events h runs =
     let with_scale : Bool → ConfigView = λ b. record { mac = h.interface.mac; addr = h.interface.addr; routes = h.interface.routes; scales = b } in
     ap with_mac (sym s.mac) ∙ (ap with_addr (sym s.addr) ∙ (ap with_routes (sym s.routes) ∙ ap with_scale (sym (run-scale c events h runs))))
 
+-- what may be asked of a host is what its own routes know
+asked-own : (c : ConfigView) (routes : List Route) (e : HostEvent) → c.routes ≡ routes → IsOwnCall routes e → IsAsked c e
+asked-own c routes (Calls e) same own = subst (λ (rs : List Route). IsCall rs e) (sym same) own.0
+asked-own c routes (Ticks now) same own = tt
+asked-own c routes (Delivers now isn octets) same own = tt
+asked-own c routes (Emits now) same own = tt
+
 -- a host that goes on
 run-on : (w v : WorldView) (happens : Event) (answer : Answer) → IsStep happens answer w v → (side : Side) → IsSoundHost (host_of w.network side) → IsMoved w.network (clock_of v.network side) side happens (host_of w.network side) (host_of v.network side) → HasRun w side → HasRun v side
-run-on w v happens answer step side sound (inl same) r = record {
-  config = r.config;
-  own = set-up r.config r.events (host_of v.network side) (subst (Runs r.config r.events) (sym same) r.runs);
-  events = r.events;
-  runs = subst (Runs r.config r.events) (sym same) r.runs;
-  traced = λ now isn octets within. delivered-on w v happens answer step side octets (r.traced now isn octets within);
-}
-run-on w v happens answer step side sound (inr (e, numbered, makes, brings, up, own)) r = record {
-  config = r.config;
-  own = set-up r.config (r.events ++ e ∷ []) (host_of v.network side) (GoesOn r.events e (host_of w.network side) (host_of v.network side) r.runs sound numbered makes);
-  events = r.events ++ e ∷ [];
-  runs = GoesOn r.events e (host_of w.network side) (host_of v.network side) r.runs sound numbered makes;
-  traced = λ now isn octets within. elim (Contains-append_cases r.events (e ∷ []) (Delivers now isn octets) within) [
-    | inl before ↦ delivered-on w v happens answer step side octets (r.traced now isn octets before)
-    | inr now_so ↦ delivered-now w v happens answer step side octets (brings now isn octets (only e (Delivers now isn octets) now_so))
-  ];
-}
+run-on w v happens answer step side sound (inl same) r =
+    let before = r.run in
+    let runs : Runs before.config before.events (host_of v.network side) = subst (Runs before.config before.events) (sym same) before.runs in
+    record {
+      run = record { config = before.config; set_up = before.set_up; events = before.events; asked = before.asked; runs = runs };
+      own = set-up before.config before.events (host_of v.network side) runs;
+      traced = λ now isn octets within. delivered-on w v happens answer step side octets (r.traced now isn octets within);
+    }
+run-on w v happens answer step side sound (inr (e, numbered, makes, brings, up, own)) r =
+    let before = r.run in
+    let routes : before.config.routes ≡ (let h = host_of w.network side in h.interface.routes) = ap (λ (c : ConfigView). c.routes) r.own in
+    let runs : Runs before.config (before.events ++ e ∷ []) (host_of v.network side) = GoesOn before.events e (host_of w.network side) (host_of v.network side) before.runs sound numbered makes in
+    record {
+      run = record {
+        config = before.config;
+        set_up = before.set_up;
+        events = before.events ++ e ∷ [];
+        asked = all-behind (IsAsked before.config) before.events e before.asked (asked-own before.config _ e routes own);
+        runs = runs;
+      };
+      own = set-up before.config (before.events ++ e ∷ []) (host_of v.network side) runs;
+      traced = λ now isn octets within. elim (Contains-append_cases before.events (e ∷ []) (Delivers now isn octets) within) [
+        | inl earlier ↦ delivered-on w v happens answer step side octets (r.traced now isn octets earlier)
+        | inr now_so ↦ delivered-now w v happens answer step side octets (brings now isn octets (only e (Delivers now isn octets) now_so))
+      ];
+    }
   where
     only : (x y : HostEvent) → Contains (x ∷ []) y → x ≡ y
     only x y (zero, within, is) = is
@@ -298,8 +314,8 @@ nothing-traced w side now isn octets (k, within, is) = absurd (omega (arith, wit
 -- Any world.
 
 pub hosts-run : EveryHostRuns
-hosts-run limit w (begins a b apart small) A = record { config = a; own = refl; events = []; runs = Begins; traced = nothing-traced w A }
-hosts-run limit w (begins a b apart small) B = record { config = b; own = refl; events = []; runs = Begins; traced = nothing-traced w B }
+hosts-run limit w (begins a b a_is b_is apart small) A = record { run = record { config = a; set_up = a_is; events = []; asked = tt; runs = Begins }; own = refl; traced = nothing-traced w A }
+hosts-run limit w (begins a b a_is b_is apart small) B = record { run = record { config = b; set_up = b_is; events = []; asked = tt; runs = Begins }; own = refl; traced = nothing-traced w B }
 hosts-run limit _ (goes_on w v happens answer reached step) side = run-on w v happens answer step side (sound-at w v step side) (moved w v happens answer step side) (hosts-run limit w reached side)
 
 -- a table is near what a later clock shows, where it is near what an earlier one does
@@ -318,8 +334,8 @@ nearer before after h on_clock near = record { kept = omega (arith, near.kept, o
 
 -- each event of a host names its side's clock at the latest
 pub tables-near : (limit : ℕ) (w : WorldView) → IsReached limit w → (side : Side) → AreNear (clock_of w.network side) (table_of w.network side)
-tables-near limit w (begins a b apart small) A = fresh_near a.addr a.scales (record { 0 = 0 })
-tables-near limit w (begins a b apart small) B = fresh_near b.addr b.scales (record { 0 = 0 })
+tables-near limit w (begins a b a_is b_is apart small) A = fresh_near a.addr a.scales (record { 0 = 0 })
+tables-near limit w (begins a b a_is b_is apart small) B = fresh_near b.addr b.scales (record { 0 = 0 })
 tables-near limit _ (goes_on w v happens answer reached step) side =
     by_move (nearer (clock_of w.network side) (clock_of v.network side) (table_of w.network side) (clock-goes-on happens (length w.trace) answer w.network v.network step.network side) (tables-near limit w reached side)) (moved w v happens answer step side)
   where
@@ -335,8 +351,8 @@ own-sized routes (Emits now) own = tt
 
 -- each connection leaves its peer a window
 pub tables-leave : (limit : ℕ) (w : WorldView) → IsReached limit w → (side : Side) → EachLeavesAWindow (table_of w.network side)
-tables-leave limit w (begins a b apart small) A = fresh_leaves a.addr a.scales
-tables-leave limit w (begins a b apart small) B = fresh_leaves b.addr b.scales
+tables-leave limit w (begins a b a_is b_is apart small) A = fresh_leaves a.addr a.scales
+tables-leave limit w (begins a b a_is b_is apart small) B = fresh_leaves b.addr b.scales
 tables-leave limit _ (goes_on w v happens answer reached step) side = by_move (tables-leave limit w reached side) (moved w v happens answer step side)
   where
     old : HostView
@@ -354,7 +370,8 @@ quiet-leave limit w reached side id c listener is opened none read = socket_leav
 
 pub tables-kept : EveryTableIsKept
 tables-kept limit w reached side =
-    let r = hosts-run limit w reached side in
+    let ran = hosts-run limit w reached side in
+    let r = ran.run in
     record {
       near = tables-near limit w reached side;
       reached = run-reached r.config r.events (host_of w.network side) r.runs;
@@ -365,14 +382,14 @@ tables-kept limit w reached side =
 
 -- The causes of what goes out.
 
-heard-of : (w : WorldView) (side : Side) (r : HasRun w side) (meaning : Meaning) → host_runs.WasHeard r.config r.events meaning → WasHeard w side meaning
+heard-of : (w : WorldView) (side : Side) (r : HasRun w side) (meaning : Meaning) → host_runs.WasHeard r.run.config r.run.events meaning → WasHeard w side meaning
 heard-of w side r meaning was =
-    let stands = run-stands r.config r.events (host_of w.network side) r.runs in
+    let stands = run-stands r.run.config r.run.events (host_of w.network side) r.run.runs in
     let own = stands.interface in
     record {
       octets = was.octets;
       delivered = r.traced was.now was.isn was.octets was.delivered;
-      meant = ap (λ (mac : Mac). heard mac (let h = host_of w.network side in h.interface.addr) was.octets) own.mac ∙ ap (λ (addr : Addr). heard r.config.mac addr was.octets) own.addr ∙ was.meant;
+      meant = ap (λ (mac : Mac). heard mac (let h = host_of w.network side in h.interface.addr) was.octets) own.mac ∙ ap (λ (addr : Addr). heard r.run.config.mac addr was.octets) own.addr ∙ was.meant;
     }
 
 pub causes-heard : EveryMessageHasItsCause
@@ -398,11 +415,11 @@ causes-heard limit w v side index len f mac ours c reached step there is = by_ki
     by_kind : (b : Bool) → (c.message.kind == 0) ≡ b → HasCause w side ours c.message
     by_kind true zero_kind =
         let kind : c.message.kind ≡ 0 = eqb-true c.message.kind 0 zero_kind in
-        let found = request-there r.config r.events (host_of w.network side) (clock_of w.network side) mac ours c r.runs (sound-at w v step side) heard_so kind in
+        let found = request-there r.run.config r.run.events (host_of w.network side) (clock_of w.network side) mac ours c r.run.runs (sound-at w v step side) heard_so kind in
         inl (kind, found.0, heard-of w side r (Icmp (record { source = ours; message = found.0 })) found.1, found.2, found.3)
     by_kind false other_kind =
         let kind : c.message.kind ≢ 0 = λ same. let bad : true ≡ false = sym (ap (λ (n : ℕ). n == 0) same) ∙ other_kind in cc in
-        let found = cause-there r.config r.events (host_of w.network side) (clock_of w.network side) mac ours c r.runs (sound-at w v step side) heard_so kind in
+        let found = cause-there r.run.config r.run.events (host_of w.network side) (clock_of w.network side) mac ours c r.run.runs (sound-at w v step side) heard_so kind in
         inr (kind, found.0, found.1, found.2, found.3, heard-of w side r found.2 found.4, found.5, found.6)
 
 -- An error that is told.

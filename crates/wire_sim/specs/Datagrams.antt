@@ -54,12 +54,12 @@ read_by side happens answer old = []
 
 -- what a side accepted in the run that led to a world, the first one first
 abbrev pub accepted_in : (limit : ℕ) (w : WorldView) → IsReached limit w → Side → List Accepted
-accepted_in limit w (begins a b apart few) side = []
+accepted_in limit w (begins a b a_is b_is apart few) side = []
 accepted_in limit w (goes_on old new happens answer run step) side = accepted_in limit old run side ++ accepted_by side happens answer old new
 
 -- and what its callers read
 abbrev pub read_in : (limit : ℕ) (w : WorldView) → IsReached limit w → Side → List ReadDatagram
-read_in limit w (begins a b apart few) side = []
+read_in limit w (begins a b a_is b_is apart few) side = []
 read_in limit w (goes_on old new happens answer run step) side = read_in limit old run side ++ read_by side happens answer old
 
 -- a datagram that was read is the beginning, as much as the buffer had room for, of one of these that came from its source for its end

@@ -1,4 +1,4 @@
--- Each of the two hosts of a world is one that events of its own lead to, and keeps what such a host keeps.
+-- Each of the two hosts of a world is one that events lead to which may be asked of it, and keeps what such a host keeps.
 use Rattle.std.specs.Prelude.{◌≡◌, ◌≢◌, ◌⊎◌, ◌≤◌, ◌+◌, ℕ, List, Contains, slice_get, Option, Some, Result, Ok}
 use Rattle.ether.specs.declared.mac.Mac.{Mac}
 use Rattle.ipv4.specs.declared.addr.Addr.{Addr}
@@ -27,8 +27,8 @@ use Rattle.sockets.specs.Ticks.{least_deadline}
 use Rattle.sockets.specs.Timing.{EachKeepsTime, AreNear}
 use Rattle.host.specs.Arrival.{heard_by}
 use Rattle.host.specs.Causes.{IsAbout}
-use Rattle.host.specs.ConfigView.{ConfigView}
-use Rattle.host.specs.Runs.{Event as HostEvent, Delivers, Runs}
+use Rattle.host.specs.Runs as hosts
+use Rattle.host.specs.Runs.{Event as HostEvent, Delivers}
 use Rattle.wire_sim.specs.declared.event.Answer.{Answer}
 use Rattle.wire_sim.specs.declared.event.Answer.TheVariants as reply
 use Rattle.wire_sim.specs.declared.event.Event.{Event}
@@ -52,13 +52,11 @@ pub record WasDelivered (w : WorldView) (side : Side) (octets : List ℕ) : Type
 abbrev pub AreTraced : WorldView → Side → List HostEvent → Type 0
 AreTraced w side events = (now : Moment) (isn : ℕ) (octets : List ℕ) → Contains events (Delivers now isn octets) → WasDelivered w side octets
 
--- a list of events leads to a side's host, from one of its own MAC, address and routes on which nothing happened, and what it delivers was delivered in the world
+-- a list of events that may be asked of it leads to a side's host, from one that was set up with its own MAC, address and routes, and what the list delivers was delivered in the world
 pub record HasRun (w : WorldView) (side : Side) : Type 0 where
-  pub config : ConfigView
-  pub own : let h = host_of w.network side in config ≡ record { mac = h.interface.mac; addr = h.interface.addr; routes = h.interface.routes; scales = h.sockets.scales }
-  pub events : List HostEvent
-  pub runs : Runs config events (host_of w.network side)
-  pub traced : AreTraced w side events
+  pub run : hosts.HasRun (host_of w.network side)
+  pub own : let h = host_of w.network side in run.config ≡ record { mac = h.interface.mac; addr = h.interface.addr; routes = h.interface.routes; scales = h.sockets.scales }
+  pub traced : AreTraced w side run.events
 
 abbrev pub EveryHostRuns : Type 0
 EveryHostRuns = (limit : ℕ) (w : WorldView) → IsReached limit w → (side : Side) → HasRun w side

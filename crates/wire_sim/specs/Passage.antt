@@ -34,7 +34,7 @@ use Rattle.wire_sim.specs.WorldView.{WorldView, NetworkView, host_of, table_of, 
 
 -- in the run that led to a world, the event was given to this one, and answered so
 abbrev pub Passes : (limit : ℕ) (w : WorldView) → IsReached limit w → WorldView → Event → Answer → Type 0
-Passes limit w (begins a b apart few) u happens answer = ⊥
+Passes limit w (begins a b a_is b_is apart few) u happens answer = ⊥
 Passes limit w (goes_on old new e told run step) u happens answer = ((old ≡ u) × (e ≡ happens) × (told ≡ answer)) ⊎ Passes limit old run u happens answer
 
 -- The frame with this index went out of its sender's host in the run that led to a world, and was sent as this by what that host had to send then. Whoever

@@ -11,7 +11,7 @@ use Rattle.wire_sim.specs.declared.event.Answer.{Answer}
 use Rattle.wire_sim.specs.declared.event.Unfair.{Unfair}
 use Rattle.wire_sim.specs.declared.event.Unfair.TheVariants.{NoMemory}
 use Rattle.sockets.specs.Sound.{IsEndpoint}
-use Rattle.host.specs.ConfigView.{ConfigView}
+use Rattle.host.specs.ConfigView.{ConfigView, IsConfig}
 use Rattle.host.specs.Sound.{IsSoundHost}
 use Rattle.wire_sim.specs.Fairness.{Amount, unfair_event, IsFair}
 use Rattle.wire_sim.specs.WorldView.{WorldView, SameAnswer, written_at, fresh_world, are_alike}
@@ -51,9 +51,9 @@ pub record IsStep (happens : Event) (answer : Answer) (old new : WorldView) : Ty
   pub network : Steps happens (length old.trace) answer old.network new.network
   pub trace : new.trace ≡ old.trace ++ record { event = happens; answer = answer } ∷ []
 
--- what a world of two hosts of different addresses and MACs may come to
+-- what a world of two hosts of different addresses and MACs may come to, each set up as a host can be
 pub data IsReached (limit : ℕ) : WorldView → Type 0 where
-  begins : (a b : ConfigView) → are_alike a b ≡ false → limit ≤ 2 ^ 30 → IsReached limit (fresh_world a b limit)
+  begins : (a b : ConfigView) → IsConfig a → IsConfig b → are_alike a b ≡ false → limit ≤ 2 ^ 30 → IsReached limit (fresh_world a b limit)
   goes_on : (w v : WorldView) (happens : Event) (answer : Answer) → IsReached limit w → IsStep happens answer w v → IsReached limit v
 
 -- the law of the stream, over every run

@@ -58,8 +58,9 @@ pub fn every_round_moves_data()
     ensures { EveryRoundMovesData }
 {}
 
-/// Each host of a world is one that a list of its own events leads to, from a new one of its MAC, its address and its routes: calls that are not refused, ticks, deliveries
-/// and emissions. So all that is so over every such list, as that an echo reply has its request, is so of it.
+/// Each host of a world is one that a list of its own events leads to, from a new one that was set up with its MAC, its address and its routes: calls that can be made of it and are
+/// not refused, ticks, deliveries and emissions. So whatever `host` says of every such list, as that an echo reply has its request, is so of it, and so is whatever it says of a
+/// host that has run so (`HasRun` there), as that what is due comes up; where it asks for a sound host too, `World::sound` says that both are.
 pub fn every_host_runs()
     ensures { EveryHostRuns }
 {}

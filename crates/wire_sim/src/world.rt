@@ -52,6 +52,7 @@ impl Model for World {
 }
 
 impl World {
+    ghost use Rattle.host.specs.Sound.{IsSoundHost};
     ghost use Rattle.wire_sim.specs.Datagrams.{DatagramLaw};
     ghost use Rattle.wire_sim.specs.RoomyRuns.{RoomyRunsTo};
     ghost use Rattle.wire_sim.specs.Runs.{unfair, IsStep, IsReached, SameEvent, IsOutcome};
@@ -81,6 +82,8 @@ impl World {
         if a.addr() == b.addr() || a.mac() == b.mac() {
             return Err(WorldFault::SameAddress);
         }
+        a.sound();
+        b.sound();
         let a = Host::new(alloc, a);
         let b = Host::new(alloc, b);
         World::of(alloc, a, b, limit)
@@ -196,6 +199,16 @@ impl World {
             // Only what is sent owns octets that take memory, and no rule refuses a send.
             Err(_) => Err(Unfair::NoMemory),
         }
+    }
+
+    /// What each of the two hosts keeps of itself, as `Host::sound` says, for the contracts above; it changes nothing. With `laws::every_host_runs` it gives the premises
+    /// that laws of `host` have of a host.
+    pub fn sound(&self)
+        ensures a { IsSoundHost self.now.seen.network.a.host }
+        ensures b { IsSoundHost self.now.seen.network.b.host }
+        ensures reached { IsReached self.now.seen.network.limit self.now.seen }
+    {
+        self.network.sound();
     }
 
     /// When a host came to hold a pair, in order.

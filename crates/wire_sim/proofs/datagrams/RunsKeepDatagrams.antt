@@ -71,7 +71,7 @@ hosts-step old new (event.Deliver B index isn) answer own other tallied step w =
 
 -- after every run
 pub hosts-keep : (limit : ℕ) (w : WorldView) (run : IsReached limit w) → AreHostsOf A B (accepted_in limit w run A) (accepted_in limit w run B) w.network
-hosts-keep limit _ (begins a b apart small) = record { here = host-fresh a; there = host-fresh b; frames = tt }
+hosts-keep limit _ (begins a b a_is b_is apart small) = record { here = host-fresh a; there = host-fresh b; frames = tt }
 hosts-keep limit _ (goes_on w v happens answer run step) =
     hosts-step w v happens answer (accepted_in limit w run A) (accepted_in limit w run B) (run_tallied limit w run) step (hosts-keep limit w run)
 
@@ -105,7 +105,7 @@ read-event accepted old new reader (event.Deliver side index isn) answer step fe
 
 -- in every run
 pub runs-keep : EveryRunKeepsDatagrams
-runs-keep limit _ (begins a b apart small) reader few = All-nil (WasAccepted [])
+runs-keep limit _ (begins a b a_is b_is apart small) reader few = All-nil (WasAccepted [])
 runs-keep limit _ (goes_on w v happens answer run step) reader few =
     let other = other_side reader in
     let before = accepted_in limit w run other in

@@ -61,7 +61,7 @@ read-event side (event.Deliver at index isn) answer old = refl
 
 -- of every run
 pub traces-tell : EveryDatagramIsTraced
-traces-tell limit _ (begins a b apart small) side = (refl, refl)
+traces-tell limit _ (begins a b a_is b_is apart small) side = (refl, refl)
 traces-tell limit _ (goes_on w v happens answer run step) side =
     let h : Happening = record { event = happens; answer = answer } in
     let before = traces-tell limit w run side in (

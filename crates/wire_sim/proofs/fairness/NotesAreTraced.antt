@@ -318,7 +318,7 @@ kept-step limit old new happens answer reached step k = record { all = all; rise
 
 -- Every world that was reached.
 pub kept : (limit : ℕ) (w : WorldView) → IsReached limit w → IsKept w
-kept limit _ (begins a b apart small) = record {
+kept limit _ (begins a b a_is b_is apart small) = record {
   all = λ place late. refl;
   rises = λ place pair. omega arith;
   within = λ place side index e. absurd (none place side index e.0 e.1);

@@ -174,8 +174,8 @@ hop-to : (leads : Addr → Type 0) (made new : HostView) → new ≡ made → Ea
 hop-to leads made new is each = subst (λ (h : HostView). EachHasHop leads h.sockets) (sym is) each
 
 hosts-lead : (limit : ℕ) (w : WorldView) (run : IsReached limit w) (side : Side) → EachHasHop (LeadsBy (config_of limit w run side) (config_of limit w run (other_side side))) (table_of w.network side)
-hosts-lead limit w (begins a b apart few) A = tt
-hosts-lead limit w (begins a b apart few) B = tt
+hosts-lead limit w (begins a b a_is b_is apart few) A = tt
+hosts-lead limit w (begins a b a_is b_is apart few) B = tt
 hosts-lead limit _ (goes_on w v happens answer run step) side = by_move (hosts-lead limit w run side) (moved w v happens answer step side)
   where
     leads : Addr → Type 0

@@ -234,7 +234,7 @@ unread-step limit old new (event.Deliver s index isn) answer reached step side i
 
 -- and so of the whole trace
 uncovered : (limit : ℕ) (w : WorldView) → IsReached limit w → (side : Side) (id : SocketId) → find (is_opening_at side id) w.network.openings ≡ None → IsCovered w side id None
-uncovered limit _ (runs.begins a b distinct small) side id none = (refl, refl, refl)
+uncovered limit _ (runs.begins a b a_is b_is distinct small) side id none = (refl, refl, refl)
 uncovered limit _ (runs.goes_on w v happens answer reached step) side id none =
     let e : Happening = record { event = happens; answer = answer } in
     let g = grows happens _ answer w.network v.network step.network in

@@ -36,8 +36,8 @@ use Rattle.wire_sim.proofs.passage.HostsStay.{Anyone, IsSideOf, Teaches, stays-o
 
 -- the set-up of a side's host, with which a run began
 abbrev pub config_of : (limit : ℕ) (w : WorldView) → IsReached limit w → Side → ConfigView
-config_of limit w (begins a b apart few) A = a
-config_of limit w (begins a b apart few) B = b
+config_of limit w (begins a b a_is b_is apart few) A = a
+config_of limit w (begins a b a_is b_is apart few) B = b
 config_of limit w (goes_on old new happens answer run step) side = config_of limit old run side
 
 abbrev pub side_at : NetworkView → Side → InterfaceView
@@ -53,14 +53,14 @@ side-stays {knows} c w v happens answer step side teaches before = by_move (move
     by_move (inr (e, numbered, makes, brings, up, own)) = stays-on c e (host_of w.network side) (host_of v.network side) (teaches e brings) before makes
 
 pub hosts-stay : (limit : ℕ) (w : WorldView) (run : IsReached limit w) (side : Side) → IsSideOf (config_of limit w run side) Anyone (side_at w.network side)
-hosts-stay limit w (begins a b apart few) A = record { mac = refl; addr = refl; routes = refl; replies = tt; neighbours = tt }
-hosts-stay limit w (begins a b apart few) B = record { mac = refl; addr = refl; routes = refl; replies = tt; neighbours = tt }
+hosts-stay limit w (begins a b a_is b_is apart few) A = record { mac = refl; addr = refl; routes = refl; replies = tt; neighbours = tt }
+hosts-stay limit w (begins a b a_is b_is apart few) B = record { mac = refl; addr = refl; routes = refl; replies = tt; neighbours = tt }
 hosts-stay limit _ (goes_on w v happens answer run step) side =
     side-stays (config_of limit w run side) w v happens answer step side (λ e brings now isn octets packet is heard moment. tt) (hosts-stay limit w run side)
 
 -- the two addresses differ
 configs-apart : (limit : ℕ) (w : WorldView) (run : IsReached limit w) → same_addr (let a = config_of limit w run A in a.addr) (let b = config_of limit w run B in b.addr) ≡ false
-configs-apart limit w (begins a b apart few) = (or_parts (same_addr a.addr b.addr) (same_mac a.mac b.mac) apart).0
+configs-apart limit w (begins a b a_is b_is apart few) = (or_parts (same_addr a.addr b.addr) (same_mac a.mac b.mac) apart).0
 configs-apart limit _ (goes_on w v happens answer run step) = configs-apart limit w run
 
 pub addrs-apart : (limit : ℕ) (w : WorldView) (run : IsReached limit w) → addr_at w.network A ≢ addr_at w.network B
@@ -120,7 +120,7 @@ out-before limit w v happens answer run step index f o = record {
 }
 
 pub frame-out : (limit : ℕ) (w : WorldView) (run : IsReached limit w) (index : ℕ) (f : Frame) → slice_get w.network.frames index ≡ Some f → IsOut limit w run index f
-frame-out limit w (begins a b apart few) index f there = cc
+frame-out limit w (begins a b a_is b_is apart few) index f there = cc
 frame-out limit _ (goes_on w v happens answer run step) index f there = elim (frames-step happens (length w.trace) answer w.network v.network step.network) [
   | inl same ↦ out-before limit w v happens answer run step index f (frame-out limit w run index f (ap (λ (fs : List Frame). slice_get fs index) (sym same) ∙ there))
   | inr puts ↦

@@ -95,8 +95,8 @@ packet-tells limit w run index f mac ours p there is = by_says s.what.says refl
 -- Whoever is known.
 
 hosts-know : (limit : ℕ) (w : WorldView) (run : IsReached limit w) (side : Side) → IsSideOf (config_of limit w run side) (IsOf (config_of limit w run (other_side side))) (side_at w.network side)
-hosts-know limit w (begins a b apart few) A = record { mac = refl; addr = refl; routes = refl; replies = tt; neighbours = tt }
-hosts-know limit w (begins a b apart few) B = record { mac = refl; addr = refl; routes = refl; replies = tt; neighbours = tt }
+hosts-know limit w (begins a b a_is b_is apart few) A = record { mac = refl; addr = refl; routes = refl; replies = tt; neighbours = tt }
+hosts-know limit w (begins a b a_is b_is apart few) B = record { mac = refl; addr = refl; routes = refl; replies = tt; neighbours = tt }
 hosts-know limit _ (goes_on w v happens answer run step) side = side-stays (config_of limit w run side) w v happens answer step side teaches (hosts-know limit w run side)
   where
     teaches : (e : HostEvent) → AreBrought w.network side happens e → Teaches (IsOf (config_of limit w run (other_side side))) e (host_of w.network side)

@@ -181,7 +181,7 @@ event-from limit w v run (event.Emit at) answer step side = All-nil (IsFromHere 
 event-from limit w v run (event.Deliver at index isn) answer step side = All-nil (IsFromHere (let c = config_of limit w run side in c.addr))
 
 accepted-from : (limit : ℕ) (w : WorldView) (run : IsReached limit w) (side : Side) → All (IsFromHere (let c = config_of limit w run side in c.addr)) (accepted_in limit w run side)
-accepted-from limit w (begins a b apart few) side = All-nil (IsFromHere (let c = config_of limit w (begins a b apart few) side in c.addr))
+accepted-from limit w (begins a b a_is b_is apart few) side = All-nil (IsFromHere (let c = config_of limit w (begins a b a_is b_is apart few) side in c.addr))
 accepted-from limit _ (goes_on w v happens answer run step) side =
     All-append (IsFromHere (let c = config_of limit w run side in c.addr)) (accepted_in limit w run side) (accepted_by side happens answer w v) (accepted-from limit w run side) (event-from limit w v run happens answer step side)
 

@@ -111,8 +111,8 @@ in-time-ticked n side moment before = by_side side told
     by_side B is = is
 
 in-time : (limit : ℕ) (w : WorldView) → IsReached limit w → (side : Side) → IsInTime w.network side
-in-time limit w (begins a b apart few) A = omega arith
-in-time limit w (begins a b apart few) B = omega arith
+in-time limit w (begins a b a_is b_is apart few) A = omega arith
+in-time limit w (begins a b a_is b_is apart few) B = omega arith
 in-time limit _ (goes_on w v happens answer run step) side = elim (clock-moves happens (length w.trace) answer w.network v.network step.network side) [
   | inl same ↦
       let before = in-time limit w run side in

@@ -4,7 +4,7 @@ use Rattle.ether.specs.declared.mac.Mac.{Mac}
 use Rattle.ipv4.specs.declared.addr.Addr.{Addr}
 use Rattle.ipv4.specs.Addresses.{same_addr}
 use Rattle.frames.specs.Meaning.{same_mac}
-use Rattle.host.specs.ConfigView.{ConfigView}
+use Rattle.host.specs.ConfigView.{ConfigView, IsConfig}
 use Rattle.host.specs.HostView.{HostView, new_host}
 use Rattle.wire_sim.specs.declared.event.Event.{Event}
 use Rattle.wire_sim.specs.declared.event.Answer.{Answer}
@@ -22,13 +22,13 @@ reached-with limit a b n t reached is_n is_t =
     (subst (λ (m : NetworkView). IsReached m.limit (record { network = m; trace = [] })) (sym is_n) reached)
 
 -- those that were made for two set-ups are the beginning of every run
-pub reached-made : {E : Type 0} (limit : ℕ) (a b : ConfigView) (first second : Result HostView E) → are_alike a b ≡ false → limit ≤ 2 ^ 30 → IfOk first (λ x. x ≡ new_host a) → IfOk second (λ y. y ≡ new_host b)
+pub reached-made : {E : Type 0} (limit : ℕ) (a b : ConfigView) (first second : Result HostView E) → IsConfig a → IsConfig b → are_alike a b ≡ false → limit ≤ 2 ^ 30 → IfOk first (λ x. x ≡ new_host a) → IfOk second (λ y. y ≡ new_host b)
     → IfOk first (λ x. IfOk second (λ y. IsReached limit (world_with x y limit)))
-reached-made limit a b (Ok x) (Ok y) apart small is_x is_y =
+reached-made limit a b (Ok x) (Ok y) a_is b_is apart small is_x is_y =
     let same : ◌≡◌ {A = WorldView} (fresh_world a b limit) (world_with x y limit) = cc in
-    subst (IsReached limit) same (begins a b apart small)
-reached-made limit a b (Ok x) (Err e) apart small is_x is_y = tt
-reached-made limit a b (Err e) second apart small is_x is_y = tt
+    subst (IsReached limit) same (begins a b a_is b_is apart small)
+reached-made limit a b (Ok x) (Err e) a_is b_is apart small is_x is_y = tt
+reached-made limit a b (Err e) second a_is b_is apart small is_x is_y = tt
 
 -- and where a world is had of them, nothing happened in it
 pub fresh-made : {E F : Type 0} (limit : ℕ) (a b : ConfigView) (first second : Result HostView E) (made : Result RoomyWorld F) → IfOk first (λ x. x ≡ new_host a) → IfOk second (λ y. y ≡ new_host b)

@@ -345,7 +345,7 @@ orderly-fresh limit a b apart small = record {
     nothing r at = cc
 
 pub orderly : (limit : ℕ) (w : WorldView) → IsReached limit w → IsOrderly limit A B w.network w.trace
-orderly limit _ (runs.begins a b apart small) = orderly-fresh limit a b apart small
+orderly limit _ (runs.begins a b a_is b_is apart small) = orderly-fresh limit a b apart small
 orderly limit _ (runs.goes_on w v happens answer reached step) = subst (λ t. IsOrderly limit A B v.network t) (sym step.trace) (orderly-step limit w v happens answer step (orderly limit w reached))
 
 -- What the trace tells of a pair in an epoch is what its end does.
