@@ -8,6 +8,7 @@ use Rattle.ipv4.specs.declared.addr.Endpoint.{Endpoint}
 use Rattle.tcp_state.specs.declared.calls.Refusal.{Refusal as ConnectionRefusal}
 use Rattle.tcp_state.specs.declared.calls.Refusal.TheVariants as connection_variants
 use Rattle.tcp_state.specs.declared.state.State.{State}
+use Rattle.tcp_state.specs.Asking.{len_answer, room_answer}
 use Rattle.tcp_state.specs.Calls as connection_calls
 use Rattle.tcp_state.specs.View.{is_opening}
 use Rattle.udp_socket.specs.declared.socket.TheConstants.{MOST_OCTETS}
@@ -22,6 +23,8 @@ use Rattle.sockets.specs.declared.role.Role.TheVariants.{Idle, Listener, Connect
 use Rattle.sockets.specs.Calls.{of_socket, answer_at, any_addr, free_port, port_at, port_bound, bind_refusal, listen_refusal, own_end, sockname_answer, peername_answer, is_next_at, accept_answer, refusal_of, of_connection, role_send_answer, role_recv_answer, send_answer, recv_answer, role_shutdown_refusal, role_nodelay_refusal, shutdown_refusal, nodelay_refusal, close_refusal, state_answer, port_for, reach_refusal, had_connection, open_answer, port_connected, connect_refusal}
 use Rattle.sockets.specs.Datagrams.{datagrams_bound, sending_end, end_sent_from, sendto_answer, role_recvfrom_answer, recvfrom_answer}
 use Rattle.sockets.specs.Entries.{has_room_to_send, peer_of, shown_state}
+use Rattle.sockets.specs.Info.{role_info, info_answer}
+use Rattle.sockets.specs.Ready.{ready_of, readiness, role_recv_len, recv_len, role_send_room, send_room}
 use Rattle.sockets.specs.Ports.{is_unused_port, is_free_datagram_port}
 use Rattle.sockets.specs.SocketsView.{SocketsView, role_of}
 
@@ -204,6 +207,36 @@ of_sockname h id = named_answer h id (λ role. Ok (own_end role)) (λ role e. cc
 
 pub of_peername : (h : SocketsView) (id : SocketId) → Tells (peername_answer h id)
 of_peername h id = named_answer h id (λ role. ok_or (peer_of role) ENOTCONN) (λ role. of_option (peer_of role) ENOTCONN (λ e. cc))
+
+role_tells : (role : Role) → Tells (role_info role)
+role_tells (Connected c listener) e = cc
+role_tells (Idle buffers bound) e = cc
+role_tells (Listener local backlog) e = cc
+role_tells (Datagrams bound socket) e = cc
+
+pub of_info : (h : SocketsView) (id : SocketId) → Tells (info_answer h id)
+of_info h id = named_answer h id role_info role_tells
+
+pub of_readiness : (h : SocketsView) (id : SocketId) → Tells (readiness h id)
+of_readiness h id = named_answer h id (λ role. Ok (ready_of h id role)) (λ role e. cc)
+
+role_len : (role : Role) → Tells (role_recv_len role)
+role_len (Idle buffers bound) e = cc
+role_len (Listener local backlog) e = cc
+role_len (Connected c listener) e = of_answer (len_answer c) e
+role_len (Datagrams bound socket) e = cc
+
+pub of_recv_len : (h : SocketsView) (id : SocketId) → Tells (recv_len h id)
+of_recv_len h id = named_answer h id role_recv_len role_len
+
+role_room : (role : Role) → Tells (role_send_room role)
+role_room (Idle buffers bound) e = cc
+role_room (Listener local backlog) e = cc
+role_room (Connected c listener) e = of_answer (room_answer c) e
+role_room (Datagrams bound socket) e = cc
+
+pub of_send_room : (h : SocketsView) (id : SocketId) → Tells (send_room h id)
+of_send_room h id = named_answer h id role_send_room role_room
 
 role_recvfrom : (len : ℕ) (role : Role) → Tells (role_recvfrom_answer role len)
 role_recvfrom len (Datagrams bound socket) e = of_test (len == 0) (Err EINVAL) (ok_or (read_answer socket.inbox len) EAGAIN) (λ x. cc) (of_option (read_answer socket.inbox len) EAGAIN (λ x. cc)) e

@@ -7,8 +7,10 @@ ghost use Rattle.sockets.specs.declared.refusal.Refusal.TheVariants.{ENOMEM};
 ghost use Rattle.sockets.specs.SocketsView.{SocketsView};
 ghost use Rattle.sockets.specs.Calls.{bind_refusal, listen_refusal, accept_answer, connect_refusal, send_answer, recv_answer, shutdown_refusal, nodelay_refusal, close_refusal, state_answer, sockname_answer, peername_answer};
 ghost use Rattle.sockets.specs.Datagrams.{sendto_answer, recvfrom_answer};
+ghost use Rattle.sockets.specs.Info.{info_answer};
+ghost use Rattle.sockets.specs.Ready.{readiness, recv_len, send_room};
 
-/// No call but `socket` is refused memory, whatever the table is and whatever is asked of it.
+/// No call but `socket` is refused memory, and no question, whatever the table is and whatever is asked of it.
 pub fn only_socket_is_refused_memory()
     ensures bind { (h : SocketsView) (id : SocketId) (local : Endpoint) → ¬ (bind_refusal h id local ≡ Some ENOMEM) }
     ensures listen { (h : SocketsView) (id : SocketId) (backlog : ℕ) → ¬ (listen_refusal h id backlog ≡ Some ENOMEM) }
@@ -24,4 +26,8 @@ pub fn only_socket_is_refused_memory()
     ensures state { (h : SocketsView) (id : SocketId) → ¬ (state_answer h id ≡ Err ENOMEM) }
     ensures sockname { (h : SocketsView) (id : SocketId) → ¬ (sockname_answer h id ≡ Err ENOMEM) }
     ensures peername { (h : SocketsView) (id : SocketId) → ¬ (peername_answer h id ≡ Err ENOMEM) }
+    ensures info { (h : SocketsView) (id : SocketId) → ¬ (info_answer h id ≡ Err ENOMEM) }
+    ensures ready { (h : SocketsView) (id : SocketId) → ¬ (readiness h id ≡ Err ENOMEM) }
+    ensures readable { (h : SocketsView) (id : SocketId) → ¬ (recv_len h id ≡ Err ENOMEM) }
+    ensures room { (h : SocketsView) (id : SocketId) → ¬ (send_room h id ≡ Err ENOMEM) }
 {}
