@@ -14,7 +14,7 @@ use Rattle.wire_sim.specs.WorldRoom.{RoomyWorld, ListRoom, HasRoomFor, event_oct
 use Rattle.wire_sim.specs.WorldView.{WorldView}
 use Rattle.wire_sim.proofs.RunGiven.{same_event}
 use Rattle.wire_sim.proofs.runs.RoomyRunsLast.{bare-runs}
-use Rattle.script.specs.declared.action.Action.TheVariants.{Socket, Bind, Listen, Accept, Connect, Send, Fill, Recv, Count, SendTo, FillTo, RecvFrom, CountFrom, Shutdown, NoDelay, Close, Abort, State, Ready, Tick, Emit, Deliver}
+use Rattle.script.specs.declared.action.Action.TheVariants.{Socket, Bind, Listen, Accept, Connect, Send, Fill, Recv, Count, SendTo, FillTo, RecvFrom, CountFrom, Shutdown, NoDelay, Close, Abort, State, Ready, Info, Tick, Emit, Deliver}
 use Rattle.commands.specs.Play.{ComesTo}
 use Rattle.commands.specs.Wanted.{MemoryIsWantedForOctets}
 
@@ -82,6 +82,7 @@ wanted side (Close id) e w v is came = absurd (bare_is_taken e _ w v is (bare _ 
 wanted side (Abort id) e w v is came = absurd (bare_is_taken e _ w v is (bare _ refl refl refl) came)
 wanted side (State id) e w v is came = absurd (bare_is_taken e _ w v is (bare _ refl refl refl) came)
 wanted side (Ready id) e w v is came = absurd (bare_is_taken e _ w v is (bare _ refl refl refl) came)
+wanted side (Info id) e w v is came = absurd (bare_is_taken e _ w v is (bare _ refl refl refl) came)
 wanted side (Tick moment) e w v is came = absurd (bare_is_taken e _ w v is (bare _ refl refl refl) came)
 wanted side Emit e w v is came = tt
 wanted side (Deliver index isn) e w v is came = absurd (bare_is_taken e _ w v is (bare _ refl refl refl) came)

@@ -72,9 +72,9 @@ Tells (Pass isn) passages text old new =
     × CarriesEach A isn of_a to_b old w × CarriesEach B isn of_b to_a w new
     × (passages ≡ carried_by A of_a to_b ++ carried_by B of_b to_a) × (text ≡ pass_text (length of_a) (length of_b))
 
--- what is recorded of a line that is done: the line, what happened to frames, and what was printed
+-- what is recorded of a line that is done: the line, what happened to frames, and what was printed, line by line
 abbrev pub recorded : List ℕ → List Passage → List ℕ → List Happened
-recorded line passages text = Said line ∷ (map Passed passages ++ Printed text ∷ [])
+recorded line passages text = Said line ∷ (map Passed passages ++ map Printed (lines_of text))
 
 -- A line of a script is done, and this is recorded of it: of `noscale` and of a `limit` that it prints `ok`, and of a line that says nothing, nothing.
 pub data HasDone (line : List ℕ) : List Happened → WorldView → WorldView → Type 0 where

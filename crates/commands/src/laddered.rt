@@ -9,7 +9,7 @@ ghost use Rattle.script.specs.declared.lines.Item.TheVariants.{Do};
 ghost use Rattle.script.specs.declared.lines.Command.{Command as OneCommand};
 ghost use Rattle.ladder.specs.declared.passage.Passage.{Passage as OnePassage};
 ghost use Rattle.ladder.specs.declared.happened.Happened.{Happened as Thing};
-ghost use Rattle.ladder.specs.declared.happened.Happened.TheVariants.{Passed};
+ghost use Rattle.ladder.specs.declared.happened.Happened.TheVariants.{Passed, Printed};
 ghost use Rattle.devices.specs.Streams.{counted, TakesFront};
 ghost use Rattle.commands.specs.Sim.{capture_in_all, is_before_run, read_fails, run_in_all, write_fails_in, IsDue};
 ghost use Rattle.wire_sim.specs.WorldRoom.{HasRoomFor};
@@ -196,9 +196,7 @@ fn note_ok<'a>(
     ensures { OnOk result (happened.new.items ≡ happened.old.items ++ recorded line.entry.now [] (codes "ok")) }
 {
     happened.push(Happened::Said(Line::new(line)))?;
-    let text = String::from_str(alloc, "ok")?;
-    happened.push(Happened::Printed(Text::new(text)))?;
-    Ok(())
+    note_printed(alloc, "ok", happened)
 }
 
 /// Does the command that a line says, and adds what is recorded of it to `happened`.
@@ -215,7 +213,41 @@ fn run_said<'a>(
 {
     happened.push(Happened::Said(Line::new(line)))?;
     let text = run_command(alloc, command, world, happened)?;
-    happened.push(Happened::Printed(Text::new(text)))?;
+    note_printed(alloc, text.as_str(), happened)?;
+    Ok(())
+}
+
+/// Adds each line of what was printed to `happened`.
+fn note_printed(
+    alloc: Global,
+    text: &str,
+    happened: &mut Vec<Happened<'_>>,
+) -> Result<(), AllocError>
+    ensures { OnOk result (happened.new.items ≡ happened.old.items ++ map Printed (lines_of text.now)) }
+{
+    let lines = printed_lines(alloc, text)?;
+    note_lines(alloc, lines.as_slice(), happened)
+}
+
+/// The lines of what was printed, in which a newline stands between one and the next.
+fn printed_lines(alloc: Global, text: &str) -> Result<Vec<&str>, AllocError>
+    ensures { IfOk result (λ lines. map (λ line. line.now) lines.items ≡ lines_of text.now) }
+{
+    text.split('\n').collect(alloc)
+}
+
+/// Adds these lines, which were printed, to `happened`.
+fn note_lines(
+    alloc: Global,
+    lines: &[&str],
+    happened: &mut Vec<Happened<'_>>,
+) -> Result<(), AllocError>
+    ensures { OnOk result (happened.new.items ≡ happened.old.items ++ map Printed (map (λ line. line.now) lines.now)) }
+{
+    for line in lines {
+        let line = String::from_str(alloc, line)?;
+        happened.push(Happened::Printed(Text::new(line)))?;
+    }
     Ok(())
 }
 

@@ -33,7 +33,7 @@ impl<'a> Line<'a> {
     }
 }
 
-/// What was printed of a line that was done.
+/// A line of what was printed.
 #[derive(Debug, Drop)]
 pub struct Text {
     printed: String,
@@ -46,7 +46,7 @@ impl Model for Text {
 }
 
 impl Text {
-    /// The text that was printed, with no newline.
+    /// The line with this text, with no newline.
     pub fn new(printed: String) -> Text
         ensures { result ≡ string_bytes printed }
     {
@@ -68,6 +68,6 @@ pub enum Happened<'a> {
     Said(Line<'a>),
     /// This happened to a frame.
     Passed(Passage),
-    /// This was printed.
+    /// This line was printed.
     Printed(Text),
 }
