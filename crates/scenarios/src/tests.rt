@@ -3,6 +3,7 @@
 mod calls;
 mod closing;
 mod copies;
+mod counted;
 mod datagrams;
 mod delays;
 mod documents;

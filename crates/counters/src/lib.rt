@@ -1,0 +1,12 @@
+//! Counters of a host, kept beside it: what came and went out, and what was dropped, by its cause. They change nothing of the host, and no call of it
+//! reads them.
+#![tactic(auto)]
+
+mod counters;
+mod drops;
+mod lacks;
+pub mod laws;
+
+pub use counters::Counters;
+pub use drops::Drops;
+pub use lacks::Lacks;
