@@ -131,4 +131,9 @@ static void end(struct tap *tap)
     host_close(&tap->host, joint.id);
 }
 
-const struct work connecting = {begin, wants, step, deadline, end};
+static uint64_t connection(size_t place)
+{
+    return place == 0 ? joint.id : 0;
+}
+
+const struct work connecting = {begin, wants, step, deadline, end, connection};

@@ -164,4 +164,9 @@ static void end(struct tap *tap)
     }
 }
 
-const struct work forwarding = {begin, wants, step, deadline, end};
+static uint64_t connection(size_t place)
+{
+    return joints[place].id;
+}
+
+const struct work forwarding = {begin, wants, step, deadline, end, connection};

@@ -25,7 +25,7 @@ import os
 import sys
 from typing import Any, Iterator, Mapping, NoReturn, Optional, Tuple, Union
 
-__all__ = ["Drop", "Host", "Info", "Kind", "Ready", "State"]
+__all__ = ["Counters", "Drop", "Host", "Info", "Kind", "Ready", "State"]
 
 VERSION = "0.2.0"
 FRAME_SIZE = 1514
@@ -95,6 +95,33 @@ class Info:
     ends: int | None
 
 
+@dataclasses.dataclass(frozen=True)
+class Counters:
+    """What was counted of a host since it was made: `host.h` has each field at length. The frames that were dropped stand by their cause, from
+    `short_frame` to `fragment`; those for want of room, Drop.NO_ROOM, by what there was none of, from `backlog` to `route`."""
+
+    frames_in: int
+    octets_in: int
+    frames_out: int
+    octets_out: int
+    short_frame: int
+    other_mac: int
+    other_type: int
+    ip_header: int
+    ip_sum: int
+    other_address: int
+    upper_header: int
+    upper_sum: int
+    fragment: int
+    backlog: int
+    table: int
+    memory: int
+    replies: int
+    queue: int
+    reassembly: int
+    route: int
+
+
 # The system's number of each refusal, from number 1 on.
 _ERRNO = [
     getattr(errno, name)
@@ -160,6 +187,7 @@ _CALLS = {
     "host_sockname": [_U64, _ENDPOINT],
     "host_peername": [_U64, _ENDPOINT],
     "host_info_into": [_U64, ctypes.POINTER(ctypes.c_int64), _SIZE],
+    "host_counters_into": [ctypes.POINTER(ctypes.c_int64), _SIZE],
     "host_would_connect": [_U64, _U32, _U16, _ENDPOINT],
     "host_would_open": [_OCTETS, _SIZE, _ENDPOINT],
     "host_ready": [_U64],
@@ -403,6 +431,12 @@ class Host:
             told[name] = None if told[name] is None else told[name] / parts
         told["error"] = _ERRNO[-told["error"] - 1] if told["error"] else None
         return Info(**{**told, "state": State(told["state"])})
+
+    def counters(self) -> Counters:
+        """The Counters of the host."""
+        numbers = (ctypes.c_int64 * len(dataclasses.fields(Counters)))()
+        self._call("host_counters_into", numbers, len(numbers))
+        return Counters(*numbers)
 
     def would_connect(self, id: int, peer: Tuple[Address, int]) -> Optional[Tuple[Endpoint, Endpoint]]:
         """The two endpoints of the connection that `connect` would open now, the lesser first; None where it would be refused."""

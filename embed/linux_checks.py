@@ -588,6 +588,22 @@ def echo(size, *words):
     return "equal"
 
 
+def statistics():
+    """A second after a connection is open, its line has its state and its peer, and the line of counts has its frames."""
+    with Tap("--stats", "1") as tap, connected(7) as client:
+        client.settimeout(20)
+        client.sendall(octets(1000))
+        want(client.recv(1000, socket.MSG_WAITALL) == octets(1000), "other octets come back")
+        time.sleep(2.5)
+        tap.process.terminate()
+        status, said = tap.result(5)
+        peer = f"{LINUX}:{client.getsockname()[1]}"
+    counts = re.search(r"^tap: (\d+) frames in, (\d+) out; octets: (\d+) in, (\d+) out; dropped:", said, re.MULTILINE)
+    want(status == 0 and counts and all(int(count) > 3 for count in counts.groups()), said)
+    want(re.search(rf"^tap: \d+ ESTABLISHED {re.escape(peer)} in_flight 0 unsent 0 readable 0 ", said, re.MULTILINE), said)
+    return "a line of counts, and one of the connection"
+
+
 def send_in_turn(connection, data):
     """A segment goes only once the one before is acknowledged."""
     for at in range(0, len(data), 1460):
@@ -861,6 +877,7 @@ CHECKS = [
     ("TCP: a flood of openings from silent addresses", flood_of_openings, (), ""),
     ("TCP: four openings a second", bounded_openings, (), ""),
     ("TCP: 60 connections at once, by readiness alone", by_readiness, (60, 20000), ""),
+    ("what --stats prints", statistics, (), ""),
     ("1 MB to the host", to_host, (MEGABYTE,), ""),
     ("1 MB from the host", from_host, (MEGABYTE,), ""),
     ("1 MB echoed, both ways at once", echo, (MEGABYTE,), ""),

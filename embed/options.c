@@ -38,6 +38,7 @@ static const char help[] =
     "  --openings N               takes at most N connections a second; a SYN beyond them is passed over, and comes again\n"
     "  --idle SECONDS             an accepted connection on which nothing moves for so long is reset (300)\n"
     "  --patience SECONDS         --connect ends where the peer is silent for so long (60)\n"
+    "  --stats SECONDS            prints, every so many seconds, what was counted of the host, and how each connection stands\n"
     "  --verbose                  tells of each connection, and at the end how many frames came, went and were dropped\n"
     "  --help                     this text\n"
     "\n"
@@ -142,7 +143,7 @@ static void read_forward(struct options *options, const char *port, const char *
     forward->to.port = read_port("--forward", strrchr(to, ':') + 1);
 }
 
-enum { TAP = 1, ADDR, GATEWAY, MAC, NO_SCALE, CONNECT, FORWARD, SOURCE, LOSE, DROP, REPEAT, DELAY, PCAP, OPENINGS, IDLE, PATIENCE, VERBOSE, HELP };
+enum { TAP = 1, ADDR, GATEWAY, MAC, NO_SCALE, CONNECT, FORWARD, SOURCE, LOSE, DROP, REPEAT, DELAY, PCAP, OPENINGS, IDLE, PATIENCE, STATS, VERBOSE, HELP };
 
 static const struct option words[] = {
     {"tap", required_argument, NULL, TAP},           {"addr", required_argument, NULL, ADDR},     {"gateway", required_argument, NULL, GATEWAY},
@@ -152,7 +153,7 @@ static const struct option words[] = {
     {"drop", required_argument, NULL, DROP},         {"repeat", required_argument, NULL, REPEAT},
     {"delay", required_argument, NULL, DELAY},       {"pcap", required_argument, NULL, PCAP},     {"idle", required_argument, NULL, IDLE},
     {"patience", required_argument, NULL, PATIENCE}, {"verbose", no_argument, NULL, VERBOSE},     {"help", no_argument, NULL, HELP},
-    {"openings", required_argument, NULL, OPENINGS},
+    {"openings", required_argument, NULL, OPENINGS}, {"stats", required_argument, NULL, STATS},
     {NULL, 0, NULL, 0},
 };
 
@@ -200,6 +201,9 @@ static void read_trial(struct options *options, int which)
         break;
     case PATIENCE:
         options->patience = 1000 * read_number("--patience", optarg, 1, 1000000000);
+        break;
+    case STATS:
+        options->stats = 1000 * read_number("--stats", optarg, 1, 1000000000);
         break;
     }
 }

@@ -227,4 +227,9 @@ static void end(struct tap *tap)
     }
 }
 
-const struct work serving = {begin, wants, step, deadline, end};
+static uint64_t connection(size_t place)
+{
+    return at.all[place].id;
+}
+
+const struct work serving = {begin, wants, step, deadline, end, connection};

@@ -137,18 +137,9 @@ static bool drain(struct tap *tap)
         if (len <= 0) {
             return true;
         }
-        tap->went++;
         link_send(&tap->link, tap->now, frame, (size_t)len);
     }
     return false;
-}
-
-static void count(struct tap *tap, int64_t answer)
-{
-    tap->came++;
-    if (answer < 0 && answer > -12) {
-        tap->dropped[-answer]++;
-    }
 }
 
 /* The work's calls, and what they make due. */
@@ -187,7 +178,7 @@ static void hear_one(struct tap *tap, const uint8_t *frame, size_t len)
     struct host_endpoint pair[2];
     const bool opens = host_would_open(&tap->host, frame, len, pair) == 1;
     if (!opens || may_open(tap)) {
-        count(tap, host_deliver(&tap->host, tap->now, opens ? fresh_isn(pair) : 0, frame, len));
+        host_deliver(&tap->host, tap->now, opens ? fresh_isn(pair) : 0, frame, len);
     }
 }
 
@@ -210,6 +201,15 @@ static bool hear(struct tap *tap, const struct work *work)
     return all;
 }
 
+/* Prints the statistics where their moment has come. */
+static void tell_stats(struct tap *tap, const struct work *work)
+{
+    if (tap->options.stats != 0 && tap->stats <= tap->now) {
+        print_stats(tap, work);
+        tap->stats = later(tap->now, tap->options.stats);
+    }
+}
+
 static bool turn(struct tap *tap, const struct work *work)
 {
     tap->now = clock_now();
@@ -217,6 +217,7 @@ static bool turn(struct tap *tap, const struct work *work)
     link_flush(&tap->link, tap->now);
     const bool heard = hear(tap, work);
     const bool acted = act(tap, work);
+    tell_stats(tap, work);
     return heard && acted;
 }
 
@@ -231,7 +232,7 @@ static uint64_t next_moment(struct tap *tap, const struct work *work)
     if (host_next_deadline(&tap->host, &moment) != 1) {
         moment = NEVER;
     }
-    return least(moment, least(link_deadline(&tap->link), work->deadline(tap)));
+    return least(least(moment, tap->stats), least(link_deadline(&tap->link), work->deadline(tap)));
 }
 
 /* Waits until a frame comes, something of the work's is ready, or the moment. */
@@ -267,20 +268,6 @@ static void run(struct tap *tap, const struct work *work, const sigset_t *waitin
     }
 }
 
-static void print_counts(const struct tap *tap)
-{
-    fprintf(stderr, "tap: %" PRIu64 " frames in, %" PRIu64 " out; dropped:", tap->came, tap->went);
-    for (int cause = 1; cause <= 10; cause++) {
-        if (tap->dropped[cause] != 0) {
-            fprintf(stderr, " %s %" PRIu64, host_drop_name(-cause), tap->dropped[cause]);
-        }
-    }
-    if (tap->options.openings != 0) {
-        fprintf(stderr, "; put off: %" PRIu64, tap->put_off);
-    }
-    fputc('\n', stderr);
-}
-
 static void close_capture(struct tap *tap)
 {
     FILE *capture = tap->link.capture;
@@ -305,7 +292,7 @@ static void take_standard_descriptors(void)
 
 int main(int argc, char **argv)
 {
-    static struct tap tap = {.status = -1, .link = {.device = -1}};
+    static struct tap tap = {.status = -1, .stats = NEVER, .link = {.device = -1}};
     sigset_t waiting;
     take_standard_descriptors();
     options_read(&tap.options, argc, argv);
@@ -314,13 +301,14 @@ int main(int argc, char **argv)
     if (open_host(&tap) && open_link(&tap)) {
         tap.now = clock_now();
         host_tick(&tap.host, tap.now);
+        tap.stats = tap.options.stats == 0 ? NEVER : later(tap.now, tap.options.stats);
         work->begin(&tap);
         run(&tap, work, &waiting);
         work->end(&tap);
         drain(&tap);
     }
     if (tap.options.verbose) {
-        print_counts(&tap);
+        print_counters(&tap);
     }
     close_capture(&tap);
     link_close(&tap.link);

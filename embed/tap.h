@@ -80,6 +80,7 @@ struct options {
     uint64_t source;              /* octets of the service on port 19; 0: there is none */
     uint64_t openings;            /* connections that may be opened to the host in a second; 0: any number */
     uint64_t idle, patience;      /* milliseconds */
+    uint64_t stats;               /* milliseconds from one print of the statistics to the next; 0: none */
     bool connects;
     struct host_endpoint peer;
     struct forward forwards[FORWARDS];
@@ -98,7 +99,7 @@ struct tap {
     int status;
     struct pollfd *polled;        /* what the work waits for, after the device's own place */
     uint64_t heard;               /* when a datagram of the peer of --connect came last */
-    uint64_t came, went, dropped[12];
+    uint64_t stats;               /* when the statistics are printed next, or NEVER */
     uint64_t second, openings, put_off; /* openings since this moment, and how many were passed over in all */
 };
 
@@ -109,6 +110,7 @@ struct work {
     void (*step)(struct tap *tap);
     uint64_t (*deadline)(struct tap *tap);
     void (*end)(struct tap *tap);
+    uint64_t (*connection)(size_t place); /* the id of the connection in this place, below CONNECTIONS; 0: none */
 };
 
 extern const struct work serving, connecting, forwarding;
@@ -127,6 +129,10 @@ int64_t bind_random(struct host *host, uint64_t id);
 void fail(struct tap *tap, const char *what, const char *why);
 /* A line on standard error, where --verbose asks for it. */
 void tell(const struct tap *tap, const char *what, uint64_t id, const char *more);
+/* What was counted of the host, in a line on standard error. */
+void print_counters(struct tap *tap);
+/* The same, and a line for each connection. */
+void print_stats(struct tap *tap, const struct work *work);
 /* A listener of the host at this port: its id; 0 after `fail`. */
 uint64_t listen_at(struct tap *tap, uint16_t port);
 /* What a socket is ready for: HOST_READY_ bits, none where there is no such socket. */

@@ -23,6 +23,9 @@ static struct host a, b;
 static uint64_t now = 1000;
 static uint32_t isn = 100;
 
+/* How many frames, and octets, were delivered. */
+static int64_t carried, carried_octets;
+
 /* Moves every frame that `from` has due to `to`, and answers how many those were. */
 static int carry(struct host *from, struct host *to)
 {
@@ -35,7 +38,9 @@ static int carry(struct host *from, struct host *to)
         if (dropped < 0)
             fprintf(stderr, "two_hosts: a frame of %d octets was dropped: %s\n", (int)len, host_drop_name(dropped));
         moved++;
+        carried_octets += len;
     }
+    carried += moved;
     return moved;
 }
 
@@ -198,6 +203,18 @@ static void datagrams(void)
     CHECK(host_recvfrom(&a, client, buffer, sizeof buffer, &from) == HOST_EAGAIN);
 }
 
+/* Both hosts counted what was carried from one to the other, and besides the frame that was lost; and none was dropped. */
+static void counts(void)
+{
+    struct host_counters of_a = {.size = sizeof of_a}, of_b = {.size = sizeof of_b};
+
+    CHECK(host_counters(&a, &of_a) == 0 && host_counters(&b, &of_b) == 0);
+    CHECK(of_a.frames_in + of_b.frames_in == carried && of_a.octets_in + of_b.octets_in == carried_octets);
+    CHECK(of_a.frames_out + of_b.frames_out == carried + 1 && of_a.octets_out + of_b.octets_out == carried_octets + HOST_FRAME_SIZE);
+    CHECK(of_a.other_mac == 0 && of_a.upper_sum == 0 && of_b.backlog == 0 && of_b.replies == 0);
+    carried = carried_octets = 0;
+}
+
 /* What a config must be. Those that aren't are refused. */
 static void configs(struct host_config config)
 {
@@ -240,11 +257,13 @@ int main(void)
         CHECK(host_new_with(&b, &config) == 0);
         connection(config.no_window_scale ? 65535 : 1048576);
         datagrams();
+        counts();
         host_free(&a);
         host_free(&b);
     }
     host_free(&b);
     CHECK(a.at == NULL && b.at == NULL && host_socket(&a, HOST_KIND_TCP) == HOST_EBADF);
+    CHECK(host_counters_into(&a, &carried, 1) == HOST_EBADF);
     puts("two hosts: a connection, octets both ways, a lost frame, datagrams and a close; with the window scale option, and without");
     return 0;
 }

@@ -37,4 +37,6 @@ with Host("02:00:00:00:00:01", "10.0.0.1", link) as a, Host("02:00:00:00:00:02",
         except BlockingIOError:  # nothing to read: time goes on to where a timer acts
             now = min((d for d in (a.next_deadline(), b.next_deadline()) if d is not None), default=now)
     assert read == octets
+    counted = a.counters(), b.counters()
+    assert sum(host.frames_out for host in counted) == frames and sum(host.frames_in for host in counted) == frames - frames // 10
     print(f"{len(read)} octets came out equal; of {frames} frames {frames // 10} were lost, and {now} ms went by")

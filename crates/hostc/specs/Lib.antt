@@ -6,3 +6,4 @@ pub mod Config
 pub mod Ready
 pub mod Setup
 pub mod Info
+pub mod Counters

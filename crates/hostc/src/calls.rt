@@ -21,7 +21,8 @@ use tcp_segment::Seq;
 /// EBADF where the handle holds no host; EINVAL for another kind; else as `Host::socket`.
 #[unsafe(no_mangle)]
 pub extern "C" fn host_socket(alloc: Global, handle: &mut Handle, kind: u32) -> i64
-    ensures { SocketCall (kind_of kind) handle.old.host result handle.new.host }
+    ensures made { SocketCall (kind_of kind) handle.old.host result handle.new.host }
+    ensures counters { handle.new.counters ≡ handle.old.counters }
 {
     let answer = handle.ask(alloc, |host| match kind_of(kind) {
         Some(kind) => host.socket(kind),
@@ -44,6 +45,7 @@ pub extern "C" fn host_bind(
 ) -> i64
     ensures answer { result ≡ answered (of_host (λ h. done (bind_refusal h.sockets (socket_of id) (endpoint_of addr port))) handle.old.host) }
     ensures after { handle.new.host ≡ option_map (λ h. after_call (bind_refusal h.sockets (socket_of id) (endpoint_of addr port)) h (after_bind h.sockets (socket_of id) (endpoint_of addr port))) handle.old.host }
+    ensures counters { handle.new.counters ≡ handle.old.counters }
 {
     let local = endpoint_of(addr, port);
     done(handle.ask(alloc, |host| host.bind(SocketId(id), local)))
@@ -54,6 +56,7 @@ pub extern "C" fn host_bind(
 pub extern "C" fn host_listen(alloc: Global, handle: &mut Handle, id: u64, backlog: usize) -> i64
     ensures answer { result ≡ answered (of_host (λ h. done (listen_refusal h.sockets (socket_of id) backlog)) handle.old.host) }
     ensures after { handle.new.host ≡ option_map (λ h. after_call (listen_refusal h.sockets (socket_of id) backlog) h (after_listen h.sockets (socket_of id) backlog)) handle.old.host }
+    ensures counters { handle.new.counters ≡ handle.old.counters }
 {
     done(handle.ask(alloc, |host| host.listen(SocketId(id), backlog)))
 }
@@ -65,6 +68,7 @@ pub extern "C" fn host_accept(alloc: Global, handle: &mut Handle, id: u64, peer:
     ensures answer { result ≡ answered (of_host (λ h. numbered (λ a. a.0.0) (accept_answer h.sockets (socket_of id))) handle.old.host) }
     ensures peer { peer.new ≡ written (λ a. end_of a.1) (result_ok (of_host (λ h. accept_answer h.sockets (socket_of id)) handle.old.host)) peer.old }
     ensures after { handle.new.host ≡ option_map (λ h. after_call (result_err (accept_answer h.sockets (socket_of id))) h (after_accept h.sockets (socket_of id))) handle.old.host }
+    ensures counters { handle.new.counters ≡ handle.old.counters }
 {
     match handle.ask(alloc, |host| host.accept(SocketId(id))) {
         Ok((id, end)) => {
@@ -88,6 +92,7 @@ pub extern "C" fn host_connect(
 ) -> i64
     ensures answer { result ≡ answered (of_host (λ h. done (connect_refusal h.sockets (socket_of id) (endpoint_of addr port) (is_routed h.interface (addr_of addr)))) handle.old.host) }
     ensures after { handle.new.host ≡ option_map (λ h. after_call (connect_refusal h.sockets (socket_of id) (endpoint_of addr port) (is_routed h.interface (addr_of addr))) h (after_connect h.sockets isn (socket_of id) (endpoint_of addr port) (is_routed h.interface (addr_of addr)))) handle.old.host }
+    ensures counters { handle.new.counters ≡ handle.old.counters }
 {
     let peer = endpoint_of(addr, port);
     done(handle.ask(alloc, |host| {
@@ -100,6 +105,7 @@ pub extern "C" fn host_connect(
 pub extern "C" fn host_send(alloc: Global, handle: &mut Handle, id: u64, octets: &[u8]) -> i64
     ensures answer { result ≡ answered (of_host (λ h. send_answer h.sockets (socket_of id) octets.now) handle.old.host) }
     ensures after { handle.new.host ≡ option_map (λ h. after_call (result_err (send_answer h.sockets (socket_of id) octets.now)) h (after_send h.sockets (socket_of id) octets.now)) handle.old.host }
+    ensures counters { handle.new.counters ≡ handle.old.counters }
 {
     counted(handle.ask(alloc, |host| host.send(SocketId(id), octets)))
 }
@@ -111,12 +117,13 @@ pub extern "C" fn host_recv(alloc: Global, handle: &mut Handle, id: u64, buffer:
     ensures answer { result ≡ answered (of_host (λ h. numbered received_count (recv_answer h.sockets (socket_of id) (length buffer.old))) handle.old.host) }
     ensures octets { buffer.new ≡ left_in (λ h. recv_front h.sockets (socket_of id) buffer.old) handle.old.host buffer.old }
     ensures after { handle.new.host ≡ option_map (λ h. after_call (result_err (recv_answer h.sockets (socket_of id) (length buffer.old))) h (after_recv h.sockets (socket_of id) (length buffer.old))) handle.old.host }
+    ensures counters { handle.new.counters ≡ handle.old.counters }
 {
-    let Some(mut host) = handle.take(alloc) else {
+    let Some(mut kept) = handle.take(alloc) else {
         return refused(Refusal::EBADF);
     };
-    let answer = host.recv(SocketId(id), buffer);
-    handle.put(alloc, host);
+    let answer = kept.host.recv(SocketId(id), buffer);
+    handle.put(alloc, kept);
     received(answer)
 }
 
@@ -125,6 +132,7 @@ pub extern "C" fn host_recv(alloc: Global, handle: &mut Handle, id: u64, buffer:
 pub extern "C" fn host_shutdown_write(alloc: Global, handle: &mut Handle, id: u64) -> i64
     ensures answer { result ≡ answered (of_host (λ h. done (shutdown_refusal h.sockets (socket_of id))) handle.old.host) }
     ensures after { handle.new.host ≡ option_map (λ h. after_call (shutdown_refusal h.sockets (socket_of id)) h (after_shutdown h.sockets (socket_of id))) handle.old.host }
+    ensures counters { handle.new.counters ≡ handle.old.counters }
 {
     done(handle.ask(alloc, |host| host.shutdown_write(SocketId(id))))
 }
@@ -135,6 +143,7 @@ pub extern "C" fn host_shutdown_write(alloc: Global, handle: &mut Handle, id: u6
 pub extern "C" fn host_set_nodelay(alloc: Global, handle: &mut Handle, id: u64, on: u32) -> i64
     ensures answer { result ≡ answered (of_host (λ h. done (nodelay_refusal h.sockets (socket_of id))) handle.old.host) }
     ensures after { handle.new.host ≡ option_map (λ h. after_call (nodelay_refusal h.sockets (socket_of id)) h (after_nodelay h.sockets (socket_of id) (not (on == 0)))) handle.old.host }
+    ensures counters { handle.new.counters ≡ handle.old.counters }
 {
     let is_on = on != 0;
     done(handle.ask(alloc, |host| host.set_nodelay(SocketId(id), is_on)))
@@ -145,6 +154,7 @@ pub extern "C" fn host_set_nodelay(alloc: Global, handle: &mut Handle, id: u64, 
 pub extern "C" fn host_close(alloc: Global, handle: &mut Handle, id: u64) -> i64
     ensures answer { result ≡ answered (of_host (λ h. done (close_refusal h.sockets (socket_of id))) handle.old.host) }
     ensures after { handle.new.host ≡ option_map (λ h. after_call (close_refusal h.sockets (socket_of id)) h (after_close h.sockets (socket_of id))) handle.old.host }
+    ensures counters { handle.new.counters ≡ handle.old.counters }
 {
     done(handle.ask(alloc, |host| host.close(SocketId(id))))
 }
@@ -154,6 +164,7 @@ pub extern "C" fn host_close(alloc: Global, handle: &mut Handle, id: u64) -> i64
 pub extern "C" fn host_abort(alloc: Global, handle: &mut Handle, id: u64) -> i64
     ensures answer { result ≡ answered (of_host (λ h. done (close_refusal h.sockets (socket_of id))) handle.old.host) }
     ensures after { handle.new.host ≡ option_map (λ h. after_call (close_refusal h.sockets (socket_of id)) h (after_abort h.sockets (socket_of id))) handle.old.host }
+    ensures counters { handle.new.counters ≡ handle.old.counters }
 {
     done(handle.ask(alloc, |host| host.abort(SocketId(id))))
 }

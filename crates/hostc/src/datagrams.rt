@@ -27,6 +27,7 @@ pub extern "C" fn host_sendto(
 ) -> i64
     ensures answer { result ≡ answered (of_host (λ h. sendto_answer h.sockets (socket_of id) (endpoint_of addr port) octets.now (is_routed h.interface (addr_of addr))) handle.old.host) }
     ensures after { handle.new.host ≡ option_map (λ h. after_call (result_err (sendto_answer h.sockets (socket_of id) (endpoint_of addr port) octets.now (is_routed h.interface (addr_of addr)))) h (after_sendto h.sockets (socket_of id) (endpoint_of addr port) octets.now (is_routed h.interface (addr_of addr)))) handle.old.host }
+    ensures counters { handle.new.counters ≡ handle.old.counters }
 {
     let peer = endpoint_of(addr, port);
     counted(handle.ask(alloc, |host| host.sendto(SocketId(id), peer, octets)))
@@ -46,12 +47,13 @@ pub extern "C" fn host_recvfrom(
     ensures octets { buffer.new ≡ left_in (λ h. recvfrom_front h.sockets (socket_of id) buffer.old) handle.old.host buffer.old }
     ensures from { from.new ≡ written (λ a. end_of a.1) (result_ok (of_host (λ h. recvfrom_answer h.sockets (socket_of id) (length buffer.old)) handle.old.host)) from.old }
     ensures after { handle.new.host ≡ option_map (λ h. after_call (result_err (recvfrom_answer h.sockets (socket_of id) (length buffer.old))) h (after_recvfrom h.sockets (socket_of id))) handle.old.host }
+    ensures counters { handle.new.counters ≡ handle.old.counters }
 {
-    let Some(mut host) = handle.take(alloc) else {
+    let Some(mut kept) = handle.take(alloc) else {
         return refused(Refusal::EBADF);
     };
-    let answer = host.recvfrom(SocketId(id), buffer);
-    handle.put(alloc, host);
+    let answer = kept.host.recvfrom(SocketId(id), buffer);
+    handle.put(alloc, kept);
     match answer {
         Ok((count, end)) => {
             *from = end_of(end);

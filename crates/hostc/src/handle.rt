@@ -3,9 +3,11 @@
 ghost use Rattle.std.specs.Prelude.{◌≡◌, Option, None, Some, option_map};
 ghost use Rattle.host.specs.HostView.{HostView};
 ghost use Rattle.std.specs.Fn.{FnOnceReturnsAtMut};
+ghost use Rattle.counters.specs.declared.counters.Counters.{Counters};
 ghost use Rattle.hostc.specs.Calls.{Asks};
 ghost use Rattle.hostc.specs.Held.{held};
 
+use crate::counted::Counted;
 use crate::parts::Parts;
 use host::{Host, Refusal};
 use std::alloc::Global;
@@ -13,79 +15,84 @@ use std::marker::Model;
 use std::mem::replace;
 use std::ptr::null_mut;
 
-/// A handle: `struct host`. It holds a host, or none where its pointer is null.
+/// A handle: `struct host`. It holds a host and its counters, or neither where its pointer is null.
 #[repr(C)]
 pub struct Handle {
     at: *mut u8,
     pub ghost host: { Option HostView },
+    pub ghost counters: { Option Counters },
 }
 
 impl Model for Handle {
-    ghost also_owns = { λ h. held h.at h.host };
+    ghost also_owns = { λ h. held h.at h.host h.counters };
 }
 
 impl Handle {
     /// A handle that holds no host.
     fn empty() -> Handle
-        ensures { result.host ≡ None }
+        ensures { (result.host ≡ None) × (result.counters ≡ None) }
     {
         Handle { at: null_mut() }
     }
 
     /// A handle that holds the host of a box that was taken apart.
-    fn of(parts: Parts<Host, Global>) -> Handle
-        ensures { result.host ≡ Some parts.value }
+    fn of(parts: Parts<Counted, Global>) -> Handle
+        ensures { (result.host ≡ Some parts.value.host) × (result.counters ≡ Some parts.value.counters) }
     {
         let Parts { ptr, alloc: _ } = parts;
         Handle { at: ptr as *mut u8 }
     }
 
     /// What it holds, as the parts of a box; None where that is no host.
-    fn open(self, alloc: Global) -> Option<Parts<Host, Global>>
-        ensures { option_map (λ p. p.value) result ≡ self.host }
+    fn open(self, alloc: Global) -> Option<Parts<Counted, Global>>
+        ensures { (option_map (λ p. p.value.host) result ≡ self.host) × (option_map (λ p. p.value.counters) result ≡ self.counters) }
     {
         let Handle { at } = self;
         if at.is_null() {
             None
         } else {
             Some(Parts {
-                ptr: at as *mut Host,
+                ptr: at as *mut Counted,
                 alloc,
             })
         }
     }
 
-    /// Takes the host out; None where it holds none.
-    pub(crate) fn take(&mut self, alloc: Global) -> Option<Box<Host>>
-        ensures held { option_map (λ b. b.value) result ≡ self.old.host }
+    /// Takes the host out, with its counters; None where it holds none.
+    pub(crate) fn take(&mut self, alloc: Global) -> Option<Box<Counted>>
+        ensures held { option_map (λ b. b.value.host) result ≡ self.old.host }
+        ensures counted { option_map (λ b. b.value.counters) result ≡ self.old.counters }
         ensures empty { self.new.host ≡ None }
+        ensures uncounted { self.new.counters ≡ None }
     {
         let parts = replace(self, Handle::empty()).open(alloc)?;
         Some(parts.into_box())
     }
 
-    /// What a call of the host that it holds answers. EBADF where it holds none.
+    /// What a call of the host that it holds answers. EBADF where it holds none. Nothing is counted.
     pub(crate) fn ask<A, F: FnOnce(&mut Host) -> Result<A, Refusal>>(
         &mut self,
         alloc: Global,
         call: F,
     ) -> Result<A, Refusal>
         requires { F.IsAlwaysCallable call }
-        ensures { Asks (FnOnceReturnsAtMut F.FnOnce call) self.old.host result self.new.host }
+        ensures asks { Asks (FnOnceReturnsAtMut F.FnOnce call) self.old.host result self.new.host }
+        ensures counters { self.new.counters ≡ self.old.counters }
     {
-        let Some(mut host) = self.take(alloc) else {
+        let Some(mut kept) = self.take(alloc) else {
             return Err(Refusal::EBADF);
         };
-        let answer = call(&mut host);
-        self.put(alloc, host);
+        let answer = call(&mut kept.host);
+        self.put(alloc, kept);
         answer
     }
 
-    /// Puts a host in. One that it held is gone.
-    pub(crate) fn put(&mut self, alloc: Global, host: Box<Host>)
-        ensures { self.new.host ≡ Some host.value }
+    /// Puts a host in, with its counters. One that it held is gone.
+    pub(crate) fn put(&mut self, alloc: Global, kept: Box<Counted>)
+        ensures host { self.new.host ≡ Some kept.value.host }
+        ensures counters { self.new.counters ≡ Some kept.value.counters }
     {
-        let before = replace(self, Handle::of(Parts::of(host)));
+        let before = replace(self, Handle::of(Parts::of(kept)));
         if let Some(parts) = before.open(alloc) {
             drop(parts.into_box());
         }

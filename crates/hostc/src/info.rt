@@ -29,6 +29,7 @@ pub extern "C" fn host_info_into(
     ensures answer { result ≡ answered (of_host (λ h. numbered (λ i. 0) (info_answer h.sockets (socket_of id))) handle.old.host) }
     ensures numbers { numbers.new ≡ written (λ i. told_over numbers.old (info_numbers i)) (result_ok (of_host (λ h. info_answer h.sockets (socket_of id)) handle.old.host)) numbers.old }
     ensures same { handle.new.host ≡ handle.old.host }
+    ensures counters { handle.new.counters ≡ handle.old.counters }
 {
     info_told(handle.ask(alloc, |host| host.info(SocketId(id))), numbers)
 }
@@ -40,7 +41,7 @@ fn info_told(answer: Result<Info, Refusal>, numbers: &mut [i64]) -> i64
 {
     match answer {
         Ok(info) => {
-            write_over(numbers, info_numbers(info));
+            write_over(numbers, &info_numbers(info));
             0
         }
         Err(refusal) => refused(refusal),
@@ -48,10 +49,10 @@ fn info_told(answer: Result<Info, Refusal>, numbers: &mut [i64]) -> i64
 }
 
 /// Writes the first of these numbers, as many as there are places.
-fn write_over(numbers: &mut [i64], told: [i64; NUMBERS])
-    ensures { numbers.new ≡ told_over numbers.old told }
+pub(crate) fn write_over(numbers: &mut [i64], told: &[i64])
+    ensures { numbers.new ≡ told_over numbers.old told.now }
 {
-    let count = numbers.len().min(NUMBERS);
+    let count = numbers.len().min(told.len());
     numbers[..count].copy_from_slice(&told[..count]);
 }
 

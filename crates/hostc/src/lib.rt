@@ -5,6 +5,8 @@
 mod calls;
 mod config;
 mod convert;
+mod counted;
+mod counts;
 mod datagrams;
 mod handle;
 mod info;

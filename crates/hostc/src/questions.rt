@@ -22,6 +22,7 @@ use std::alloc::Global;
 pub extern "C" fn host_state(alloc: Global, handle: &mut Handle, id: u64) -> i64
     ensures answer { result ≡ answered (of_host (λ h. numbered state_number (state_answer h.sockets (socket_of id))) handle.old.host) }
     ensures same { handle.new.host ≡ handle.old.host }
+    ensures counters { handle.new.counters ≡ handle.old.counters }
 {
     state_told(handle.ask(alloc, |host| host.state(SocketId(id))))
 }
@@ -40,6 +41,7 @@ pub extern "C" fn host_would_connect(
     ensures answer { result ≡ answered (of_host (λ h. Ok (whether (pair_connected h.sockets (socket_of id) (endpoint_of addr port) (is_routed h.interface (addr_of addr))))) handle.old.host) }
     ensures pair { pair.new ≡ written ends_of (option_and_then (λ h. pair_connected h.sockets (socket_of id) (endpoint_of addr port) (is_routed h.interface (addr_of addr))) handle.old.host) pair.old }
     ensures same { handle.new.host ≡ handle.old.host }
+    ensures counters { handle.new.counters ≡ handle.old.counters }
 {
     shown(
         handle.ask(
@@ -62,6 +64,7 @@ pub extern "C" fn host_would_open(
     ensures answer { result ≡ answered (of_host (λ h. Ok (whether (foreseen h frame.now))) handle.old.host) }
     ensures pair { pair.new ≡ written ends_of (option_and_then (λ h. foreseen h frame.now) handle.old.host) pair.old }
     ensures same { handle.new.host ≡ handle.old.host }
+    ensures counters { handle.new.counters ≡ handle.old.counters }
 {
     shown(handle.ask(alloc, |host| Ok(host.would_open(frame))), pair)
 }
@@ -73,6 +76,7 @@ pub extern "C" fn host_sockname(alloc: Global, handle: &mut Handle, id: u64, end
     ensures answer { result ≡ answered (of_host (λ h. numbered (λ e. 0) (sockname_answer h.sockets (socket_of id))) handle.old.host) }
     ensures end { end.new ≡ written end_of (result_ok (of_host (λ h. sockname_answer h.sockets (socket_of id)) handle.old.host)) end.old }
     ensures same { handle.new.host ≡ handle.old.host }
+    ensures counters { handle.new.counters ≡ handle.old.counters }
 {
     shown_end(handle.ask(alloc, |host| host.sockname(SocketId(id))), end)
 }
@@ -84,6 +88,7 @@ pub extern "C" fn host_peername(alloc: Global, handle: &mut Handle, id: u64, end
     ensures answer { result ≡ answered (of_host (λ h. numbered (λ e. 0) (peername_answer h.sockets (socket_of id))) handle.old.host) }
     ensures end { end.new ≡ written end_of (result_ok (of_host (λ h. peername_answer h.sockets (socket_of id)) handle.old.host)) end.old }
     ensures same { handle.new.host ≡ handle.old.host }
+    ensures counters { handle.new.counters ≡ handle.old.counters }
 {
     shown_end(handle.ask(alloc, |host| host.peername(SocketId(id))), end)
 }

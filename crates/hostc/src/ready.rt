@@ -19,6 +19,7 @@ use std::alloc::Global;
 pub extern "C" fn host_ready(alloc: Global, handle: &mut Handle, id: u64) -> i64
     ensures answer { result ≡ answered (of_host (λ h. numbered bits_of (readiness h.sockets (socket_of id))) handle.old.host) }
     ensures same { handle.new.host ≡ handle.old.host }
+    ensures counters { handle.new.counters ≡ handle.old.counters }
 {
     match handle.ask(alloc, |host| host.ready(SocketId(id))) {
         Ok(ready) => told(u64::from(bits_of(ready))),
@@ -39,6 +40,7 @@ pub extern "C" fn host_next_ready(
     ensures answer { result ≡ answered (of_host (λ h. Ok (id_or_none (option_map (λ found. found.0) (next_ready h.sockets (socket_of after) (mask_of mask))))) handle.old.host) }
     ensures bits { bits.new ≡ written (λ found. bits_of found.1) (option_and_then (λ h. next_ready h.sockets (socket_of after) (mask_of mask)) handle.old.host) bits.old }
     ensures same { handle.new.host ≡ handle.old.host }
+    ensures counters { handle.new.counters ≡ handle.old.counters }
 {
     match handle.ask(
         alloc,
@@ -58,6 +60,7 @@ pub extern "C" fn host_next_ready(
 pub extern "C" fn host_recv_len(alloc: Global, handle: &mut Handle, id: u64) -> i64
     ensures answer { result ≡ answered (of_host (λ h. recv_len h.sockets (socket_of id)) handle.old.host) }
     ensures same { handle.new.host ≡ handle.old.host }
+    ensures counters { handle.new.counters ≡ handle.old.counters }
 {
     counted(handle.ask(alloc, |host| host.recv_len(SocketId(id))))
 }
@@ -67,6 +70,7 @@ pub extern "C" fn host_recv_len(alloc: Global, handle: &mut Handle, id: u64) -> 
 pub extern "C" fn host_send_room(alloc: Global, handle: &mut Handle, id: u64) -> i64
     ensures answer { result ≡ answered (of_host (λ h. send_room h.sockets (socket_of id)) handle.old.host) }
     ensures same { handle.new.host ≡ handle.old.host }
+    ensures counters { handle.new.counters ≡ handle.old.counters }
 {
     counted(handle.ask(alloc, |host| host.send_room(SocketId(id))))
 }
@@ -76,6 +80,7 @@ pub extern "C" fn host_send_room(alloc: Global, handle: &mut Handle, id: u64) ->
 pub extern "C" fn host_concerns(alloc: Global, handle: &mut Handle, frame: &[u8]) -> i64
     ensures answer { result ≡ answered (of_host (λ h. Ok (id_or_none (concerned h frame.now))) handle.old.host) }
     ensures same { handle.new.host ≡ handle.old.host }
+    ensures counters { handle.new.counters ≡ handle.old.counters }
 {
     match handle.ask(alloc, |host| Ok(host.concerns(frame))) {
         Ok(Some(id)) => told(id.0),

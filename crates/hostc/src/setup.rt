@@ -1,10 +1,13 @@
 //! The making of a host, and its end.
 
 ghost use Rattle.std.specs.Prelude.{◌≡◌, ◌⊎◌, ◌↔◌, true, None, Ok, Err, IfOk, IfErr, IsOk, MatchResult};
+ghost use Rattle.counters.specs.Counting.{new_counters};
+ghost use Rattle.hostc.specs.Counters.{CountsAnew};
 ghost use Rattle.hostc.specs.Setup.{IsNew, IsTold, IsValidSetup, IsValidTable, Setup, SetupBy};
 
 use crate::config::Config;
 use crate::convert::{addr_of, hop_of, refused};
+use crate::counted::Counted;
 use crate::handle::Handle;
 use crate::types::HostRoute;
 use ether::Mac;
@@ -25,7 +28,8 @@ pub extern "C" fn host_new(
     addr: u32,
     routes: &[HostRoute],
 ) -> i64
-    ensures { Setup (record { mac = record { 0 = mac.now }; addr = addr; scales = true }) routes.now handle.old.host result handle.new.host }
+    ensures made { Setup (record { mac = record { 0 = mac.now }; addr = addr; scales = true }) routes.now handle.old.host result handle.new.host }
+    ensures counters { CountsAnew result handle.old.counters handle.new.counters }
 {
     let config = Config {
         mac: Mac(*mac),
@@ -46,7 +50,8 @@ pub extern "C" fn host_new_from(
     config: &[u8],
     routes: &[HostRoute],
 ) -> i64
-    ensures { SetupBy config.now routes.now handle.old.host result handle.new.host }
+    ensures made { SetupBy config.now routes.now handle.old.host result handle.new.host }
+    ensures counters { CountsAnew result handle.old.counters handle.new.counters }
 {
     match Config::read(config) {
         Some(config) => set_up(alloc, handle, config, routes),
@@ -56,42 +61,55 @@ pub extern "C" fn host_new_from(
 
 /// Makes a host by this config and these routes, and has the handle hold it. Answers 0, EINVAL or ENOMEM.
 fn set_up(alloc: Global, handle: &mut Handle, config: Config, routes: &[HostRoute]) -> i64
-    ensures { Setup config routes.now handle.old.host result handle.new.host }
+    ensures made { Setup config routes.now handle.old.host result handle.new.host }
+    ensures counters { CountsAnew result handle.old.counters handle.new.counters }
 {
-    if let Some(host) = handle.take(alloc) {
-        handle.put(alloc, host);
+    if let Some(kept) = handle.take(alloc) {
+        handle.put(alloc, kept);
         return refused(Refusal::EINVAL);
     }
     let host = match made(alloc, config, routes) {
         Ok(host) => host,
         Err(refusal) => return refused(refusal),
     };
-    handle.put(alloc, host);
+    let kept = match boxed(alloc, host) {
+        Ok(kept) => kept,
+        Err(refusal) => return refused(refusal),
+    };
+    handle.put(alloc, kept);
     0
 }
 
 /// Ends the host that the handle holds, and gives its memory back. The handle holds none then. Does nothing where it held none.
 #[unsafe(no_mangle)]
 pub extern "C" fn host_free(alloc: Global, handle: &mut Handle)
-    ensures { handle.new.host ≡ None }
+    ensures host { handle.new.host ≡ None }
+    ensures counters { handle.new.counters ≡ None }
 {
     let _ = handle.take(alloc);
 }
 
-/// A host by this config, with these routes, on the heap. EINVAL, ENOMEM.
-fn made(alloc: Global, config: Config, routes: &[HostRoute]) -> Result<Box<Host>, Refusal>
-    ensures ok { IfOk result (λ host. IsValidSetup config routes.now × IsNew config routes.now host.value) }
+/// A host by this config, with these routes. EINVAL, ENOMEM.
+fn made(alloc: Global, config: Config, routes: &[HostRoute]) -> Result<Host, Refusal>
+    ensures ok { IfOk result (λ host. IsValidSetup config routes.now × IsNew config routes.now host) }
     ensures refusal { IfErr result (λ refusal. ((refusal ≡ Refusal.EINVAL) × ¬ IsValidSetup config routes.now) ⊎ ((refusal ≡ Refusal.ENOMEM) × IsValidSetup config routes.now)) }
 {
     let table = table(routes)?;
     let set = host::Config::new(config.mac, addr_of(config.addr), table)?.with_scale(config.scales);
-    let host = Host::new(alloc, set)?;
-    in_box(Box::new(alloc, host))
+    Host::new(alloc, set)
+}
+
+/// A host on the heap, of which nothing is counted yet. ENOMEM.
+fn boxed(alloc: Global, host: Host) -> Result<Box<Counted>, Refusal>
+    ensures ok { IfOk result (λ kept. (kept.value.host ≡ host) × (kept.value.counters ≡ new_counters)) }
+    ensures refusal { IfErr result (λ refusal. refusal ≡ Refusal.ENOMEM) }
+{
+    in_box(Box::new(alloc, Counted::new(host)))
 }
 
 /// The host in its box. ENOMEM exactly where memory was refused that.
-fn in_box(given: Result<Box<Host>, AllocFailed<Host>>) -> Result<Box<Host>, Refusal>
-    ensures { MatchResult given (λ host. result ≡ Ok host) (λ refused. result ≡ Err Refusal.ENOMEM) }
+fn in_box(given: Result<Box<Counted>, AllocFailed<Counted>>) -> Result<Box<Counted>, Refusal>
+    ensures { MatchResult given (λ kept. result ≡ Ok kept) (λ refused. result ≡ Err Refusal.ENOMEM) }
 {
     given.map_err(|_| Refusal::ENOMEM)
 }

@@ -56,6 +56,7 @@ extern "C" {
     pub fn host_would_connect(host: *mut Host, id: u64, addr: u32, port: u16, pair: *mut [Endpoint; 2]) -> i64;
     pub fn host_would_open(host: *mut Host, frame: *const u8, len: usize, pair: *mut [Endpoint; 2]) -> i64;
     pub fn host_info_into(host: *mut Host, id: u64, numbers: *mut i64, count: usize) -> i64;
+    pub fn host_counters_into(host: *mut Host, numbers: *mut i64, count: usize) -> i64;
     pub fn host_ready(host: *mut Host, id: u64) -> i64;
     pub fn host_next_ready(host: *mut Host, after: u64, mask: u32, bits: *mut u32) -> i64;
     pub fn host_recv_len(host: *mut Host, id: u64) -> i64;

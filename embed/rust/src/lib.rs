@@ -17,12 +17,14 @@
 #![warn(missing_docs)]
 
 mod c;
+mod counters;
 mod device;
 mod error;
 mod host;
 mod info;
 mod ready;
 
+pub use counters::Counters;
 pub use device::{Device, Heard};
 pub use error::{DropCause, Error};
 pub use host::{Config, Host, Kind, Pair, Route, SocketId, State};

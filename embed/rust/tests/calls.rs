@@ -81,6 +81,11 @@ fn drops_have_their_causes() {
     frame[..6].copy_from_slice(&MAC);
     assert_eq!(host.deliver(0, 1, &frame).unwrap_err().to_string(), "OtherType");
     assert_eq!(host.would_open(&frame), None);
+    let counted = host.counters();
+    assert_eq!((counted.frames_in, counted.octets_in, counted.frames_out, counted.octets_out), (3, 13 + 60 + 60, 0, 0));
+    assert_eq!((counted.short_frame, counted.other_mac, counted.other_type), (1, 1, 1));
+    assert_eq!([counted.ip_header, counted.ip_sum, counted.other_address, counted.upper_header, counted.upper_sum, counted.fragment], [0; 6]);
+    assert_eq!([counted.backlog, counted.table, counted.memory, counted.replies, counted.queue, counted.reassembly, counted.route], [0; 7]);
 }
 
 #[test]
