@@ -599,7 +599,7 @@ def statistics():
         status, said = tap.result(5)
         peer = f"{LINUX}:{client.getsockname()[1]}"
     counts = re.search(r"^tap: (\d+) frames in, (\d+) out; octets: (\d+) in, (\d+) out; dropped:", said, re.MULTILINE)
-    want(status == 0 and counts and all(int(count) > 3 for count in counts.groups()), said)
+    want(status == 0 and counts and all(int(count) >= 3 for count in counts.groups()), said)
     want(re.search(rf"^tap: \d+ ESTABLISHED {re.escape(peer)} in_flight 0 unsent 0 readable 0 ", said, re.MULTILINE), said)
     return "a line of counts, and one of the connection"
 

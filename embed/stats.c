@@ -3,39 +3,45 @@
 
 #include <inttypes.h>
 
-/* A count, where it isn't 0. */
-static void print_count(const char *name, int64_t count)
+/* A count, and of what it is. */
+struct named {
+    const char *name;
+    int64_t count;
+};
+
+/* Those that aren't 0. */
+static void print_named(const char *title, const struct named *counts, size_t many)
 {
-    if (count != 0) {
-        fprintf(stderr, " %s %" PRId64, name, count);
+    bool any = false;
+    fprintf(stderr, "; %s:", title);
+    for (size_t i = 0; i < many; i++) {
+        if (counts[i].count != 0) {
+            fprintf(stderr, " %s %" PRId64, counts[i].name, counts[i].count);
+            any = true;
+        }
     }
+    fputs(any ? "" : " none", stderr);
 }
 
 void print_counters(struct tap *tap)
 {
-    struct host_counters counted = {.size = sizeof counted};
-    if (host_counters(&tap->host, &counted) < 0) {
+    struct host_counters of = {.size = sizeof of};
+    if (host_counters(&tap->host, &of) < 0) {
         return;
     }
-    fprintf(stderr, "tap: %" PRId64 " frames in, %" PRId64 " out; octets: %" PRId64 " in, %" PRId64 " out; dropped:", counted.frames_in,
-            counted.frames_out, counted.octets_in, counted.octets_out);
-    print_count("Short", counted.short_frame);
-    print_count("OtherMac", counted.other_mac);
-    print_count("OtherType", counted.other_type);
-    print_count("IpHeader", counted.ip_header);
-    print_count("IpSum", counted.ip_sum);
-    print_count("OtherAddress", counted.other_address);
-    print_count("UpperHeader", counted.upper_header);
-    print_count("UpperSum", counted.upper_sum);
-    print_count("Fragment", counted.fragment);
-    fputs("; no room:", stderr);
-    print_count("backlog", counted.backlog);
-    print_count("table", counted.table);
-    print_count("memory", counted.memory);
-    print_count("replies", counted.replies);
-    print_count("queue", counted.queue);
-    print_count("reassembly", counted.reassembly);
-    print_count("route", counted.route);
+    const struct named drops[] = {
+        {"Short", of.short_frame}, {"OtherMac", of.other_mac},          {"OtherType", of.other_type},
+        {"IpHeader", of.ip_header}, {"IpSum", of.ip_sum},               {"OtherAddress", of.other_address},
+        {"Fragment", of.fragment}, {"UpperHeader", of.upper_header},    {"UpperSum", of.upper_sum},
+    };
+    const struct named lacks[] = {
+        {"backlog", of.backlog}, {"table", of.table}, {"memory", of.memory}, {"replies", of.replies},
+        {"queue", of.queue},     {"reassembly", of.reassembly}, {"route", of.route},
+    };
+    fprintf(stderr, "tap: %" PRId64 " frames in, %" PRId64 " out; octets: %" PRId64 " in, %" PRId64 " out", of.frames_in, of.frames_out,
+            of.octets_in, of.octets_out);
+    print_named("dropped", drops, sizeof drops / sizeof *drops);
+    print_named("no room", lacks, sizeof lacks / sizeof *lacks);
     if (tap->options.openings != 0) {
         fprintf(stderr, "; put off: %" PRIu64, tap->put_off);
     }
