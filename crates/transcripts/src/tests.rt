@@ -11,6 +11,7 @@ mod drops;
 mod examples;
 mod failures;
 mod hops;
+mod info;
 mod ladders;
 mod lines;
 mod ready;
@@ -69,8 +70,8 @@ pass 0 -> a 1 b 0
 ";
 
 /// All transcripts. Each is a list of parts, in whose lines an arrow parts a script's line from what it prints; a line without
-/// one prints nothing.
-const TRANSCRIPTS: [&[&[&str]]; 17] = [
+/// one prints nothing. Where it prints several lines, each further one stands behind an arrow of its own.
+const TRANSCRIPTS: [&[&[&str]]; 18] = [
     aborts::TRANSCRIPTS,
     backlog::TRANSCRIPTS,
     closing::TRANSCRIPTS,
@@ -78,6 +79,7 @@ const TRANSCRIPTS: [&[&[&str]]; 17] = [
     drops::TRANSCRIPTS,
     examples::TRANSCRIPTS,
     hops::TRANSCRIPTS,
+    info::TRANSCRIPTS,
     ready::TRANSCRIPTS,
     refusals::TRANSCRIPTS,
     resets::TRANSCRIPTS,

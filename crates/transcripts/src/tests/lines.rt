@@ -66,6 +66,9 @@ const BAD: &str = " \n\
     a nodelay 1 on off\n\
     a ready\n\
     a ready 1 1\n\
+    a info\n\
+    a info 1 1\n\
+    a info x\n\
     a close\n\
     a close 1 1\n\
     a abort\n\

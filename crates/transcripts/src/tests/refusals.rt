@@ -27,6 +27,7 @@ a nodelay 1 off -> E1 EBADF
 a close 1 -> E1 EBADF
 a abort 1 -> E1 EBADF
 a state 1 -> E1 EBADF
+a info 1 -> E1 EBADF
 ";
 
 const GIVEN_BACK: &str = "a socket tcp -> id 1
@@ -44,6 +45,7 @@ b shutdown 2 -> E1 EBADF
 b nodelay 2 on -> E1 EBADF
 b close 2 -> E1 EBADF
 b abort 2 -> E1 EBADF
+b info 2 -> E1 EBADF
 b accept 1 -> id 2 10.0.0.1 49152
 b state 2 -> ESTABLISHED
 ";
@@ -65,6 +67,7 @@ a count 1 0 -> E2 EINVAL
 a count 1 1 -> E6 ENOTCONN
 a shutdown 1 -> E6 ENOTCONN
 a nodelay 1 on -> E6 ENOTCONN
+a info 1 -> E6 ENOTCONN
 a bind 1 5 -> ok
 a bind 1 0 -> E2 EINVAL
 a bind 1 6 -> E2 EINVAL
@@ -76,6 +79,7 @@ a send 1 x -> E6 ENOTCONN
 a recv 1 1 -> E6 ENOTCONN
 a shutdown 1 -> E6 ENOTCONN
 a nodelay 1 off -> E6 ENOTCONN
+a info 1 -> E6 ENOTCONN
 a sendto 1 80 x -> E17 EOPNOTSUPP
 a fillto 1 0 65508 -> E17 EOPNOTSUPP
 a recvfrom 1 1 -> E17 EOPNOTSUPP
@@ -102,6 +106,7 @@ a count 1 0 -> E17 EOPNOTSUPP
 a count 1 1 -> E17 EOPNOTSUPP
 a shutdown 1 -> E17 EOPNOTSUPP
 a nodelay 1 on -> E17 EOPNOTSUPP
+a info 1 -> E17 EOPNOTSUPP
 a sendto 1 80 x -> E17 EOPNOTSUPP
 a fillto 1 0 65508 -> E17 EOPNOTSUPP
 a recvfrom 1 1 -> E17 EOPNOTSUPP
@@ -145,6 +150,7 @@ a recv 1 1 -> E17 EOPNOTSUPP
 a count 1 0 -> E17 EOPNOTSUPP
 a shutdown 1 -> E17 EOPNOTSUPP
 a nodelay 1 on -> E17 EOPNOTSUPP
+a info 1 -> E17 EOPNOTSUPP
 a recvfrom 1 0 -> E2 EINVAL
 a recvfrom 1 1 -> E8 EAGAIN
 a countfrom 1 0 -> E2 EINVAL
