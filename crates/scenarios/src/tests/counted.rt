@@ -1,6 +1,6 @@
 //! What is counted of a host, and what frames find no room at.
 
-use super::octets::{ECHO, FRAGMENT_A, HI, STRAY, SYN};
+use super::octets::{ECHO, FRAGMENT_A, HI, SYN};
 use super::stations::Side::B;
 use super::stations::{ONE, SERVER, THREE, config};
 use clock::Moment;
@@ -22,6 +22,12 @@ const SECOND_SYN: &[u8] = b"\x02\0\0\0\0\x02\x02\0\0\0\0\x01\x08\0\
     \x45\0\0\x2c\0\0\x40\0\x40\x06\x26\xca\x0a\0\0\x01\x0a\0\0\x02\
     \xc0\x01\0\x50\xff\xff\xff\xff\0\0\0\0\x60\x02\xff\xff\xc3\xd2\0\0\x02\x04\x05\xb4\
     \0\0";
+
+/// An acknowledgement of what B never sent, on the connection of `SYN`, with the number that stands next there.
+const WRONG_ACK: &[u8] = b"\x02\0\0\0\0\x02\x02\0\0\0\0\x01\x08\0\
+    \x45\0\0\x28\0\0\x40\0\x40\x06\x26\xce\x0a\0\0\x01\x0a\0\0\x02\
+    \xc0\0\0\x50\0\0\0\0\0\x01\x11\x70\x50\x10\0\x64\xc9\xac\0\0\
+    \0\0\0\0\0\0";
 
 /// The port that `HI` is for.
 const WAITING: Endpoint = Endpoint {
@@ -103,7 +109,7 @@ fn what_comes_and_goes_is_counted(rt: HostRuntime) {
     }
     assert!(rt; station.lacks(ECHO, Lack::Replies));
     assert!(rt; station.lacks(HI, Lack::Replies));
-    assert!(rt; station.lacks(STRAY, Lack::Replies));
+    assert!(rt; station.lacks(WRONG_ACK, Lack::Replies));
     for identification in 0..4 {
         assert!(rt; station.takes(&fragment(identification), None));
     }
