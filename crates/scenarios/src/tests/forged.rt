@@ -177,27 +177,9 @@ impl Forged {
         }
     }
 
-    /// One of which a bit is turned over.
-    fn turned(frame: &[u8], bit: usize) -> Forged {
-        let place = bit / 8;
-        let old = match frame.get(place) {
-            Some(octet) => *octet,
-            None => 0,
-        };
-        Forged::new(frame, place, old ^ MASKS[bit % 8])
-    }
-
     fn as_slice(&self) -> &[u8] {
         &self.octets[..self.len.min(64)]
     }
-}
-
-/// The bits of an octet.
-const MASKS: [u8; 8] = [1, 2, 4, 8, 16, 32, 64, 128];
-
-/// How many bits a frame of at most 64 octets has.
-fn bits_of(frame: &Frame) -> usize {
-    frame.octets.len().min(64) * 8
 }
 
 /// The address that a frame is for (RFC 791, behind a head without options); an ARP packet, and what is too short, are for any.
@@ -219,9 +201,6 @@ fn is_well_formed(frame: &[u8]) -> bool {
     60 <= frame.len() && frames::read(mac, address_of(frame), frame).is_ok()
 }
 
-/// How many control replies wait at most.
-const MOST_ANSWERS: u32 = 16;
-
 /// More frames than are due at once.
 const MOST_FRAMES: usize = 16;
 
@@ -238,30 +217,22 @@ fn emits_well(station: &mut Station) -> bool {
     false
 }
 
-/// How hosts that heard nothing answer a frame with each of its bits turned over in turn. Nothing is due after a drop, and one that heard all that are dropped
-/// draws from the frame itself what is drawn without them.
-fn alone(rt: &impl Abort, alloc: Global, frame: &Frame) -> Counts {
-    let (mut steady, mut other) = (fresh(rt, alloc, frame.to), fresh(rt, alloc, frame.to));
-    let mut counts = [0; 11];
-    for bit in 0..bits_of(frame) {
-        let forged = Forged::turned(frame.octets, bit);
-        let answer = other.hear(7, forged.as_slice());
-        count(&mut counts, answer);
-        if answer.is_ok() {
-            assert!(rt; emits_well(&mut other));
-            other = fresh(rt, alloc, frame.to);
-        } else {
-            assert!(rt; steady.hear(7, forged.as_slice()) == answer);
-            assert!(rt; steady.emits(None) && steady.waits_until(None));
-        }
+/// A host that heard nothing hears a forged frame. If that is dropped, nothing is due, and the frame itself draws what it draws without it.
+fn alone(rt: &impl Abort, alloc: Global, frame: &Frame, octets: &[u8]) -> Result<(), DropCause> {
+    let mut host = fresh(rt, alloc, frame.to);
+    let answer = host.hear(7, octets);
+    if answer.is_ok() {
+        assert!(rt; emits_well(&mut host));
+        return answer;
     }
-    assert!(rt; steady.hear(7, frame.octets) == Ok(()));
+    assert!(rt; host.emits(None) && host.waits_until(None));
+    assert!(rt; host.hear(7, frame.octets) == Ok(()));
     let draws_the_same = match frame.draws {
-        Some(drawn) => steady.emits_frame(drawn),
-        None => steady.emits(None),
+        Some(drawn) => host.emits_frame(drawn),
+        None => host.emits(None),
     };
     assert!(rt; draws_the_same);
-    counts
+    answer
 }
 
 /// Two hosts that play the row.
@@ -272,16 +243,6 @@ struct Pair {
 }
 
 impl Pair {
-    /// Two that played these parts.
-    fn behind(rt: &impl Abort, alloc: Global, parts: &[&[Step]]) -> Pair {
-        let mut pair = Pair {
-            a: fresh(rt, alloc, A),
-            b: fresh(rt, alloc, B),
-        };
-        pair.plays(rt, parts, false);
-        pair
-    }
-
     /// Does what is done at a host, and tells whether it is answered so.
     fn does(&mut self, side: Side, act: Act) -> bool {
         match side {
@@ -314,40 +275,49 @@ impl Pair {
     }
 }
 
-/// How the frame with this number is answered with each of its bits turned over in turn, right before it comes itself. Where all that are dropped came first, the
-/// rest of the row is as it is without them.
-fn in_the_row(rt: &impl Abort, alloc: Global, number: usize, frame: &Frame) -> Counts {
+/// In the row a forged frame comes right before the frame with this number. If it is dropped, that frame and the rest of the row are answered as they are without it.
+fn in_the_row(
+    rt: &impl Abort,
+    alloc: Global,
+    number: usize,
+    frame: &Frame,
+    octets: &[u8],
+) -> Result<(), DropCause> {
+    let mut pair = Pair {
+        a: fresh(rt, alloc, A),
+        b: fresh(rt, alloc, B),
+    };
     let place = number.saturating_add(BEFORE);
     let (before, behind) = ROW.split_at_checked(place).expect(rt, "a frame of the row");
-    let mut steady = Pair::behind(rt, alloc, before);
-    let mut other = Pair::behind(rt, alloc, before);
-    let mut counts = [0; 11];
-    for bit in 0..bits_of(frame) {
-        let forged = Forged::turned(frame.octets, bit);
-        let answer = other.hears(frame.to, forged.as_slice());
-        count(&mut counts, answer);
-        if answer.is_ok() {
-            other.plays(rt, behind, true);
-            other = Pair::behind(rt, alloc, before);
-        } else {
-            assert!(rt; steady.hears(frame.to, forged.as_slice()) == answer);
-        }
-    }
-    steady.plays(rt, behind, false);
-    counts
+    pair.plays(rt, before, false);
+    let answer = pair.hears(frame.to, octets);
+    pair.plays(rt, behind, answer.is_ok());
+    answer
 }
 
-/// Each bit of each frame of the row is turned over, for hosts that heard nothing and in the row.
+/// Each bit of each frame of the row is turned over, for a host that heard nothing and in the row.
 fn turned_bits(rt: &impl Abort, alloc: Global) {
     for (number, frame) in FRAMES.iter().enumerate() {
-        let by_fresh = alone(rt, alloc, frame);
-        let by_known = in_the_row(rt, alloc, number, frame);
+        let (mut by_fresh, mut by_known) = ([0; 11], [0; 11]);
+        for (place, octet) in frame.octets.iter().enumerate() {
+            for mask in [1, 2, 4, 8, 16, 32, 64, 128] {
+                let forged = Forged::new(frame.octets, place, *octet ^ mask);
+                count(&mut by_fresh, alone(rt, alloc, frame, forged.as_slice()));
+                count(
+                    &mut by_known,
+                    in_the_row(rt, alloc, number, frame, forged.as_slice()),
+                );
+            }
+        }
         assert!(rt;
             by_fresh == frame.counts && by_known == frame.counts,
             "frame {number}"
         );
     }
 }
+
+/// How many control replies wait at most.
+const MOST_ANSWERS: u32 = 16;
 
 /// How the request and the SYN are answered with each octet in turn each other one: one sender has our own address, and others' addresses aren't unicast.
 const OTHER_OCTETS: [(usize, Counts); 2] = [
