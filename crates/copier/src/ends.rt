@@ -7,6 +7,7 @@ ghost use Rattle.copier.specs.Faults.{link_fails, IsOfBeginning, IsOfHosts};
 ghost use Rattle.copier.specs.Moves.{copy_of, host_of, with_host, GoesOn, Emits, Hears, Writes, Closes, Reads, GivesFront, KeepsTold, Carries, Passes};
 ghost use Rattle.copy_law.specs.Course.{IsCourse, holds_pair_of, MakesSocket, Listens, Connects, clock_after};
 ghost use Rattle.host.specs.Sound.{IsSoundHost};
+ghost use Rattle.host.specs.ConfigView.{IsConfig};
 ghost use Rattle.host.specs.HostView.{HostView, new_host, with_sockets};
 ghost use Rattle.sockets.specs.Calls.{recv_answer, after_recv};
 ghost use Rattle.host.specs.Emission.{after_emission, emission_front, emission_len};
@@ -384,10 +385,12 @@ fn later(clock: Moment, moment: Moment) -> Moment
 
 /// The host of a side.
 fn host(alloc: Global, side: Side) -> Result<Host, CopyFault>
-    ensures host { IfOk result (λ host. (config : _) × IsSetUp true side config × (host ≡ new_host config)) }
+    ensures host { IfOk result (λ host. (config : _) × IsSetUp true side config × IsConfig config × (host ≡ new_host config)) }
     ensures fault { IfErr result IsOfBeginning }
 {
-    match Host::new(alloc, config(side)) {
+    let config = config(side);
+    config.sound();
+    match Host::new(alloc, config) {
         Ok(host) => Ok(host),
         Err(refusal) => Err(CopyFault::Host(refusal)),
     }

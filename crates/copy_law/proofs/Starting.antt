@@ -9,7 +9,7 @@ use Rattle.sockets.specs.declared.refusal.Refusal.{Refusal}
 use Rattle.sockets.specs.SocketsView.{SocketsView}
 use Rattle.sockets.specs.Pairs.{socket_pair}
 use Rattle.sockets.specs.Calls.{unless_refused, bind_refusal, after_bind, listen_refusal, after_listen, connect_refusal, after_connect}
-use Rattle.host.specs.ConfigView.{ConfigView}
+use Rattle.host.specs.ConfigView.{ConfigView, IsConfig}
 use Rattle.host.specs.HostView.{HostView, new_host, with_sockets}
 use Rattle.host.specs.Sound.{IsSoundHost}
 use Rattle.sides.specs.declared.side.Side.TheVariants.{A, B}
@@ -50,10 +50,10 @@ record Prepared (a b : HostView) (sender : SocketId) : Type 0 where
   reached : IsReached (2 ^ 30) (world_of a b (record { 0 = 0 }) [] [] [] trace)
   tells : IsTold trace sender None [] [] false false
 
-prepared-first : (a b : ConfigView) (sender : SocketId) → are_alike a b ≡ false → Prepared (new_host a) (new_host b) sender
-prepared-first a b sender apart = record {
+prepared-first : (a b : ConfigView) (sender : SocketId) → IsConfig a → IsConfig b → are_alike a b ≡ false → Prepared (new_host a) (new_host b) sender
+prepared-first a b sender a_is b_is apart = record {
   trace = [];
-  reached = runs.begins a b apart (omega arith);
+  reached = runs.begins a b a_is b_is apart (omega arith);
   tells = record { gave = refl; shut = refl; others = λ id e. (refl, refl); none_back = λ id. refl; got = (refl, refl, λ id. (refl, refl)) };
 }
 
@@ -141,7 +141,7 @@ connects-at_a a b new sender sound c p = by_pair (socket_pair new.sockets sender
 
 pub stands-first : (v : CopyView) → Starts v → Stands v
 stands-first v s =
-    let fresh = prepared-first s.config_a s.config_b v.sender s.apart in
+    let fresh = prepared-first s.config_a s.config_b v.sender s.set_up_a s.set_up_b s.apart in
     let made = socket-at_b (new_host s.config_a) (new_host s.config_b) s.b_made v.sender s.listener s.a_socket.sound s.b_socket fresh in
     let ready = listens-at_b (new_host s.config_a) s.b_made v.b v.sender s.listener s.a_socket.sound s.b_listens made in
     let socket = socket-at_a (new_host s.config_a) v.b s.a_made v.sender v.sender s.sound_b s.a_socket ready in

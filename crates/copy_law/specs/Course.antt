@@ -13,7 +13,7 @@ use Rattle.sockets.specs.declared.entry.SocketId.{SocketId}
 use Rattle.sockets.specs.Sound.{IsEndpoint}
 use Rattle.sockets.specs.SocketsView.{holder_id}
 use Rattle.sockets.specs.Calls.{is_table_full, IsMade, bind_refusal, after_bind, listen_refusal, after_listen, accept_answer, after_accept, connect_refusal, after_connect, send_answer, after_send, recv_answer, after_recv, shutdown_refusal, after_shutdown}
-use Rattle.host.specs.ConfigView.{ConfigView}
+use Rattle.host.specs.ConfigView.{ConfigView, IsConfig}
 use Rattle.host.specs.HostView.{HostView, new_host, with_sockets}
 use Rattle.host.specs.Sound.{IsSoundHost}
 use Rattle.host.specs.Ticks.{after_tick}
@@ -68,6 +68,8 @@ pub record Connects (old : HostView) (id : SocketId) (new : HostView) : Type 0 w
 pub record Starts (v : CopyView) : Type 0 where
   pub config_a : ConfigView
   pub config_b : ConfigView
+  pub set_up_a : IsConfig config_a
+  pub set_up_b : IsConfig config_b
   pub apart : are_alike config_a config_b ≡ false
   pub a_made : HostView
   pub b_made : HostView

@@ -15,13 +15,15 @@ returns-clause-course c =
     starts _ (record {
       config_a = a.0;
       config_b = b.0;
+      set_up_a = a.2;
+      set_up_b = b.2;
       apart = unalike a.0 b.0 (address_of A) (address_of B) (mac_of A) (mac_of B) (sym a.1.addr) (sym b.1.addr) (sym a.1.mac) (sym b.1.mac) refl refl;
       a_made = k.0;
       b_made = l.0;
       listener = c.in_ok-listener.listener;
-      b_socket = subst (λ (h : HostView). MakesSocket h c.in_ok-listener.listener l.0) b.2 l.1;
+      b_socket = subst (λ (h : HostView). MakesSocket h c.in_ok-listener.listener l.0) b.3 l.1;
       b_listens = l.2;
-      a_socket = subst (λ (h : HostView). MakesSocket h c.in_ok-sender.sender k.0) a.2 k.1;
+      a_socket = subst (λ (h : HostView). MakesSocket h c.in_ok-sender.sender k.0) a.3 k.1;
       a_connects = k.2;
       sound_b = c.sound.ensures.sound;
       others = refl;
