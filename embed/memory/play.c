@@ -272,12 +272,14 @@ static void say(struct host *from, uint64_t from_id, struct host *to, uint64_t t
 {
     uint8_t buffer[100];
     struct host_info info = {.size = sizeof info};
+    struct host_counters counters = {.size = sizeof counters};
     const size_t len = strlen(text);
     done(PLAIN(host_set_nodelay(from, from_id, 1)));
     want(PLAIN(host_send_room(from, from_id)) >= (int64_t)len, "it has no room");
     want(PLAIN(host_send(from, from_id, (const uint8_t *)text, len)) == (int64_t)len, "not all octets are taken");
     done(PLAIN(host_info(from, from_id, &info)));
     want(info.state == HOST_STATE_ESTABLISHED && info.held == (int64_t)len, "other things are told of the connection");
+    done(PLAIN(host_counters(from, &counters)));
     turns();
     want(PLAIN(host_ready(to, to_id)) == (HOST_READY_READ | HOST_READY_WRITE), "it isn't ready");
     want(PLAIN(host_recv_len(to, to_id)) == (int64_t)len, "another number of octets is told");
