@@ -1,0 +1,2 @@
+pub mod FixedVec
+pub mod Lends
