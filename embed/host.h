@@ -35,10 +35,9 @@
  * any. So a host takes some 135 MB at the most. It writes to a page of a connection's buffers only as octets pass through that page: where the system
  * gives memory page by page, an idle connection costs next to none. Where malloc gives memory that is there at once, as on a machine
  * without virtual memory, have the option off (no_window_scale of struct host_config): then a connection takes 131,070 octets, and a host some 9.2 MB
- * at the most; so does a connection whose peer's SYN is without the option, in host_deliver. Of the stack host_new wants some 504 kB, since it makes
- * the host there before it moves it to its place, and host_free 127 kB; every other call wants less than 6 kB. Where memory is refused the call is refused (HOST_ENOMEM,
- * HOST_DROP_NO_ROOM), and the program goes on. host_free gives all of it back. Of the C library the calls use these three and memcpy, memmove, memset
- * and memcmp, and no variable of their own outlives a call.
+ * at the most; so does a connection whose peer's SYN is without the option, in host_deliver. Of the stack no call wants more than 8 kB. Where memory is
+ * refused the call is refused (HOST_ENOMEM, HOST_DROP_NO_ROOM), and the program goes on. host_free gives all of it back. Of the C library the calls use
+ * these three and memcpy, memmove, memset and memcmp, and no variable of their own outlives a call.
  */
 #ifndef HOST_H
 #define HOST_H

@@ -1,7 +1,7 @@
 /*
  * Two hosts without a C library below them: the program brings the allocator and the four routines on memory that the library wants, its own stack, and
- * two calls of Linux, to print a line and to end. The hosts are joined in memory: a handshake, octets both ways, a datagram and a close. It measures the
- * stack that the calls take, and ends with status 0 where all was as it should be, and the stack no deeper than docs/PORTING.md says.
+ * two calls of Linux, to print a line and to end. The hosts are joined in memory: a handshake, octets both ways, a datagram and a close. All runs on a
+ * stack of 8 kB, as docs/PORTING.md says. It measures what the calls take of it, and ends with status 0 where all was as it should be.
  *
  *     cc -std=c99 -O2 -ffreestanding -fno-stack-protector -static -nostdlib -I embed examples/bare.c embed/lib/x86_64/libhostc.a
  *
@@ -106,8 +106,8 @@ void *realloc(void *block, size_t size)
 
 /* The stack, whose octets are marked so that it can be seen how deep a call went, and the program's first step, onto it. */
 #define MARK 0xa5
-static uint8_t stack[1 << 19] __attribute__((aligned(16)));
-#define STACK_END "stack+524288"
+static uint8_t stack[8192] __attribute__((aligned(16)));
+#define STACK_END "stack+8192"
 
 int64_t run(void);
 
@@ -188,22 +188,17 @@ __attribute__((noinline)) static void mark(void)
     }
 }
 
-/* How deep the stack was since it was marked, below the place of this call. */
+/* How deep the stack was since it was marked, below the place of this call; 0 where it ran over its end, or may have. */
 __attribute__((noinline)) static size_t depth(void)
 {
     uint8_t *at = stack;
 
     while (*at == MARK)
         at++;
-    return (size_t)(here() + 256 - at);
+    return at == stack ? 0 : (size_t)(here() + 256 - at);
 }
 
 /* ---- Two hosts -------------------------------------------------------------------------------------------------------------------------- */
-
-/* The deepest that the making of a host may go, its end, and any other call. */
-#define MAKING_DEPTH 510000
-#define ENDING_DEPTH 130000
-#define CALL_DEPTH 6144
 
 static struct host a, b;
 static uint64_t now = 1000;
@@ -347,5 +342,5 @@ int64_t run(void)
     say(", other calls ");
     say_number(calls);
     say("\n");
-    return making > MAKING_DEPTH || ending > ENDING_DEPTH || calls > CALL_DEPTH;
+    return making == 0 || ending == 0 || calls == 0;
 }

@@ -1,16 +1,17 @@
 //! What a host knows of its neighbours.
 
-ghost use Rattle.std.specs.Prelude.{◌≡◌, ◌<◌, ◌&&◌, length};
+ghost use Rattle.std.specs.Prelude.{◌≡◌, ◌<◌, ◌&&◌, length, IfOk};
 ghost use Rattle.std.specs.List.{list_any, AllByRecursion};
 ghost use Rattle.arp.specs.Cache.{empty, is_pair_of, is_note_of, updated, added, longest_unheard, pairs_after, is_request_for, after_hear, look, after_age, is_live_note, live_notes, after_ask, may_ask, has_place_for, IsNextAsk, HasWholeMacs};
 ghost use Rattle.arp.specs.Waits.{own_last, first_last, room_last, following, next_ask};
 
 use crate::entry::{Asked, Neighbour};
 use crate::packet::{ArpPacket, Operation};
-use arrayvec::ArrayVec;
 use clock::{Moment, later, sooner};
 use ether::{Mac, is_whole_mac};
+use fixed_vec::FixedVec;
 use ipv4::Addr;
+use std::alloc::{AllocError, Global};
 use std::marker::Model;
 
 /// How many pairs are kept at most.
@@ -19,11 +20,11 @@ const PAIRS: usize = 64;
 /// How many requests go out in a second at most.
 const REQUESTS: usize = 64;
 
-/// The MACs that were heard for addresses, and the addresses that were asked for. No call takes memory.
+/// The MACs that were heard for addresses, and the addresses that were asked for. Only the making takes memory.
 #[derive(Drop)]
 pub struct ArpCache {
-    pairs: ArrayVec<Neighbour, PAIRS>,
-    asked: ArrayVec<Asked, REQUESTS>,
+    pairs: FixedVec<Neighbour, PAIRS>,
+    asked: FixedVec<Asked, REQUESTS>,
 }
 
 impl Model for ArpCache {
@@ -35,14 +36,14 @@ impl Model for ArpCache {
 }
 
 impl ArpCache {
-    /// A cache of a host that heard nothing, and asked for nothing.
-    pub fn new() -> ArpCache
-        ensures { result ≡ empty }
+    /// A cache of a host that heard nothing, and asked for nothing. Fails only where memory is refused.
+    pub fn new(alloc: Global) -> Result<ArpCache, AllocError>
+        ensures { IfOk result (λ cache. cache ≡ empty) }
     {
-        ArpCache {
-            pairs: ArrayVec::new(),
-            asked: ArrayVec::new(),
-        }
+        Ok(ArpCache {
+            pairs: FixedVec::new(alloc)?,
+            asked: FixedVec::new(alloc)?,
+        })
     }
 
     /// Learns from a packet (RFC 826): an address that is kept, live or not, takes the sender's MAC; one that
@@ -128,7 +129,7 @@ fn whole_macs(pairs: &[Neighbour])
 
 /// Learns the sender of a packet: a known address is updated, and another is added where the packet is for us.
 #[tactic(auto, unfolding(crate::specs::Cache::pairs_after))]
-fn learn(pairs: &mut ArrayVec<Neighbour, PAIRS>, sender: Neighbour, is_for_us: bool)
+fn learn(pairs: &mut FixedVec<Neighbour, PAIRS>, sender: Neighbour, is_for_us: bool)
     ensures { pairs.new.items ≡ pairs_after sender is_for_us pairs.old.items }
 {
     if is_known(pairs, sender.addr) {
@@ -155,7 +156,7 @@ fn update(pairs: &mut [Neighbour], sender: Neighbour)
 }
 
 /// Adds the sender's pair. In a full table the longest unheard pair gives way.
-fn add(pairs: &mut ArrayVec<Neighbour, PAIRS>, sender: Neighbour)
+fn add(pairs: &mut FixedVec<Neighbour, PAIRS>, sender: Neighbour)
     ensures { pairs.new.items ≡ added sender pairs.old.items }
 {
     if pairs.is_full() {

@@ -53,17 +53,6 @@ impl Neighbour {
     }
 }
 
-impl Default for Neighbour {
-    /// What stands in a place that is not in use.
-    fn default() -> Neighbour {
-        Neighbour {
-            addr: Addr([0; 4]),
-            mac: Mac([0; 6]),
-            heard: Moment(0),
-        }
-    }
-}
-
 /// An address that a request went out for, and when.
 #[derive(Clone, Copy, Debug, PartialEq, Eq)]
 pub(crate) struct Asked {
@@ -84,16 +73,6 @@ impl Asked {
         ensures { result ≡ last_of self.now }
     {
         Moment(self.at.0.max(self.at.after(NOTE_LIFE).0 - 1))
-    }
-}
-
-impl Default for Asked {
-    /// What stands in a place that is not in use.
-    fn default() -> Asked {
-        Asked {
-            addr: Addr([0; 4]),
-            at: Moment(0),
-        }
     }
 }
 

@@ -12,11 +12,13 @@ use Rattle.host.specs.HostView.{HostView, new_host}
 use Rattle.host.specs.Runs.{HasRun}
 use Rattle.host.proofs.Ran.{run-begins}
 
-pub run-made : {E F : Type 0} (c : ConfigView) (mac : Mac) (addr : Addr) (routes : List Route) (scales : Bool) (frames : Result InterfaceView E) (table : SocketsView) (places : Result (List (Option Reassembly)) F)
-    → IsConfig c → mac ≡ c.mac → addr ≡ c.addr → routes ≡ c.routes → scales ≡ c.scales → IfOk frames (λ x. x ≡ fresh mac addr routes) → table ≡ new_sockets addr scales → IfOk places (λ y. y ≡ replicate 4 None)
-    → IfOk frames (λ x. IfOk places (λ y. HasRun (record { interface = x; sockets = table; pool = y })))
-run-made c mac addr routes scales (Ok x) table (Ok y) set_up is_mac is_addr is_routes is_scales is_x is_table is_y =
-    let is : ◌≡◌ {A = HostView} (record { interface = x; sockets = table; pool = y }) (new_host c) = cc in
+pub run-made : {E F G : Type 0} (c : ConfigView) (mac : Mac) (addr : Addr) (routes : List Route) (scales : Bool) (frames : Result InterfaceView E) (table : Result SocketsView F)
+    → (places : Result (List (Option Reassembly)) G) → IsConfig c → mac ≡ c.mac → addr ≡ c.addr → routes ≡ c.routes → scales ≡ c.scales
+    → IfOk frames (λ x. x ≡ fresh mac addr routes) → IfOk table (λ t. t ≡ new_sockets addr scales) → IfOk places (λ y. y ≡ replicate 4 None)
+    → IfOk frames (λ x. IfOk table (λ t. IfOk places (λ y. HasRun (record { interface = x; sockets = t; pool = y }))))
+run-made c mac addr routes scales (Ok x) (Ok t) (Ok y) set_up is_mac is_addr is_routes is_scales is_x is_table is_y =
+    let is : ◌≡◌ {A = HostView} (record { interface = x; sockets = t; pool = y }) (new_host c) = cc in
     run-begins c _ set_up is
-run-made c mac addr routes scales (Ok x) table (Err e) set_up is_mac is_addr is_routes is_scales is_x is_table is_y = tt
+run-made c mac addr routes scales (Ok x) (Ok t) (Err e) set_up is_mac is_addr is_routes is_scales is_x is_table is_y = tt
+run-made c mac addr routes scales (Ok x) (Err e) places set_up is_mac is_addr is_routes is_scales is_x is_table is_y = tt
 run-made c mac addr routes scales (Err e) table places set_up is_mac is_addr is_routes is_scales is_x is_table is_y = tt

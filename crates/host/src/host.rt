@@ -16,9 +16,9 @@ use std::marker::Model;
 use tcp_segment::Seq;
 
 /// A host with one interface and one address. Its frame side is the interface, its sockets are a table over the same address, and in its pool
-/// fragments of datagrams are put together. The making of a host takes memory, for the control replies that will wait and for the four
-/// datagrams of the pool, and so do sockets and the connections that frames open; nothing else does. The 64 places of the table lie in the
-/// host itself, which has some 61 kB.
+/// fragments of datagrams are put together. The making of a host takes memory, for what it will know of its neighbours, for the control replies
+/// that will wait, for the 64 places of the table and for the four datagrams of the pool, and so do sockets and the connections that frames open;
+/// nothing else does.
 #[derive(Drop)]
 pub struct Host {
     pub(crate) layers: Layers,
@@ -63,19 +63,21 @@ impl Host {
         Host::of(interface, sockets, pool)
     }
 
-    /// The host of these layers. ENOMEM exactly where memory was refused the frame side or the pool.
+    /// The host of these layers. ENOMEM exactly where memory was refused the frame side, the table or the pool.
     fn of(
         interface: Result<Interface, AllocError>,
-        sockets: Sockets,
+        sockets: Result<Sockets, AllocError>,
         pool: Result<Pool, PoolFault>,
     ) -> Result<Host, Refusal>
-        requires { IfOk interface (λ frames. IfOk pool (λ places. HasRun (record { interface = frames; sockets = sockets; pool = places }))) }
+        requires { IfOk interface (λ frames. IfOk sockets (λ table. IfOk pool (λ places. HasRun (record { interface = frames; sockets = table; pool = places })))) }
         ensures { MatchResult interface
-            (λ frames. MatchResult pool (λ places. result ≡ Ok (record { interface = frames; sockets = sockets; pool = places })) (λ refused. result ≡ Err Refusal.ENOMEM))
+            (λ frames. MatchResult sockets
+                (λ table. MatchResult pool (λ places. result ≡ Ok (record { interface = frames; sockets = table; pool = places })) (λ refused. result ≡ Err Refusal.ENOMEM))
+                (λ refused. result ≡ Err Refusal.ENOMEM))
             (λ refused. result ≡ Err Refusal.ENOMEM) }
     {
-        match (interface, pool) {
-            (Ok(interface), Ok(pool)) => {
+        match (interface, sockets, pool) {
+            (Ok(interface), Ok(sockets), Ok(pool)) => {
                 let layers = Layers {
                     interface,
                     sockets,

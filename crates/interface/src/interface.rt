@@ -58,7 +58,7 @@ impl Interface {
             mac,
             addr,
             routes,
-            cache: ArpCache::new(),
+            cache: ArpCache::new(alloc)?,
             replies: Queue::new(alloc)?,
         })
     }

@@ -6,8 +6,8 @@ ghost use Rattle.interface.specs.Queue.{joined, join_answer, has_room};
 
 use crate::reply::{QueueFault, Reply, Waiting};
 use crate::room::Room;
-use arrayvec::ArrayVec;
 use clock::Moment;
+use fixed_vec::FixedVec;
 use std::alloc::{AllocError, Global};
 use std::marker::Model;
 
@@ -17,7 +17,7 @@ const REPLIES: usize = 16;
 /// The control replies that wait, in order, and a room for each that may come to need one. A clause sees the replies.
 #[derive(Drop)]
 pub(crate) struct Queue {
-    replies: ArrayVec<Waiting, REPLIES>,
+    replies: FixedVec<Waiting, REPLIES>,
     spare: Vec<Room>,
 }
 
@@ -44,7 +44,7 @@ impl Queue {
             spare.push(Room::new(alloc)?)?;
         }
         Ok(Queue {
-            replies: ArrayVec::new(),
+            replies: FixedVec::new(alloc)?,
             spare,
         })
     }

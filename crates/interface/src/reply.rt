@@ -129,14 +129,3 @@ impl Waiting {
         self.end() <= now
     }
 }
-
-impl Default for Waiting {
-    /// What stands in a place of the queue that is not in use.
-    fn default() -> Waiting {
-        let packet = ArpPacket::request(Mac([0; 6]), Addr([0; 4]), Addr([0; 4]));
-        Waiting {
-            since: Moment(0),
-            reply: Reply::Arp(packet),
-        }
-    }
-}

@@ -34,16 +34,6 @@ pub struct Entry {
     pub(crate) role: Role,
 }
 
-impl Default for Entry {
-    /// What stands in a place of the table that is not in use.
-    fn default() -> Entry {
-        Entry {
-            id: SocketId(0),
-            role: Role::default(),
-        }
-    }
-}
-
 impl Entry {
     ghost use Rattle.udp_socket.specs.SocketView.{new_socket as new_udp_socket};
     ghost use Rattle.sockets.specs.Entries.{new_socket, new_datagram_socket, new_waiting};

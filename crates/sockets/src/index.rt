@@ -8,14 +8,14 @@ ghost use Rattle.sockets.specs.Index.{key_of, filed_at, is_before, AreSorted, in
 
 use crate::entry::{Entry, SocketId};
 use crate::table::{ENTRIES, is_there, place_of};
-use arrayvec::ArrayVec;
+use fixed_vec::FixedVec;
 use ipv4::Endpoint;
 
 /// How many ports a host has.
 const PORTS: u64 = 65_536;
 
 /// A connection of the table, in any state: the number of its two ends, by which it is found, and the id of its entry.
-#[derive(Clone, Copy, Default, PartialEq, Eq, Debug)]
+#[derive(Clone, Copy, PartialEq, Eq, Debug)]
 pub struct Filed {
     pub(crate) key: u64,
     pub(crate) id: SocketId,
@@ -40,7 +40,7 @@ fn key_of(local: Endpoint, peer: Endpoint) -> u64
 
 /// Files a further connection, which the id names.
 pub(crate) fn file(
-    index: &mut ArrayVec<Filed, ENTRIES>,
+    index: &mut FixedVec<Filed, ENTRIES>,
     id: SocketId,
     local: Endpoint,
     peer: Endpoint,
@@ -56,7 +56,7 @@ pub(crate) fn file(
 }
 
 /// Takes out the connections that left the table, which held so many entries before.
-pub(crate) fn forget(index: &mut ArrayVec<Filed, ENTRIES>, entries: &[Entry], held: usize)
+pub(crate) fn forget(index: &mut FixedVec<Filed, ENTRIES>, entries: &[Entry], held: usize)
     requires { AreInOrder entries.now }
     ensures { index.new.items ≡ (if nat_lt (length entries.now) held then filter (λ filed. list_any (has_id filed.id) entries.now) index.old.items else index.old.items) }
 {

@@ -61,7 +61,7 @@ pub(crate) enum Role {
 }
 
 impl Default for Role {
-    /// The role in a place of the table that is not in use: it holds no memory.
+    /// What stands for a moment where a role was taken out: it holds no memory.
     fn default() -> Role {
         Role::Listener {
             local: UNBOUND,

@@ -1,15 +1,15 @@
 //! The table itself: what it holds, its clock, and the questions that change nothing.
 
-ghost use Rattle.std.specs.Prelude.{◌≡◌, ◌≤◌, Some, None, Bool};
+ghost use Rattle.std.specs.Prelude.{◌≡◌, ◌≤◌, Some, None, Bool, IfOk};
 
 use crate::entry::{Entry, SocketId};
 use crate::index::Filed;
 use crate::table::ENTRIES;
 use crate::{ports, table};
-use arrayvec::ArrayVec;
 use clock::Moment;
+use fixed_vec::FixedVec;
 use ipv4::{Addr, Pair};
-use std::alloc::Global;
+use std::alloc::{AllocError, Global};
 use std::marker::Model;
 
 /// The table of the sockets and connections over one address.
@@ -22,9 +22,9 @@ pub struct Sockets {
     pub(crate) last_port: u16,
     pub(crate) last_id: u64,
     pub(crate) identification: u16,
-    pub(crate) entries: ArrayVec<Entry, ENTRIES>,
-    pub(crate) ends: ArrayVec<Filed, ENTRIES>,
-    pub(crate) offered: ArrayVec<SocketId, ENTRIES>,
+    pub(crate) entries: FixedVec<Entry, ENTRIES>,
+    pub(crate) ends: FixedVec<Filed, ENTRIES>,
+    pub(crate) offered: FixedVec<SocketId, ENTRIES>,
 }
 
 impl Model for Sockets {
@@ -59,11 +59,12 @@ impl Sockets {
     ghost use Rattle.sockets.specs.Pairs.{socket_pair};
     ghost use Rattle.sockets.specs.Sound.{IsSoundTable};
 
-    /// A table with no sockets, whose kept moment is 0, and whose connections scale windows where their peers do, or never (RFC 7323 section 2). It takes no memory.
-    pub fn new(alloc: Global, addr: Addr, scales: bool) -> Sockets
-        ensures { result ≡ new_sockets addr scales }
+    /// A table with no sockets, whose kept moment is 0, and whose connections scale windows where their peers do, or never (RFC 7323 section 2).
+    /// Fails only where memory is refused.
+    pub fn new(alloc: Global, addr: Addr, scales: bool) -> Result<Sockets, AllocError>
+        ensures { IfOk result (λ table. table ≡ new_sockets addr scales) }
     {
-        Sockets {
+        Ok(Sockets {
             alloc,
             addr,
             scales,
@@ -71,10 +72,10 @@ impl Sockets {
             last_port: ports::LAST,
             last_id: 0,
             identification: 0,
-            entries: ArrayVec::new(),
-            ends: ArrayVec::new(),
-            offered: ArrayVec::new(),
-        }
+            entries: FixedVec::new(alloc)?,
+            ends: FixedVec::new(alloc)?,
+            offered: FixedVec::new(alloc)?,
+        })
     }
 
     /// The address over which the table is.

@@ -14,8 +14,8 @@ ghost use Rattle.sockets.specs.Index.{index_of};
 use crate::entry::{Entry, SocketId};
 use crate::index::{self, Filed};
 use crate::role::is_kept;
-use arrayvec::ArrayVec;
 use clock::{Moment, sooner};
+use fixed_vec::FixedVec;
 use ipv4::{Addr, Endpoint, Pair};
 use tcp_state::Fate;
 
@@ -144,7 +144,7 @@ pub(crate) fn next_offered(
 }
 
 /// Puts the connection that `id` names behind those offered, where it is offered now.
-pub(crate) fn offer(offered: &mut ArrayVec<SocketId, ENTRIES>, id: SocketId, is_offered: bool)
+pub(crate) fn offer(offered: &mut FixedVec<SocketId, ENTRIES>, id: SocketId, is_offered: bool)
     ensures { offered.new.items ≡ offered_with is_offered id offered.old.items }
 {
     if is_offered && !offered.is_full() {
@@ -154,7 +154,7 @@ pub(crate) fn offer(offered: &mut ArrayVec<SocketId, ENTRIES>, id: SocketId, is_
 
 /// Takes the connections that wait at `listener` out of those offered.
 pub(crate) fn offer_no_more(
-    offered: &mut ArrayVec<SocketId, ENTRIES>,
+    offered: &mut FixedVec<SocketId, ENTRIES>,
     entries: &[Entry],
     listener: SocketId,
 )
@@ -166,8 +166,8 @@ pub(crate) fn offer_no_more(
 
 /// Lets the timers of every entry act whose moment has come, and takes out those whose connection is gone then.
 pub(crate) fn tick(
-    entries: &mut ArrayVec<Entry, ENTRIES>,
-    ends: &mut ArrayVec<Filed, ENTRIES>,
+    entries: &mut FixedVec<Entry, ENTRIES>,
+    ends: &mut FixedVec<Filed, ENTRIES>,
     now: Moment,
 )
     requires order { (last : ℕ) × AreAscending 0 last entries.old.items }
@@ -182,8 +182,8 @@ pub(crate) fn tick(
 
 /// Aborts the connections that wait at the listener `id`, which is closed, and takes out those that are CLOSED already.
 pub(crate) fn forsake(
-    entries: &mut ArrayVec<Entry, ENTRIES>,
-    ends: &mut ArrayVec<Filed, ENTRIES>,
+    entries: &mut FixedVec<Entry, ENTRIES>,
+    ends: &mut FixedVec<Filed, ENTRIES>,
     now: Moment,
     id: SocketId,
 )
@@ -200,8 +200,8 @@ pub(crate) fn forsake(
 /// Lets every entry give up what has waited too long for a lost address, and takes out the connections whose reset is given up, and those
 /// that are given up themselves and that no caller has.
 pub(crate) fn give_up<F: Fn(Addr) -> bool>(
-    entries: &mut ArrayVec<Entry, ENTRIES>,
-    ends: &mut ArrayVec<Filed, ENTRIES>,
+    entries: &mut FixedVec<Entry, ENTRIES>,
+    ends: &mut FixedVec<Filed, ENTRIES>,
     now: Moment,
     lost: &F,
 )
@@ -237,8 +237,8 @@ pub(crate) fn sound(entries: &[Entry])
 
 /// Takes an entry out of the table where its connection is gone.
 pub(crate) fn settle(
-    entries: &mut ArrayVec<Entry, ENTRIES>,
-    ends: &mut ArrayVec<Filed, ENTRIES>,
+    entries: &mut FixedVec<Entry, ENTRIES>,
+    ends: &mut FixedVec<Filed, ENTRIES>,
     place: usize,
     fate: Fate,
 )

@@ -5,6 +5,7 @@ use arp::{ArpCache, ArpFault, ArpPacket, LEN, Operation};
 use clock::Moment;
 use ether::{EtherView, FRAME_MAX, Head, Mac};
 use ipv4::Addr;
+use std::test::Fail;
 
 const MAC_A: Mac = Mac([2, 0, 0, 0, 0, 1]);
 
@@ -227,11 +228,12 @@ const LEARNT: [(u64, Event); 14] = [
 ];
 
 #[test]
-fn pairs_are_learnt_updated_and_forgotten(rt: HostRuntime) {
-    let mut cache = ArpCache::new();
+fn pairs_are_learnt_updated_and_forgotten(rt: HostRuntime) -> Result<(), Fail> {
+    let mut cache = ArpCache::new(rt.alloc())?;
     for (now, event) in &LEARNT {
         assert!(rt; answers(&mut cache, *now, event));
     }
+    Ok(())
 }
 
 fn addr_of(number: u8) -> Addr {
@@ -255,8 +257,8 @@ fn heard_at(number: u8) -> Moment {
 }
 
 #[test]
-fn the_longest_unheard_gives_way(rt: HostRuntime) {
-    let mut cache = ArpCache::new();
+fn the_longest_unheard_gives_way(rt: HostRuntime) -> Result<(), Fail> {
+    let mut cache = ArpCache::new(rt.alloc())?;
     for number in 0..67 {
         assert!(rt; cache.hear(heard_at(number), &request_of(number), A));
     }
@@ -264,6 +266,7 @@ fn the_longest_unheard_gives_way(rt: HostRuntime) {
         let known = cache.look(Moment(6_600), addr_of(number)).is_some();
         assert!(rt; known == !matches!(number, 60 | 62 | 63));
     }
+    Ok(())
 }
 
 const ASKED: [(u64, Event); 5] = [
@@ -286,8 +289,8 @@ const ASKED_LATER: [(u64, Event); 7] = [
 ];
 
 #[test]
-fn requests_are_few(rt: HostRuntime) {
-    let mut cache = ArpCache::new();
+fn requests_are_few(rt: HostRuntime) -> Result<(), Fail> {
+    let mut cache = ArpCache::new(rt.alloc())?;
     for (now, event) in &ASKED {
         assert!(rt; answers(&mut cache, *now, event));
     }
@@ -297,4 +300,5 @@ fn requests_are_few(rt: HostRuntime) {
     for (now, event) in &ASKED_LATER {
         assert!(rt; answers(&mut cache, *now, event));
     }
+    Ok(())
 }

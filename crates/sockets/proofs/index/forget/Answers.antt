@@ -3,7 +3,7 @@ use Rattle.std.proofs.Common.{◌≡◌, ◌∙◌, rules, Bool, true, nat_lt, l
 use Rattle.std.specs.Prelude.{filter}
 use Rattle.std.specs.List.{list_any}
 use Rattle.std.proofs.lemmas.Bool.Decides.{nat_tests}
-use Rattle.arrayvec.proofs.ArrayVecLemmas.{filter-from_retain}
+use Rattle.fixed_vec.proofs.Retained.{filter-from_retain}
 use Rattle.sockets.specs.declared.index.Filed.{Filed}
 use Rattle.sockets.specs.Ids.{has_id}
 use Rattle.sockets.proofs.index.forget.Goals as goal

@@ -1,6 +1,6 @@
 -- What is left is what the closure keeps.
 use Rattle.std.proofs.Common.{not, rules}
-use Rattle.arrayvec.proofs.ArrayVecLemmas.{filter-from_retain}
+use Rattle.fixed_vec.proofs.Retained.{filter-from_retain}
 use Rattle.sockets.specs.declared.entry.SocketId.{SocketId}
 use Rattle.sockets.specs.Entries.{is_waiting_id}
 use Rattle.sockets.proofs.table.offer_no_more.Goals as goal

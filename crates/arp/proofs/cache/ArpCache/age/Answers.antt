@@ -1,5 +1,5 @@
 use Rattle.std.proofs.Common.{rules, ap, ◌∙◌}
-use Rattle.arrayvec.proofs.ArrayVecLemmas.{filter-from_retain}
+use Rattle.fixed_vec.proofs.Retained.{filter-from_retain}
 use Rattle.arp.specs.Cache.{is_live_pair, after_age}
 use Rattle.arp.proofs.cache.ArpCache.age.Goals as goal
 

@@ -1,5 +1,5 @@
 use Rattle.std.proofs.Common.{rules, ◌∙◌, ap}
-use Rattle.arrayvec.proofs.ArrayVecLemmas.{filter-from_retain}
+use Rattle.fixed_vec.proofs.Retained.{filter-from_retain}
 use Rattle.arp.specs.Cache.{Cache, is_live_note, may_ask, after_ask}
 use Rattle.arp.proofs.Asking.{noted, unnoted, answered}
 use Rattle.arp.proofs.cache.ArpCache.ask.Goals as goal
