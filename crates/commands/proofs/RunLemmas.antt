@@ -7,7 +7,7 @@ use Rattle.sides.specs.declared.side.Side.TheVariants.{A, B}
 use Rattle.host.specs.ConfigView.{ConfigView}
 use Rattle.wire_sim.specs.Hosts.{IsSetUp}
 use Rattle.wire_sim.specs.WorldView.{WorldView, fresh_world}
-use Rattle.wire_sim.proofs.HostsAreSetUp.{set_up, is_set_up}
+use Rattle.wire_sim.proofs.HostsAreSetUp.{set_up, is_set_up, scaled_anew}
 use Rattle.script.specs.declared.lines.Setting.{Setting}
 use Rattle.script.specs.declared.lines.Command.{Command}
 use Rattle.commands.specs.declared.fault.TextFault.{TextFault}
@@ -29,10 +29,9 @@ kept None = tt
 kept (Some xs) = refl
 
 -- a host that is set up and uses the option, or doesn't, as is said
-pub set_up_with : (was scales : Bool) (side : Side) (old new : ConfigView) → IsSetUp was side old → new ≡ record old { scales = scales } →
+pub set_up_with : (was scales : Bool) (side : Side) (old new : ConfigView) → IsSetUp was side old → new ≡ record old { manner = record old.manner { scales = scales } } →
     IsSetUp scales side new
-set_up_with was scales side old new is changed =
-    rw changed (record { mac = is.mac; addr = is.addr; route = is.route; link = is.link; routes = is.routes; uses = refl })
+set_up_with was scales side old new is changed = rw changed (scaled_anew was scales side old is)
 
 -- the world before the first command can be made
 first_of : Setting → WorldView

@@ -23,7 +23,7 @@ use Rattle.host.specs.Runs.{Event, Calls, IsAsked, IsCall, IsNumbered, Makes, Ru
 use Rattle.host.specs.Sound.{IsSoundHost}
 use Rattle.host.proofs.Causes.{all-behind, run-stands}
 use Rattle.host.proofs.FrameSide.{run-side}
-use Rattle.host.proofs.Tables.{run-addr, run-scale, run-reached, run-ordered, run-over, run-timed}
+use Rattle.host.proofs.Tables.{run-addr, run-manner, run-reached, run-ordered, run-over, run-timed}
 
 -- Nothing happened to it ..
 
@@ -73,7 +73,7 @@ has-place r true is fine = let refused : r ≡ Err EMFILE = is.1 refl in let no 
 pub made : {old layers host : HostView} (r : Result SocketId Refusal) (kind : Kind) (new : SocketsView) → old ≡ layers → layers ≡ host → IsSoundHost host → HasRun layers
     → (r ≡ Err EMFILE) ↔ IsTrue (is_table_full old.sockets) → IfOk r (λ id. (id.0 ≡ old.sockets.last_id + 1) × IsMade kind old.sockets new) → OnErr r (new ≡ old.sockets) → HasRun (with_sockets old new)
 made {old = old} (Ok id) Tcp new opened is sound run full new_one same =
-    called (Ok id) (table.Makes (room_of old.sockets.scales)) new opened is sound run tt tt (has-place (Ok id) (is_table_full old.sockets) full) new_one.1 tt
+    called (Ok id) (table.Makes (room_of old.sockets.manner)) new opened is sound run tt tt (has-place (Ok id) (is_table_full old.sockets) full) new_one.1 tt
 made {old = old} (Ok id) Udp new opened is sound run full new_one same =
     called (Ok id) table.MakesDatagrams new opened is sound run tt tt (has-place (Ok id) (is_table_full old.sockets) full) new_one.1 tt
 made (Err refusal) kind new opened is sound run full new_one same = called {T = SocketId} (Err refusal) table.MakesDatagrams new opened is sound run tt tt (λ fine. let no : false ≡ true = fine in cc) tt same
@@ -81,11 +81,11 @@ made (Err refusal) kind new opened is sound run full new_one same = called {T = 
 -- What is kept of it.
 
 -- its set-up
-pub set_up-stays : (c : ConfigView) (events : List Event) (h : HostView) → Runs c events h → (h.interface.mac ≡ c.mac) × (h.interface.addr ≡ c.addr) × (h.sockets.addr ≡ c.addr) × (h.interface.routes ≡ c.routes) × (h.sockets.scales ≡ c.scales)
+pub set_up-stays : (c : ConfigView) (events : List Event) (h : HostView) → Runs c events h → (h.interface.mac ≡ c.mac) × (h.interface.addr ≡ c.addr) × (h.sockets.addr ≡ c.addr) × (h.interface.routes ≡ c.routes) × (h.sockets.manner ≡ c.manner)
 set_up-stays c events h ran =
     let stands = run-stands c events h ran in
     let keeps = run-side c events h ran in
-    (stands.interface.mac, stands.interface.addr, run-addr c events h ran, keeps.same, run-scale c events h ran)
+    (stands.interface.mac, stands.interface.addr, run-addr c events h ran, keeps.same, run-manner c events h ran)
 
 -- it is sound, where its sides are
 pub run-sound : (h : HostView) → IsSound h.interface → IsSoundTable h.sockets → HasRun h → IsSoundHost h

@@ -46,7 +46,7 @@ use Rattle.sockets.specs.Ticks.{least_deadline}
 use Rattle.sockets.proofs.Leaving.{each_leaves, fresh_leaves}
 use Rattle.sockets.proofs.Led.{led_nowhere, led_by, led_on, further, reached_by, reached_ordered, reached_over}
 use Rattle.sockets.proofs.Near.{each_near, fresh_near, deadline_near}
-use Rattle.sockets.proofs.Numbered.{address_stays, scale_stays, never_back}
+use Rattle.sockets.proofs.Numbered.{address_stays, manner_stays, never_back}
 use Rattle.sockets.proofs.SoundTicks.{tick_sound}
 use Rattle.sockets.proofs.Steps.{later_up_to}
 use Rattle.sockets.proofs.Telling.{tells_on, socket_told, role_tells}
@@ -179,10 +179,10 @@ addr-on h _ (steps e allowed small within sized) = address_stays h e
 addr-on h _ (ticks lost moment within) = address_stays h (table.Ticks moment)
 
 -- whether windows may be scaled
-scale-on : {Bounds : Moment → Type 0} {Sized : Type 0} (h new : SocketsView) → IsStep h Bounds Sized new → new.scales ≡ h.scales
-scale-on h _ stays = refl
-scale-on h _ (steps e allowed small within sized) = scale_stays h e
-scale-on h _ (ticks lost moment within) = scale_stays h (table.Ticks moment)
+manner-on : {Bounds : Moment → Type 0} {Sized : Type 0} (h new : SocketsView) → IsStep h Bounds Sized new → new.manner ≡ h.manner
+manner-on h _ stays = refl
+manner-on h _ (steps e allowed small within sized) = manner_stays h e
+manner-on h _ (ticks lost moment within) = manner_stays h (table.Ticks moment)
 
 reached-on : {Bounds : Moment → Type 0} {Sized : Type 0} (h new : SocketsView) → IsStep h Bounds Sized new → IsReached h → IsReached new
 reached-on h _ stays reached = reached
@@ -257,16 +257,16 @@ pub run-addr : (c : ConfigView) (events : List Event) (h : HostView) → Runs c 
 run-addr c _ _ Begins = refl
 run-addr c _ _ (GoesOn before event old new ran sound small makes) = addr-on old.sockets new.sockets (event-leads event old new sound small makes) ∙ run-addr c before old ran
 
-pub run-scale : (c : ConfigView) (events : List Event) (h : HostView) → Runs c events h → h.sockets.scales ≡ c.scales
-run-scale c _ _ Begins = refl
-run-scale c _ _ (GoesOn before event old new ran sound small makes) = scale-on old.sockets new.sockets (event-leads event old new sound small makes) ∙ run-scale c before old ran
+pub run-manner : (c : ConfigView) (events : List Event) (h : HostView) → Runs c events h → h.sockets.manner ≡ c.manner
+run-manner c _ _ Begins = refl
+run-manner c _ _ (GoesOn before event old new ran sound small makes) = manner-on old.sockets new.sockets (event-leads event old new sound small makes) ∙ run-manner c before old ran
 
 pub run-reached : (c : ConfigView) (events : List Event) (h : HostView) → Runs c events h → IsReached h.sockets
-run-reached c _ _ Begins = reached_by c.addr c.scales (new_sockets c.addr c.scales) (led_nowhere (new_sockets c.addr c.scales))
+run-reached c _ _ Begins = reached_by c.addr c.manner (new_sockets c.addr c.manner) (led_nowhere (new_sockets c.addr c.manner))
 run-reached c _ _ (GoesOn before event old new ran sound small makes) = event-reaches event old new sound small makes (run-reached c before old ran)
 
 pub run-timed : (c : ConfigView) (events : List Event) (h : HostView) → Runs c events h → EachKeepsTime h.sockets
-run-timed c _ _ Begins = fresh_timed c.addr c.scales
+run-timed c _ _ Begins = fresh_timed c.addr c.manner
 run-timed c _ _ (GoesOn before event old new ran sound small makes) = event-timed event old new sound small makes (run-timed c before old ran)
 
 pub run-ordered : (c : ConfigView) (events : List Event) (h : HostView) → Runs c events h → IsOrdered h.sockets
@@ -280,13 +280,13 @@ all-split P [] x all = (tt, all.0)
 all-split P (y ∷ ys) x all = let parts = all-split P ys x all.1 in ((all.0, parts.0), parts.1)
 
 pub run-near : (c : ConfigView) (events : List Event) (h : HostView) (latest : Moment) → Runs c events h → AllByRecursion (IsUpTo latest) events → AreNear latest h.sockets
-run-near c _ _ latest Begins up = fresh_near c.addr c.scales latest
+run-near c _ _ latest Begins up = fresh_near c.addr c.manner latest
 run-near c _ _ latest (GoesOn before event old new ran sound small makes) up =
     let parts = all-split (IsUpTo latest) before event up in
     event-near event old new latest sound small parts.1 makes (run-near c before old latest ran parts.0)
 
 pub run-leaves : (c : ConfigView) (events : List Event) (h : HostView) → Runs c events h → AllByRecursion IsSized events → EachLeavesAWindow h.sockets
-run-leaves c _ _ Begins sized = fresh_leaves c.addr c.scales
+run-leaves c _ _ Begins sized = fresh_leaves c.addr c.manner
 run-leaves c _ _ (GoesOn before event old new ran sound small makes) sized =
     let parts = all-split IsSized before event sized in
     event-leaves event old new sound small parts.1 makes (run-leaves c before old ran parts.0)

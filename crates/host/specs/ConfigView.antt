@@ -1,16 +1,17 @@
 -- How a host is set up.
-use Rattle.std.specs.Prelude.{◌≡◌, ◌%◌, Bool, List, length, slice_index}
+use Rattle.std.specs.Prelude.{◌≡◌, ◌%◌, List, length, slice_index}
 use Rattle.ether.specs.declared.mac.Mac.{Mac}
 use Rattle.ipv4.specs.declared.addr.Addr.{Addr}
 use Rattle.ipv4.specs.Addresses.{IsUnicast}
 use Rattle.routes.specs.declared.route.Route.{Route}
+use Rattle.tcp_halves.specs.declared.buffers.Manner.{Manner}
 
--- its MAC, its address and its routes, and whether its connections scale windows where their peers do (RFC 7323 section 2)
+-- its MAC, its address and its routes, and how its connections behave
 pub record ConfigView : Type 0 where
   pub mac : Mac
   pub addr : Addr
   pub routes : List Route
-  pub scales : Bool
+  pub manner : Manner
 
 -- the MAC of one interface: the low bit of the first octet of a group's is set (IEEE 802)
 abbrev pub IsOfOne : Mac → Type 0

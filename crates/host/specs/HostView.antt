@@ -13,7 +13,7 @@ pub record HostView : Type 0 where
 
 -- a host on which nothing happened
 abbrev pub new_host : ConfigView → HostView
-new_host c = record { interface = fresh c.mac c.addr c.routes; sockets = new_sockets c.addr c.scales; pool = replicate 4 None }
+new_host c = record { interface = fresh c.mac c.addr c.routes; sockets = new_sockets c.addr c.manner; pool = replicate 4 None }
 
 -- the frame side is this, or the table or the pool is, and all else as it was
 abbrev pub with_interface : HostView → InterfaceView → HostView

@@ -56,10 +56,10 @@ impl Host {
         ensures refusal { IfErr result (λ refusal. refusal ≡ Refusal.ENOMEM) }
     {
         config.sound();
-        let (mac, addr, routes, scales) = config.into_parts();
+        let (mac, addr, routes, manner) = config.into_parts();
         let interface = Interface::new(alloc, mac, addr, routes);
         let pool = Pool::new(alloc);
-        let sockets = Sockets::new(alloc, addr, scales);
+        let sockets = Sockets::new(alloc, addr, manner);
         Host::of(interface, sockets, pool)
     }
 

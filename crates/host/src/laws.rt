@@ -252,10 +252,10 @@ pub fn errors_told_stay()
         → c.pending_error ≡ Some error → (role : Role) → role_of last.sockets id ≡ Some role → pending_error_in role ≡ Some error }
 {}
 
-/// A host keeps its set-up: over every list of events its MAC, the address on both of its sides, its routes and whether it uses the window scale option are those that it was made with.
+/// A host keeps its set-up: over every list of events its MAC, the address on both of its sides, its routes and how its connections behave are those that it was made with.
 pub fn set_ups_stay()
     ensures { (c : ConfigView) (events : List Event) (h : HostView) → Runs c events h
-        → (h.interface.mac ≡ c.mac) × (h.interface.addr ≡ c.addr) × (h.sockets.addr ≡ c.addr) × (h.interface.routes ≡ c.routes) × (h.sockets.scales ≡ c.scales) }
+        → (h.interface.mac ≡ c.mac) × (h.interface.addr ≡ c.addr) × (h.sockets.addr ≡ c.addr) × (h.interface.routes ≡ c.routes) × (h.sockets.manner ≡ c.manner) }
 {}
 
 /// An echo reply has its request, over every list of events of a host (RFC 792). Whoever hears one in what the host gives out is at an address

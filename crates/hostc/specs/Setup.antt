@@ -25,9 +25,9 @@ said_by route = (addr_of route.prefix, route.length, hop_of route.gateway)
 abbrev pub IsTold : List HostRoute → List Route → Type 0
 IsTold given table = map said table ≡ map said_by given
 
--- a host with this set-up, which scales windows or doesn't, on which nothing happened
+-- a host with this set-up, on which nothing happened
 abbrev pub IsNew : Config → List HostRoute → HostView → Type 0
-IsNew c given h = (table : List Route) × IsTold given table × (h ≡ new_host (record { mac = c.mac; addr = addr_of c.addr; routes = table; scales = c.scales }))
+IsNew c given h = (table : List Route) × IsTold given table × (h ≡ new_host (record { mac = c.mac; addr = addr_of c.addr; routes = table; manner = record { scales = c.scales; minshall = c.minshall } }))
 
 -- routes that make a table: each prefix is one, no two routes have one prefix, and there are 32 at most
 abbrev pub IsValidTable : List HostRoute → Type 0

@@ -15,6 +15,8 @@ pub struct Config {
     pub addr: u32,
     /// Whether the host uses the window scale option.
     pub scales: bool,
+    /// Whether its small segments wait for small ones only.
+    pub minshall: bool,
 }
 
 /// How many octets the least config has.
@@ -23,8 +25,10 @@ const LEAST: usize = 40;
 const ADDR: usize = 24;
 /// The place of its MAC.
 const MAC: usize = 28;
-/// The place of its last option.
+/// The place of the option not to scale windows.
 const NO_WINDOW_SCALE: usize = 34;
+/// The place of its last option: that small segments wait for small ones only.
+const MINSHALL: usize = 35;
 
 impl Config {
     /// What these octets say; None where they are no config.
@@ -36,10 +40,11 @@ impl Config {
             return None;
         }
         let no_window_scale = octets[NO_WINDOW_SCALE];
-        if no_window_scale > 1 {
+        let minshall = octets[MINSHALL];
+        if no_window_scale > 1 || minshall > 1 {
             return None;
         }
-        let (_, rest) = octets.split_at(NO_WINDOW_SCALE + 1);
+        let (_, rest) = octets.split_at(MINSHALL + 1);
         if !are_zero(rest) {
             return None;
         }
@@ -50,6 +55,7 @@ impl Config {
             mac: Mac(*mac),
             addr: LittleEndian::read_u32(from_addr),
             scales: no_window_scale == 0,
+            minshall: minshall == 1,
         })
     }
 }

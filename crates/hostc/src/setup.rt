@@ -1,6 +1,6 @@
 //! The making of a host, and its end.
 
-ghost use Rattle.std.specs.Prelude.{◌≡◌, ◌⊎◌, ◌↔◌, true, None, Ok, Err, IfOk, IfErr, IsOk, MatchResult};
+ghost use Rattle.std.specs.Prelude.{◌≡◌, ◌⊎◌, ◌↔◌, true, false, None, Ok, Err, IfOk, IfErr, IsOk, MatchResult};
 ghost use Rattle.counters.specs.Counting.{new_counters};
 ghost use Rattle.hostc.specs.Counters.{CountsAnew};
 ghost use Rattle.hostc.specs.Setup.{IsNew, IsTold, IsValidSetup, IsValidTable, Setup, SetupBy};
@@ -28,18 +28,20 @@ pub extern "C" fn host_new(
     addr: u32,
     routes: &[HostRoute],
 ) -> i64
-    ensures made { Setup (record { mac = record { 0 = mac.now }; addr = addr; scales = true }) routes.now handle.old.host result handle.new.host }
+    ensures made { Setup (record { mac = record { 0 = mac.now }; addr = addr; scales = true; minshall = false }) routes.now handle.old.host result handle.new.host }
     ensures counters { CountsAnew result handle.old.counters handle.new.counters }
 {
     let config = Config {
         mac: Mac(*mac),
         addr,
         scales: true,
+        minshall: false,
     };
     set_up(alloc, handle, config, routes)
 }
 
-/// `host_new` by the octets of a `struct host_config`, and its routes: it uses the window scale option where the config's own is 0.
+/// `host_new` by the octets of a `struct host_config`, and its routes: it uses the window scale option where the config's own is 0, and its small
+/// segments wait for small ones only where that option is 1 (RFC 9293 appendix A.3).
 ///
 /// EINVAL also where the octets are no config: not as many as its size says, fewer than 40, an option that is neither 0 nor 1, or another octet
 /// than 0 behind the last option.
@@ -95,7 +97,9 @@ fn made(alloc: Global, config: Config, routes: &[HostRoute]) -> Result<Host, Ref
     ensures refusal { IfErr result (λ refusal. ((refusal ≡ Refusal.EINVAL) × ¬ IsValidSetup config routes.now) ⊎ ((refusal ≡ Refusal.ENOMEM) × IsValidSetup config routes.now)) }
 {
     let table = table(routes)?;
-    let set = host::Config::new(config.mac, addr_of(config.addr), table)?.with_scale(config.scales);
+    let set = host::Config::new(config.mac, addr_of(config.addr), table)?
+        .with_scale(config.scales)
+        .with_minshall(config.minshall);
     Host::new(alloc, set)
 }
 

@@ -11,14 +11,15 @@ use Rattle.tcp_halves.specs.Windows.{sendable, takes_enough, is_worth_sending}
 use Rattle.tcp_halves.proofs.Choices.{either, and_left}
 use Rattle.tcp_state.specs.declared.state.State.{State}
 use Rattle.tcp_state.specs.View.{View, is_opening, awaits_fin_ack, is_at_end}
+use Rattle.tcp_state.specs.New.{passes_full}
 use Rattle.tcp_state.specs.Timing.{KeepsTime, awaits_first, waiting_since, gives_up, probes, retransmits, clocked, probe_expired, retransmission_expired, after_expiry, after_timers, after_tick}
 use Rattle.tcp_state.proofs.Clocked.{by_others}
 
 -- whether a first segment waits, by what it hangs on
-abbrev wants : Sending → State → ℕ → Bool → Bool → Bool → Bool
-wants s t cwnd nodelay overridden owes =
+abbrev wants : Sending → State → ℕ → Bool → Bool → Bool → Bool → Bool
+wants s t cwnd nodelay passes overridden owes =
     (outstanding s == 0)
-    && (is_opening t || (nat_lt 0 (sendable s cwnd) && is_worth_sending s cwnd ((nodelay && takes_enough s cwnd) || overridden)) || (awaits_fin_ack t && (outstanding s == length s.held) && nat_lt (outstanding s) s.window)
+    && (is_opening t || (nat_lt 0 (sendable s cwnd) && is_worth_sending s cwnd ((nodelay && takes_enough s cwnd) || passes || overridden)) || (awaits_fin_ack t && (outstanding s == length s.held) && nat_lt (outstanding s) s.window)
     || (owes && (not (is_opening t) && (s.window == 0) && (not (length s.held == 0) || awaits_fin_ack t))))
 
 -- new octets waited long enough, or a probe is owed: it waits all the same
@@ -36,15 +37,17 @@ record Acts (v u : View) : Type 0 where
   congestion : u.congestion.cwnd ≡ v.congestion.cwnd
   unheard : u.unheard ≡ v.unheard
   nodelay : u.nodelay ≡ v.nodelay
+  passes : passes_full u ≡ passes_full v
   over : (u.resend.overridden ≡ v.resend.overridden) ⊎ (u.resend.overridden ≡ true)
   owes : (u.resend.owes_probe ≡ v.resend.owes_probe) ⊎ (u.resend.owes_probe ≡ true)
 
 awaits_on : (v u : View) → Acts v u → awaits_first v ≡ true → awaits_first u ≡ true
 awaits_on v u a waits =
-    ap (λ (s : Sending). wants s u.state u.congestion.cwnd u.nodelay u.resend.overridden u.resend.owes_probe) a.sending
-    ∙ ap (λ (t : State). wants v.sending t u.congestion.cwnd u.nodelay u.resend.overridden u.resend.owes_probe) a.state
-    ∙ ap (λ (n : ℕ). wants v.sending v.state n u.nodelay u.resend.overridden u.resend.owes_probe) a.congestion
-    ∙ ap (λ (b : Bool). wants v.sending v.state v.congestion.cwnd b u.resend.overridden u.resend.owes_probe) a.nodelay
+    ap (λ (s : Sending). wants s u.state u.congestion.cwnd u.nodelay (passes_full u) u.resend.overridden u.resend.owes_probe) a.sending
+    ∙ ap (λ (t : State). wants v.sending t u.congestion.cwnd u.nodelay (passes_full u) u.resend.overridden u.resend.owes_probe) a.state
+    ∙ ap (λ (n : ℕ). wants v.sending v.state n u.nodelay (passes_full u) u.resend.overridden u.resend.owes_probe) a.congestion
+    ∙ ap (λ (b : Bool). wants v.sending v.state v.congestion.cwnd b (passes_full u) u.resend.overridden u.resend.owes_probe) a.nodelay
+    ∙ ap (λ (b : Bool). wants v.sending v.state v.congestion.cwnd v.nodelay b u.resend.overridden u.resend.owes_probe) a.passes
     ∙ owed
   where
     s : Sending
@@ -60,7 +63,7 @@ awaits_on v u a waits =
     small = (outstanding s == 0) && takes_enough s cwnd
 
     quick : Bool
-    quick = v.nodelay && takes_enough s cwnd
+    quick = (v.nodelay && takes_enough s cwnd) || passes_full v
 
     fin : Bool
     fin = awaits_fin_ack v.state && (outstanding s == length s.held) && nat_lt (outstanding s) s.window
@@ -68,17 +71,17 @@ awaits_on v u a waits =
     probed : Bool
     probed = not (is_opening v.state) && (s.window == 0) && (not (length s.held == 0) || awaits_fin_ack v.state)
 
-    overridden : wants s v.state cwnd v.nodelay u.resend.overridden v.resend.owes_probe ≡ true
+    overridden : wants s v.state cwnd v.nodelay (passes_full v) u.resend.overridden v.resend.owes_probe ≡ true
     overridden = elim a.over [
-      | inl same ↦ ap (λ (b : Bool). wants s v.state cwnd v.nodelay b v.resend.owes_probe) same ∙ waits
-      | inr over ↦ ap (λ (b : Bool). wants s v.state cwnd v.nodelay b v.resend.owes_probe) over
+      | inl same ↦ ap (λ (b : Bool). wants s v.state cwnd v.nodelay (passes_full v) b v.resend.owes_probe) same ∙ waits
+      | inr over ↦ ap (λ (b : Bool). wants s v.state cwnd v.nodelay (passes_full v) b v.resend.owes_probe) over
           ∙ raised_over (outstanding s == 0) (is_opening v.state) (nat_lt 0 (sendable s cwnd)) full small quick v.resend.overridden fin (v.resend.owes_probe && probed) waits
     ]
 
-    owed : wants s v.state cwnd v.nodelay u.resend.overridden u.resend.owes_probe ≡ true
+    owed : wants s v.state cwnd v.nodelay (passes_full v) u.resend.overridden u.resend.owes_probe ≡ true
     owed = elim a.owes [
-      | inl same ↦ ap (λ (b : Bool). wants s v.state cwnd v.nodelay u.resend.overridden b) same ∙ overridden
-      | inr owes ↦ ap (λ (b : Bool). wants s v.state cwnd v.nodelay u.resend.overridden b) owes
+      | inl same ↦ ap (λ (b : Bool). wants s v.state cwnd v.nodelay (passes_full v) u.resend.overridden b) same ∙ overridden
+      | inr owes ↦ ap (λ (b : Bool). wants s v.state cwnd v.nodelay (passes_full v) u.resend.overridden b) owes
           ∙ raised_owed (outstanding s == 0) (is_opening v.state) (nat_lt 0 (sendable s cwnd) && is_worth_sending s cwnd (quick || u.resend.overridden)) fin v.resend.owes_probe probed overridden
     ]
 
@@ -89,18 +92,18 @@ none_come (Some moment) now e = cc
 timers_act : (v : View) (now : Moment) → has_come v.timers.retransmission now ≡ false → Acts v (after_timers v now)
 timers_act v now early =
     by_others (Acts v) v now first
-    (λ w owes a. record { sending = a.sending; state = a.state; congestion = a.congestion; unheard = a.unheard; nodelay = a.nodelay; over = a.over; owes = a.owes })
-    (λ w a. record { sending = a.sending; state = a.state; congestion = a.congestion; unheard = a.unheard; nodelay = a.nodelay; over = inr refl; owes = a.owes })
+    (λ w owes a. record { sending = a.sending; state = a.state; congestion = a.congestion; unheard = a.unheard; nodelay = a.nodelay; passes = a.passes; over = a.over; owes = a.owes })
+    (λ w a. record { sending = a.sending; state = a.state; congestion = a.congestion; unheard = a.unheard; nodelay = a.nodelay; passes = a.passes; over = inr refl; owes = a.owes })
   where
     same : Acts v v
-    same = record { sending = refl; state = refl; congestion = refl; unheard = refl; nodelay = refl; over = inl refl; owes = inl refl }
+    same = record { sending = refl; state = refl; congestion = refl; unheard = refl; nodelay = refl; passes = refl; over = inl refl; owes = inl refl }
 
     first : Acts v (after_expiry v now)
     first =
         either View (Acts v) (has_come v.timers.retransmission now) (retransmission_expired v) _
         (λ comes. let bad : true ≡ false = sym comes ∙ early in cc)
         (λ late. either View (Acts v) (has_come v.timers.probe now) (probe_expired v now) v
-        (λ probes. record { sending = refl; state = refl; congestion = refl; unheard = refl; nodelay = refl; over = inl refl; owes = inr refl }) (λ none. same))
+        (λ probes. record { sending = refl; state = refl; congestion = refl; unheard = refl; nodelay = refl; passes = refl; over = inl refl; owes = inr refl }) (λ none. same))
 
 pub wait_goes_on : (v : View) (now since : Moment) → KeepsTime v → v.unheard ≡ Some since → is_at_end v now ≡ false → gives_up v now ≡ false → (let w = after_tick v now in w.unheard) ≡ Some since
 wait_goes_on v now since keeps is waits lives =

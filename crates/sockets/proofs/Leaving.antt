@@ -1,9 +1,11 @@
 -- Why every connection of the table leaves its peer a window.
-use Rattle.std.proofs.Common.{◌≡◌, ◌*◌, ◌≤◌, ◌||◌, Bool, true, false, [], Option, Some, None, option_map, refl, subst, arith}
+use Rattle.std.proofs.Common.{◌≡◌, ◌*◌, ◌≤◌, ◌||◌, Bool, true, false, if◌then◌else◌, [], Option, Some, None, option_map, refl, subst, arith}
 use Rattle.std.specs.List.{find}
 use Rattle.ipv4.specs.declared.addr.Addr.{Addr}
+use Rattle.tcp_halves.specs.declared.buffers.Manner.{Manner}
 use Rattle.tcp_segment.specs.declared.TheConstants.{MSS}
-use Rattle.tcp_halves.specs.Stream.{size_of, receive_window}
+use Rattle.tcp_halves.specs.declared.buffers.TheConstants.{CAPACITY, LARGEST_CAPACITY}
+use Rattle.tcp_halves.specs.Stream.{size_in, size_of, receive_window}
 use Rattle.tcp_state.specs.View.{View, is_opening, is_closed}
 use Rattle.tcp_state.specs.Due.{first_due}
 use Rattle.tcp_state.specs.Edges as edge
@@ -12,7 +14,7 @@ use Rattle.tcp_state.proofs.LeftWindows.{active_leaves, passive_leaves, event_le
 use Rattle.sockets.specs.declared.entry.Entry.{Entry}
 use Rattle.sockets.specs.declared.entry.SocketId.{SocketId}
 use Rattle.sockets.specs.declared.role.Role.TheVariants.{Connected}
-use Rattle.sockets.specs.Arrival.{room_for, local_end, peer_end}
+use Rattle.sockets.specs.Arrival.{manner_with, room_for, local_end, peer_end}
 use Rattle.sockets.specs.Causes.{Event, after_event}
 use Rattle.sockets.specs.Entries.{is_socket}
 use Rattle.sockets.specs.Leaving.{LeavesAWindowIn, EachLeavesAWindow, IsSized}
@@ -25,9 +27,12 @@ use Rattle.sockets.proofs.Steps.{IsEventOf, comes_to_it, IsStepOf, stays, moves,
 use Rattle.sockets.proofs.Timed.{all_left}
 
 -- a host's buffers have room for three segments
-pub room_wide : (scales : Bool) → 3 * MSS ≤ size_of (room_of scales)
-room_wide true = omega arith
-room_wide false = omega arith
+pub room_wide : (manner : Manner) → 3 * MSS ≤ size_of (room_of manner)
+room_wide manner = wide manner.scales
+  where
+    wide : (scales : Bool) → 3 * MSS ≤ size_in scales (if scales then LARGEST_CAPACITY else CAPACITY)
+    wide true = omega arith
+    wide false = omega arith
 
 -- an event of a connection brings no more octets than that of the table
 sized_of : (h : SocketsView) (x : Entry) (e : Event) (ev : edge.Event) → IsEventOf h x e ev → IsSized e → progress.IsSized ev
@@ -45,7 +50,7 @@ step_leaves h e sized _ _ _ sound leaves = tt
 joining_leaves : (h : SocketsView) (e : Event) → IsNumbered e → IsSized e → (x : Entry) → IsJoining h e x → LeavesAWindowIn x.role
 joining_leaves h _ small sized _ (made buffers) = sized
 joining_leaves h _ small sized _ made_datagrams = tt
-joining_leaves h _ small sized _ (called now isn source s listener call) = passive_leaves (room_for h s) (local_end h s) (peer_end source s) isn s (later_moment h now) small (room_wide _)
+joining_leaves h _ small sized _ (called now isn source s listener call) = passive_leaves (room_for h s) (local_end h s) (peer_end source s) isn s (later_moment h now) small (room_wide (manner_with h s))
 
 pub each_leaves : (h : SocketsView) (e : Event) → IsSoundTable h → IsNumbered e → IsSized e → EachLeavesAWindow h → EachLeavesAWindow (after_event h e)
 each_leaves h e sound small sized all = by_step (after_event h e) (stepped h e)
@@ -54,8 +59,8 @@ each_leaves h e sound small sized all = by_step (after_event h e) (stepped h e)
     by_step w (followed f) = all_left (IsStepOf h e) (λ (x : Entry). IsSoundRole x.role) (λ (x : Entry). LeavesAWindowIn x.role) (step_leaves h e sized) h.entries w.entries f.entries sound.entries all
     by_step _ (joined {x = x} j) = all_joined (λ (y : Entry). LeavesAWindowIn y.role) h.entries x all (joining_leaves h e small sized x j)
 
-pub fresh_leaves : (addr : Addr) (scales : Bool) → EachLeavesAWindow (new_sockets addr scales)
-fresh_leaves addr scales = tt
+pub fresh_leaves : (addr : Addr) (manner : Manner) → EachLeavesAWindow (new_sockets addr manner)
+fresh_leaves addr manner = tt
 
 -- a socket's connection is one of the table
 pub socket_leaves : (h : SocketsView) (id : SocketId) (c : View) (listener : Option SocketId) → EachLeavesAWindow h → role_of h id ≡ Some (Connected c listener)

@@ -1,6 +1,7 @@
 -- What a table keeps over every list of events.
-use Rattle.std.proofs.Common.{◌≡◌, Bool, List, [], ◌∷◌, ◌++◌, refl, sym, ◌∙◌, ap, subst}
+use Rattle.std.proofs.Common.{◌≡◌, List, [], ◌∷◌, ◌++◌, refl, sym, ◌∙◌, ap, subst}
 use Rattle.ipv4.specs.declared.addr.Addr.{Addr}
+use Rattle.tcp_halves.specs.declared.buffers.Manner.{Manner}
 use Rattle.sockets.specs.Causes.{Event, after_event}
 use Rattle.sockets.specs.Offered.{AreAllowed, IsReached}
 use Rattle.sockets.specs.Order.{IsOrdered, IsAllowed}
@@ -44,17 +45,17 @@ led_on h between new first then =
     (first.0 ++ then.0, all.0, all.1 ∙ ap (λ (w : SocketsView). after_events w then.0) first.2 ∙ then.2)
 
 -- a table that is reached
-pub reached_by : (addr : Addr) (scales : Bool) (h : SocketsView) → LeadsTo (new_sockets addr scales) h → IsReached h
-reached_by addr scales h leads = record { addr = addr; scales = scales; events = leads.0; allowed = leads.1; is = leads.2 }
+pub reached_by : (addr : Addr) (manner : Manner) (h : SocketsView) → LeadsTo (new_sockets addr manner) h → IsReached h
+reached_by addr manner h leads = record { addr = addr; manner = manner; events = leads.0; allowed = leads.1; is = leads.2 }
 
 pub further : (h new : SocketsView) → LeadsTo h new → IsReached h → IsReached new
-further h new leads r = reached_by r.addr r.scales new (led_on (new_sockets r.addr r.scales) h new (r.events, r.allowed, r.is) leads)
+further h new leads r = reached_by r.addr r.manner new (led_on (new_sockets r.addr r.manner) h new (r.events, r.allowed, r.is) leads)
 
 pub reached_ordered : (h : SocketsView) → IsReached h → IsOrdered h
-reached_ordered h r = kept_to IsOrdered stays_ordered (new_sockets r.addr r.scales) h (r.events, r.allowed, r.is) (fresh_ordered r.addr r.scales)
+reached_ordered h r = kept_to IsOrdered stays_ordered (new_sockets r.addr r.manner) h (r.events, r.allowed, r.is) (fresh_ordered r.addr r.manner)
 
-pub fresh_over : (addr : Addr) (scales : Bool) → NoneIsOver (new_sockets addr scales)
-fresh_over addr scales = tt
+pub fresh_over : (addr : Addr) (manner : Manner) → NoneIsOver (new_sockets addr manner)
+fresh_over addr manner = tt
 
 pub reached_over : (h : SocketsView) → IsReached h → NoneIsOver h
-reached_over h r = kept_to NoneIsOver (λ w e allowed none. none_over w e none) (new_sockets r.addr r.scales) h (r.events, r.allowed, r.is) (fresh_over r.addr r.scales)
+reached_over h r = kept_to NoneIsOver (λ w e allowed none. none_over w e none) (new_sockets r.addr r.manner) h (r.events, r.allowed, r.is) (fresh_over r.addr r.manner)

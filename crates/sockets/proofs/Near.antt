@@ -2,6 +2,7 @@
 use Rattle.std.proofs.Common.{◌≡◌, inl, inr, ℕ, ◌+◌, ◌≤◌, ◌==◌, ◌||◌, not, nat_le, Bool, true, false, if◌then◌else◌, List, [], ◌∷◌, length, Option, Some, None, fold, refl, sym, ap, subst, arith}
 use Rattle.std.specs.List.{AllByRecursion}
 use Rattle.ipv4.specs.declared.addr.Addr.{Addr}
+use Rattle.tcp_halves.specs.declared.buffers.Manner.{Manner}
 use Rattle.clock.specs.declared.moment.Moment.{Moment}
 use Rattle.clock.specs.Moments.{after, sooner}
 use Rattle.retransmit.specs.declared.timers.TimerKind.{TimerKind}
@@ -152,8 +153,8 @@ each_near h e last sound up near = record { kept = moment_up_to h e last near.ke
     by_step w (followed f) = all_left (IsStepOf h e) (λ (x : Entry). IsSoundRole x.role) (λ (x : Entry). IsNearIn last x.role) (step_near h e last near.kept up) h.entries w.entries f.entries sound.entries near.each
     by_step _ (joined {x = x} j) = all_joined (λ (y : Entry). IsNearIn last y.role) h.entries x near.each (joining_near h e last near.kept up x j)
 
-pub fresh_near : (addr : Addr) (scales : Bool) (last : Moment) → AreNear last (new_sockets addr scales)
-fresh_near addr scales last = record { kept = omega arith; each = tt }
+pub fresh_near : (addr : Addr) (manner : Manner) (last : Moment) → AreNear last (new_sockets addr manner)
+fresh_near addr manner last = record { kept = omega arith; each = tt }
 
 pub led_near : (h : SocketsView) (events : List Event) (last : Moment) → AreSound h events → AllByRecursion (IsUpTo last) events → AreNear last h → AreNear last (after_events h events)
 led_near h [] last sound up near = near

@@ -6,8 +6,8 @@ use Rattle.sockets.specs.Ticks.{after_tick}
 use Rattle.sockets.specs.Causes.{Event, after_event}
 use Rattle.sockets.proofs.Steps.{IsStepped, followed, joined, stepped, later_kept}
 
-not_before : (h : SocketsView) (e : Event) (w : SocketsView) → IsStepped h e w → (h.last_id ≤ w.last_id) × (h.kept.0 ≤ w.kept.0) × (w.addr ≡ h.addr) × (w.scales ≡ h.scales)
-not_before h e w (followed f) = let same : w.last_id ≡ h.last_id = f.last_id in (omega arith, f.kept, f.addr, f.scales)
+not_before : (h : SocketsView) (e : Event) (w : SocketsView) → IsStepped h e w → (h.last_id ≤ w.last_id) × (h.kept.0 ≤ w.kept.0) × (w.addr ≡ h.addr) × (w.manner ≡ h.manner)
+not_before h e w (followed f) = let same : w.last_id ≡ h.last_id = f.last_id in (omega arith, f.kept, f.addr, f.manner)
 not_before h e _ (joined j) = (omega arith, omega arith, refl, refl)
 
 pub never_back : (h : SocketsView) (e : Event) → (let after = after_event h e in h.last_id ≤ after.last_id)
@@ -19,8 +19,8 @@ moment_kept h e = (not_before h e (after_event h e) (stepped h e)).1
 pub address_stays : (h : SocketsView) (e : Event) → (let after = after_event h e in after.addr) ≡ h.addr
 address_stays h e = (not_before h e (after_event h e) (stepped h e)).2
 
-pub scale_stays : (h : SocketsView) (e : Event) → (let after = after_event h e in after.scales) ≡ h.scales
-scale_stays h e = (not_before h e (after_event h e) (stepped h e)).3
+pub manner_stays : (h : SocketsView) (e : Event) → (let after = after_event h e in after.manner) ≡ h.manner
+manner_stays h e = (not_before h e (after_event h e) (stepped h e)).3
 
 pub tick_told : (h : SocketsView) (now : Moment) → (let after = after_tick h now in now.0 ≤ after.kept.0)
 tick_told h now = (later_kept h now).1

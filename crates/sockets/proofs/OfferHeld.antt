@@ -11,6 +11,7 @@ use Rattle.sockets.specs.declared.entry.Entry.{Entry}
 use Rattle.sockets.specs.declared.role.Role.{Role}
 use Rattle.sockets.specs.declared.role.Role.TheVariants.{Connected}
 use Rattle.ipv4.specs.declared.addr.Addr.{Addr}
+use Rattle.tcp_halves.specs.declared.buffers.Manner.{Manner}
 use Rattle.sockets.specs.Entries.{waits_at, is_waiting_at, is_waiting_as, is_waiting_id, backlog_of, role_after_accept, with_role}
 use Rattle.sockets.specs.SocketsView.{SocketsView, new_sockets}
 use Rattle.sockets.specs.Calls.{next_offered}
@@ -331,8 +332,8 @@ joined-holds h w holds j = record {
 -- Every table.
 
 -- it holds of a new table ..
-pub fresh-holds : (addr : Addr) (scales : Bool) → Holds (new_sockets addr scales)
-fresh-holds addr scales = record { ids = omega arith; plain = tt; few = omega arith; unborn = λ id above. refl; backlogs = tt; each = λ id. refl }
+pub fresh-holds : (addr : Addr) (manner : Manner) → Holds (new_sockets addr manner)
+fresh-holds addr manner = record { ids = omega arith; plain = tt; few = omega arith; unborn = λ id above. refl; backlogs = tt; each = λ id. refl }
 
 -- an event is a step of the table or two, in which those that stay wait nowhere else, or an entry joins
 pub by-steps : (P : SocketsView → Type 0) → ((h w : SocketsView) → Holds h → w.last_id ≡ h.last_id → Follows IsCarried IsNothing h.entries w.entries → P h → P w) → ((h w : SocketsView) → IsJoined h w → P h → P w)
@@ -360,7 +361,7 @@ all-hold h [] allowed holds = holds
 all-hold h (e ∷ rest) allowed holds = all-hold (after_event h e) rest allowed.1 (event-holds h e allowed.0 holds)
 
 pub reached-holds : (h : SocketsView) → IsReached h → Holds h
-reached-holds h r = subst Holds r.is (all-hold (new_sockets r.addr r.scales) r.events r.allowed (fresh-holds r.addr r.scales))
+reached-holds h r = subst Holds r.is (all-hold (new_sockets r.addr r.manner) r.events r.allowed (fresh-holds r.addr r.manner))
 
 -- What becomes of those offered.
 

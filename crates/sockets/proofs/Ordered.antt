@@ -5,6 +5,7 @@ use Rattle.std.specs.List.{find, list_any}
 use Rattle.std.proofs.lemmas.Bool.{eqb-true, and_parts, or_parts}
 use Rattle.clock.specs.declared.moment.Moment.{Moment}
 use Rattle.ipv4.specs.declared.addr.Addr.{Addr}
+use Rattle.tcp_halves.specs.declared.buffers.Manner.{Manner}
 use Rattle.ipv4.specs.declared.addr.Endpoint.{Endpoint}
 use Rattle.udp_socket.specs.SocketView.{SocketView as Queues, with_sent}
 use Rattle.tcp_segment.specs.Segment.{Segment}
@@ -37,8 +38,8 @@ use Rattle.sockets.proofs.Steps.{IsStepOf, stays, moves, ends, binds, listens, o
 use Rattle.sockets.proofs.KeptEnds.{keeps-nothing, keeps-event}
 use Rattle.sockets.proofs.Ordering.{IsBound, Keeps, keeps_role, keeps_connection, keeps_queues, nowhere, no_port, ordered_by, ordered_still, count_changed, count_joined, count_unfound, count_none}
 
-pub fresh_ordered : (addr : Addr) (scales : Bool) → IsOrdered (new_sockets addr scales)
-fresh_ordered addr scales = record { ids = omega arith; ends = λ local peer. omega arith; ports = λ port. omega arith; datagram_ports = λ port. omega arith; own = tt; last_port = record { from_first = omega arith; to_last = omega arith } }
+pub fresh_ordered : (addr : Addr) (manner : Manner) → IsOrdered (new_sockets addr manner)
+fresh_ordered addr manner = record { ids = omega arith; ends = λ local peer. omega arith; ports = λ port. omega arith; datagram_ports = λ port. omega arith; own = tt; last_port = record { from_first = omega arith; to_last = omega arith } }
 
 -- What an event makes of an entry that takes no end and no port.
 

@@ -42,6 +42,7 @@ ended_sound v error sound = record {
   kept = sound.kept;
   flight = none_out;
   mark = λ distance none. cc;
+  small = omega arith;
   resend = record { timeout_least = sound.resend.timeout_least; timeout_most = sound.resend.timeout_most; interval_least = sound.resend.timeout_least; interval_most = sound.resend.timeout_most; expiries = sound.resend.expiries };
   connection = refl;
   segment = sound.segment;
@@ -67,6 +68,7 @@ ended_sound v error sound = record {
 
 record Fits (v w : View) : Type 0 where
   mark : ForSome w.resend.mark (λ distance. distance < outstanding v.sending)
+  small : w.resend.small ≡ v.resend.small
   resend : IsSoundResend w.resend
   delays : w.delays_ack ≡ v.delays_ack
   ack : ((is_syn_sent v.state || is_closed v.state) && (w.owes_ack || v.delays_ack)) ≡ false
@@ -79,6 +81,7 @@ expiry_fits v now sound lives =
     either View (Fits v) (has_come v.timers.retransmission now) (retransmission_expired v) _
     (λ comes. let few : v.resend.expiries < 12 = grind (arith, nat_tests, common_steps) in record {
       mark = first_mark (outstanding v.sending);
+      small = refl;
       resend = record {
         timeout_least = grind (arith, sound.resend.timeout_least);
         timeout_most = omega arith;
@@ -92,6 +95,7 @@ expiry_fits v now sound lives =
     (λ early. either View (Fits v) (has_come v.timers.probe now) (probe_expired v now) v
     (λ comes. let few : v.resend.expiries < 12 = grind (arith, nat_tests, common_steps) in record {
       mark = sound.mark;
+      small = refl;
       resend = record {
         timeout_least = sound.resend.timeout_least;
         timeout_most = sound.resend.timeout_most;
@@ -102,7 +106,7 @@ expiry_fits v now sound lives =
       delays = refl;
       ack = sound.ack;
     })
-    (λ late. record { mark = sound.mark; resend = sound.resend; delays = refl; ack = sound.ack }))
+    (λ late. record { mark = sound.mark; small = refl; resend = sound.resend; delays = refl; ack = sound.ack }))
 
 acks_once : (never owes delays : Bool) → (never && (owes || delays)) ≡ false → (never && ((owes || delays) || delays)) ≡ false
 acks_once never owes delays e = grind (arith, common_steps)
@@ -112,6 +116,7 @@ delayed_fits v w now f =
     either View (Fits v) (has_come w.timers.delayed_ack now) (record w { owes_ack = w.owes_ack || w.delays_ack }) w
     (λ comes. record {
       mark = f.mark;
+      small = f.small;
       resend = f.resend;
       delays = f.delays;
       ack = ap (λ (d : Bool). (is_syn_sent v.state || is_closed v.state) && ((w.owes_ack || d) || v.delays_ack)) f.delays ∙ acks_once (is_syn_sent v.state || is_closed v.state) w.owes_ack v.delays_ack f.ack;
@@ -123,6 +128,7 @@ override_fits v w now f =
     either View (Fits v) (has_come w.timers.overriding now) (record w { resend = record w.resend { overridden = true }; timers = record w.timers { overriding = None } }) w
     (λ comes. let r = f.resend in record {
       mark = f.mark;
+      small = f.small;
       resend = record { timeout_least = r.timeout_least; timeout_most = r.timeout_most; interval_least = r.interval_least; interval_most = r.interval_most; expiries = r.expiries };
       delays = f.delays;
       ack = f.ack;
@@ -137,6 +143,7 @@ acted_fits v now sound lives =
     let f = override_fits v second now (delayed_fits v first now (expiry_fits v now sound lives)) in
     let r = f.resend in record {
       mark = f.mark;
+      small = f.small;
       resend = record {
         timeout_least = r.timeout_least;
         timeout_most = r.timeout_most;
@@ -167,6 +174,7 @@ acted_sound v w sound kept f =
       kept = sound.kept;
       flight = sound.flight;
       mark = f.mark;
+      small = subst (λ n. n ≤ outstanding v.sending) (sym f.small) sound.small;
       resend = f.resend;
       connection = sound.connection;
       segment = sound.segment;

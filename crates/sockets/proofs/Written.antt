@@ -1,5 +1,5 @@
 -- A write of one entry, seen in the table.
-use Rattle.std.proofs.Common.{◌≡◌, ℕ, Bool, true, false, if◌then◌else◌, List, length, get_or, set, Some, Result, Ok, Err, ap, sym, ◌∙◌, refl}
+use Rattle.std.proofs.Common.{◌≡◌, ℕ, ◌<◌, Bool, true, false, if◌then◌else◌, List, length, get_or, set, Some, Result, Ok, Err, ap, subst, sym, ◌∙◌, refl, length-set}
 use Rattle.std.specs.List.{find, position, refill}
 use Rattle.std.specs.Result.{OnOk, OnErr}
 use Rattle.std.proofs.lemmas.List.{set-get_or}
@@ -8,7 +8,7 @@ use Rattle.sockets.specs.declared.role.Role.{Role}
 use Rattle.sockets.specs.Entries.{with_role}
 use Rattle.sockets.specs.SocketsView.{SocketsView}
 use Rattle.sockets.specs.Lists.{change_first}
-use Rattle.sockets.proofs.Firsts.{refill_set, find-position, change_first-position}
+use Rattle.sockets.proofs.Firsts.{refill_set, find-position, position-lt-length, change_first-position}
 
 -- The table v is h, and in its entries, lent as the slice zs, the entry at the place of the first that passes was changed.
 pub entry_written : (v h : SocketsView) (p : Entry → Bool) (f : Entry → Entry) (zs : List Entry) (i : ℕ) (x y : Entry) → v ≡ h → position p h.entries ≡ Some i → zs ≡ v.entries → x ≡ get_or zs i x → y ≡ f (get_or zs i x) → record v { entries = refill (length v.entries) v.entries (set zs i y) } ≡ record h { entries = change_first p f h.entries }
@@ -23,6 +23,12 @@ entry_written v h p f zs i x y same place lent at changed =
 -- Such an entry is the first that passes.
 pub found_lent : (v h : SocketsView) (p : Entry → Bool) (zs : List Entry) (i : ℕ) (x : Entry) → v ≡ h → position p h.entries ≡ Some i → zs ≡ v.entries → x ≡ get_or zs i x → find p h.entries ≡ Some x
 found_lent v h p zs i x same place lent at = find-position p h.entries i x place (at ∙ ap (λ ws. get_or ws i x) (lent ∙ ap (λ (w : SocketsView). w.entries) same))
+
+-- Its place is one of the table still.
+pub place_written : (v h : SocketsView) (p : Entry → Bool) (zs : List Entry) (i : ℕ) (y : Entry) → v ≡ h → position p h.entries ≡ Some i → zs ≡ v.entries → i < length (refill (length v.entries) v.entries (set zs i y))
+place_written v h p zs i y same place lent =
+    let here : i < length v.entries = subst (λ (w : SocketsView). i < length w.entries) (sym same) (position-lt-length p h.entries i place) in
+    subst (λ ws. i < length ws) (sym (refill_set v.entries zs i y lent)) (subst (λ n. i < n) (sym (length-set v.entries i y)) here)
 
 -- An entry whose role was changed where it stands.
 pub role_changed : (change : Role → Role) (z : Entry) (r : Role) → r ≡ change z.role → record z { role = r } ≡ with_role change z

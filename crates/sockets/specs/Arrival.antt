@@ -7,6 +7,7 @@ use Rattle.ipv4.specs.Addresses.{pair_of}
 use Rattle.tcp_segment.specs.declared.flags.Flags.{Flags}
 use Rattle.tcp_segment.specs.declared.head.Head.{Head}
 use Rattle.tcp_segment.specs.Segment.{Segment, scale_option_of}
+use Rattle.tcp_halves.specs.declared.buffers.Manner.{Manner}
 use Rattle.tcp_halves.specs.Halves.{Room}
 use Rattle.tcp_state.specs.declared.connection.Fate.{Fate}
 use Rattle.tcp_state.specs.declared.connection.Fate.TheVariants.{Rejected}
@@ -37,9 +38,13 @@ is_opening flags = flags.syn && not flags.rst && not flags.ack
 abbrev pub has_no_room : SocketsView → Entry → Bool
 has_no_room h listener = nat_le (backlog_of listener.role) (count_by (is_waiting_at listener.id) h.entries) || is_table_full h
 
--- the buffers of a connection that a SYN opens are made for what it allows
+-- how a connection behaves that a SYN opens: windows are scaled only where that has the option too (RFC 7323 section 2.2)
+abbrev pub manner_with : SocketsView → Segment → Manner
+manner_with h s = record h.manner { scales = h.manner.scales && is_some (scale_option_of s) }
+
+-- its buffers are made for that
 abbrev pub room_for : SocketsView → Segment → Room
-room_for h s = room_of (h.scales && is_some (scale_option_of s))
+room_for h s = room_of (manner_with h s)
 
 -- a connection in SYN-RECEIVED, opened at a moment, at the end of the table, which waits at the listener
 abbrev pub after_opening : SocketsView → Moment → ℕ → Entry → Addr → Segment → SocketsView

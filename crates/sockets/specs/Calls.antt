@@ -72,9 +72,9 @@ after_datagram_socket h = record h {
   entries = h.entries ++ new_datagram_socket (record { 0 = h.last_id + 1 }) ∷ [];
 }
 
--- the table after a socket of this kind was made; the buffers of one of TCP are those of a table that scales windows or doesn't
+-- the table after a socket of this kind was made; the buffers of one of TCP are made for what the table's connections do
 abbrev pub IsMade : Kind → SocketsView → SocketsView → Type 0
-IsMade Tcp old new = new ≡ after_socket old (room_of old.scales)
+IsMade Tcp old new = new ≡ after_socket old (room_of old.manner)
 IsMade Udp old new = new ≡ after_datagram_socket old
 
 -- the port asked for where it is free, and in place of port 0 the first dynamic one that is, behind the last one given

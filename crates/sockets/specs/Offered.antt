@@ -2,6 +2,7 @@
 use Rattle.std.specs.Prelude.{◌≡◌, ◌≤◌, ◌==◌, ◌&&◌, not, Bool, List, [], ◌∷◌, length, count_by}
 use Rattle.std.specs.List.{list_any, AllByRecursion}
 use Rattle.ipv4.specs.declared.addr.Addr.{Addr}
+use Rattle.tcp_halves.specs.declared.buffers.Manner.{Manner}
 use Rattle.sockets.specs.declared.table.TheConstants.{ENTRIES}
 use Rattle.sockets.specs.declared.entry.SocketId.{SocketId}
 use Rattle.sockets.specs.declared.entry.Entry.{Entry}
@@ -20,10 +21,10 @@ AreAllowed h (e ∷ rest) = IsAllowed h e × AreAllowed (after_event h e) rest
 -- a table that events lead to from a new one, each of them allowed
 pub record IsReached (h : SocketsView) : Type 0 where
   pub addr : Addr
-  pub scales : Bool
+  pub manner : Manner
   pub events : List Event
-  pub allowed : AreAllowed (new_sockets addr scales) events
-  pub is : after_events (new_sockets addr scales) events ≡ h
+  pub allowed : AreAllowed (new_sockets addr manner) events
+  pub is : after_events (new_sockets addr manner) events ≡ h
 
 -- A connection is ready that waits at a listener to be accepted and has passed SYN-RECEIVED, also one that was reset since. One that was aborted with
 -- its listener is left, and waits no longer.

@@ -1,8 +1,9 @@
 -- What a reader sees of the table of sockets and connections over one address.
-use Rattle.std.specs.Prelude.{ℕ, Bool, nat_lt, if◌then◌else◌, List, [], Option, option_map, find}
+use Rattle.std.specs.Prelude.{ℕ, nat_lt, if◌then◌else◌, List, [], Option, option_map, find}
 use Rattle.ipv4.specs.declared.addr.Addr.{Addr}
 use Rattle.ipv4.specs.declared.addr.Pair.{Pair}
 use Rattle.tcp_halves.specs.declared.buffers.TheConstants.{CAPACITY, LARGEST_CAPACITY}
+use Rattle.tcp_halves.specs.declared.buffers.Manner.{Manner}
 use Rattle.tcp_halves.specs.Halves.{Room}
 use Rattle.clock.specs.declared.moment.Moment.{Moment}
 use Rattle.sockets.specs.declared.entry.SocketId.{SocketId}
@@ -11,12 +12,12 @@ use Rattle.sockets.specs.declared.role.Role.{Role}
 use Rattle.sockets.specs.Lists.{change_first}
 use Rattle.sockets.specs.Entries.{is_socket, is_of_pair, with_role}
 
--- its address, whether its connections scale windows where their peers do (RFC 7323 section 2), the kept moment, the dynamic port given last (65,535 before the first), the id given last (0 before the first), the
+-- its address, how its connections behave, the kept moment, the dynamic port given last (65,535 before the first), the id given last (0 before the first), the
 -- identification of the next datagram (RFC 791 section 3.2), its entries in order of id, and the connections that wait to be accepted and have passed
 -- SYN-RECEIVED, in the order in which they did
 pub record SocketsView : Type 0 where
   pub addr : Addr
-  pub scales : Bool
+  pub manner : Manner
   pub kept : Moment
   pub last_port : ℕ
   pub last_id : ℕ
@@ -36,15 +37,15 @@ with_socket h id change = record h { entries = change_first (is_socket id) (with
 abbrev pub later_moment : SocketsView → Moment → Moment
 later_moment h now = if nat_lt h.kept.0 now.0 then now else h.kept
 
--- what the buffers of a connection are made for: a mebibyte each where windows are scaled, else as much as a window in 16 bits tells
-abbrev pub room_of : Bool → Room
-room_of scales = record { capacity = if scales then LARGEST_CAPACITY else CAPACITY; scales = scales }
+-- what the buffers of a connection are made for: a mebibyte each where windows are scaled (RFC 7323 section 2), else as much as a window in 16 bits tells
+abbrev pub room_of : Manner → Room
+room_of manner = record { capacity = if manner.scales then LARGEST_CAPACITY else CAPACITY; manner = manner }
 
 -- a table in which nothing happened
-abbrev pub new_sockets : Addr → Bool → SocketsView
-new_sockets addr scales = record {
+abbrev pub new_sockets : Addr → Manner → SocketsView
+new_sockets addr manner = record {
   addr = addr;
-  scales = scales;
+  manner = manner;
   kept = record { 0 = 0 };
   last_port = 65535;
   last_id = 0;

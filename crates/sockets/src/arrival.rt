@@ -1,7 +1,6 @@
 //! What a segment that arrived makes of the table (RFC 9293 section 3.10.7).
 
-ghost use Rattle.std.specs.Prelude.{ℕ, ◌≡◌, ◌≤◌, ◌<◌, true, length, position, IfOk, MatchResult, Some, is_some, ◌&&◌};
-ghost use Rattle.tcp_segment.specs.Segment.{scale_option_of};
+ghost use Rattle.std.specs.Prelude.{ℕ, ◌≡◌, ◌≤◌, ◌<◌, true, length, position, IfOk, MatchResult, Some};
 ghost use Rattle.tcp_state.specs.Arrival.{opened_passively};
 ghost use Rattle.sockets.specs.Arrival.{is_opening, arrival_with_reply, Meets};
 ghost use Rattle.sockets.specs.Entries.{is_between, is_listening_at};
@@ -17,11 +16,11 @@ use clock::Moment;
 use ipv4::{Addr, Endpoint, Pair};
 use std::alloc::AllocError;
 use tcp_segment::{Head, Seq, TcpView};
-use tcp_state::{Buffers, Connection, Fate};
+use tcp_state::{Buffers, Connection, Fate, Manner};
 
 #[tactic(auto, using(crate::proofs::Firsts::firsts))]
 impl Sockets {
-    ghost use Rattle.sockets.specs.Arrival.{room_for, after_opening, local_end, peer_end, arrival, arrival_alone, Meets, pair_opened, pair_at_listener, has_no_room};
+    ghost use Rattle.sockets.specs.Arrival.{manner_with, room_for, after_opening, local_end, peer_end, arrival, arrival_alone, Meets, pair_opened, pair_at_listener, has_no_room};
 
     /// Takes a segment that came from this address, at the later of `now` and the kept moment: it goes to the connection of its two ends,
     /// where there is one, else to the listener at its destination port. `isn` is used only where it opens a connection.
@@ -86,7 +85,7 @@ impl Sockets {
             return Taken::NoRoom;
         }
         let listener = listener.id;
-        let buffers = new_buffers(self.alloc, self.scales_with(syn));
+        let buffers = new_buffers(self.alloc, self.manner_with(syn));
         self.open_with(buffers, now, isn, listener, source, syn)
     }
 
@@ -111,8 +110,8 @@ impl Sockets {
             return Taken::NoRoom;
         };
         let (local, peer) = self.ends(source, syn);
-        let scales = self.scales_with(syn);
-        let connection = half_open(buffers, scales, local, peer, isn, syn, now);
+        let manner = self.manner_with(syn);
+        let connection = half_open(buffers, manner, local, peer, isn, syn, now);
         self.last_id += 1;
         let id = SocketId(self.last_id);
         index::file(&mut self.ends, id, local, peer);
@@ -120,11 +119,14 @@ impl Sockets {
         Taken::Done
     }
 
-    /// Whether a connection that `syn` opens scales windows: this table's do where the SYN has the option (RFC 7323 section 2.2).
-    fn scales_with(&self, syn: &TcpView<'_>) -> bool
-        ensures { result ≡ (self.now.scales && is_some (scale_option_of syn.now)) }
+    /// How a connection behaves that `syn` opens: windows are scaled only where that has the option too (RFC 7323 section 2.2).
+    fn manner_with(&self, syn: &TcpView<'_>) -> Manner
+        ensures { result ≡ manner_with self.now syn.now }
     {
-        self.scales && syn.scale_option().is_some()
+        Manner {
+            scales: self.manner.scales && syn.scale_option().is_some(),
+            ..self.manner
+        }
     }
 
     /// The pair that this segment from this address would open if memory were there (RFC 9293 section 3.10.7.2); None where it would open
@@ -189,18 +191,18 @@ fn answered(reply: Option<Head>) -> Taken
     }
 }
 
-/// A connection that `syn` opens in buffers that were made for windows that are scaled, or not.
+/// A connection that `syn` opens in buffers that were made for one that behaves so.
 fn half_open(
     buffers: Buffers,
-    scales: bool,
+    manner: Manner,
     local: Endpoint,
     peer: Endpoint,
     isn: Seq,
     syn: &TcpView<'_>,
     now: Moment,
 ) -> Connection
-    requires { buffers ≡ room_of scales }
-    ensures { result ≡ opened_passively (room_of scales) local peer isn.0 syn.now now }
+    requires { buffers ≡ room_of manner }
+    ensures { result ≡ opened_passively (room_of manner) local peer isn.0 syn.now now }
 {
     Connection::passive(buffers, local, peer, isn, syn, now)
 }

@@ -17,7 +17,7 @@ use crate::{index, ports};
 use ipv4::{Addr, Endpoint, Pair};
 use std::alloc::{AllocError, Global};
 use tcp_segment::Seq;
-use tcp_state::{Buffers, CAPACITY, LARGEST_CAPACITY, Received, State};
+use tcp_state::{Buffers, CAPACITY, LARGEST_CAPACITY, Manner, Received, State};
 use udp_socket::UdpSocket;
 
 /// The address that stands for every address of ours.
@@ -48,7 +48,7 @@ impl Sockets {
         }
         match kind {
             Kind::Tcp => {
-                let buffers = new_buffers(self.alloc, self.scales);
+                let buffers = new_buffers(self.alloc, self.manner);
                 self.stream_with(buffers)
             }
             Kind::Udp => {
@@ -442,10 +442,10 @@ fn may_open(role: &Role) -> Result<Option<Endpoint>, Refusal>
     }
 }
 
-/// The buffers of a connection whose windows may be scaled, or not.
-pub(crate) fn new_buffers(alloc: Global, scales: bool) -> Result<Buffers, AllocError>
-    ensures { IfOk result (λ buffers. buffers ≡ room_of scales) }
+/// The buffers of a connection that behaves so.
+pub(crate) fn new_buffers(alloc: Global, manner: Manner) -> Result<Buffers, AllocError>
+    ensures { IfOk result (λ buffers. buffers ≡ room_of manner) }
 {
-    let capacity = if scales { LARGEST_CAPACITY } else { CAPACITY };
-    Buffers::new(alloc, capacity, scales)
+    let capacity = if manner.scales { LARGEST_CAPACITY } else { CAPACITY };
+    Buffers::new(alloc, capacity, manner)
 }

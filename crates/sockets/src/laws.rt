@@ -13,6 +13,7 @@ ghost use Rattle.tcp_segment.specs.Sent.{CanBeSent};
 ghost use Rattle.clock.specs.declared.moment.Moment.{Moment};
 ghost use Rattle.clock.specs.Moments.{has_come};
 ghost use Rattle.tcp_segment.specs.declared.TheConstants.{MSS};
+ghost use Rattle.tcp_halves.specs.declared.buffers.Manner.{Manner};
 ghost use Rattle.tcp_halves.specs.Stream.{size_of, receive_window};
 ghost use Rattle.tcp_state.specs.Due.{first_due};
 ghost use Rattle.tcp_state.specs.Hop.{unheard_until};
@@ -90,7 +91,7 @@ pub fn an_event_is_one_of_each_connection()
 /// What is over is taken out at once: no event leaves a connection in the table that its caller closed, that is CLOSED and owes no reset. A new
 /// table has none, so none that is reached has one.
 pub fn nothing_over_stays()
-    ensures fresh { (addr : Addr) (scales : Bool) → NoneIsOver (new_sockets addr scales) }
+    ensures fresh { (addr : Addr) (manner : Manner) → NoneIsOver (new_sockets addr manner) }
     ensures kept { (h : SocketsView) (e : Event) → NoneIsOver h → NoneIsOver (after_event h e) }
     ensures reached { (h : SocketsView) → IsReached h → NoneIsOver h }
 {}
@@ -98,7 +99,7 @@ pub fn nothing_over_stays()
 /// Every connection of the table keeps its time and its congestion window, from its opening on: a timer runs exactly where something waits for it, and the window is one that
 /// events lead to, and counts in the peer's segments. So it is for one in a new table, and each event of the table leaves it so.
 pub fn connections_keep_time()
-    ensures fresh { (addr : Addr) (scales : Bool) → EachKeepsTime (new_sockets addr scales) }
+    ensures fresh { (addr : Addr) (manner : Manner) → EachKeepsTime (new_sockets addr manner) }
     ensures kept { (h : SocketsView) (e : Event) → IsSoundTable h → IsNumbered e → EachKeepsTime h → EachKeepsTime (after_event h e) }
 {}
 
@@ -111,7 +112,7 @@ pub fn ticks_leave_tables_sound()
 /// of them. So no deadline lies more than 240,000 ms past it, the time that TIME-WAIT lasts (RFC 9293 section 3.4.2), and no wait for a hop ends more than 483,000 ms past it. A segment, an emission and what is given up are taken at a moment that the table
 /// doesn't keep; where each names none but what the table keeps, since a tick told it, all this is said of the kept moment.
 pub fn timers_lie_near()
-    ensures fresh { (addr : Addr) (scales : Bool) (latest : Moment) → AreNear latest (new_sockets addr scales) }
+    ensures fresh { (addr : Addr) (manner : Manner) (latest : Moment) → AreNear latest (new_sockets addr manner) }
     ensures event { (h : SocketsView) (e : Event) (latest : Moment) → IsSoundTable h → IsUpTo latest e → AreNear latest h → AreNear latest (after_event h e) }
     ensures over { (h : SocketsView) (events : List Event) (latest : Moment) → AreSound h events → AllByRecursion (IsUpTo latest) events → AreNear latest h → AreNear latest (after_events h events) }
     ensures kept { (h : SocketsView) (e : Event) → IsSoundTable h → let after = after_event h e in IsUpTo after.kept e → AreNear h.kept h → AreNear after.kept after }
@@ -122,8 +123,8 @@ pub fn timers_lie_near()
 /// An open connection of which nothing is due, and that has nothing to be read, leaves its peer a window of a segment at least, whether it has spoken or not: so it is in a new table, and over each event that makes no socket of less room
 /// than a host's, and brings no segment of more octets than a segment may have (RFC 9293 sections 3.8.6.2.2 and 3.8.6.3).
 pub fn quiet_readers_leave_a_window()
-    ensures fresh { (addr : Addr) (scales : Bool) → EachLeavesAWindow (new_sockets addr scales) }
-    ensures room { (scales : Bool) → 3 * MSS ≤ size_of (room_of scales) }
+    ensures fresh { (addr : Addr) (manner : Manner) → EachLeavesAWindow (new_sockets addr manner) }
+    ensures room { (manner : Manner) → 3 * MSS ≤ size_of (room_of manner) }
     ensures event { (h : SocketsView) (e : Event) → IsSoundTable h → IsNumbered e → IsSized e → EachLeavesAWindow h → EachLeavesAWindow (after_event h e) }
     ensures quiet { (h : SocketsView) (id : SocketId) (c : View) (listener : Option SocketId) → EachLeavesAWindow h → role_of h id ≡ Some (Connected c listener) → (is_opening c.state || is_closed c.state) ≡ false → first_due c ≡ None
         → c.receiving.readable ≡ [] → MSS ≤ receive_window c.receiving }
@@ -157,14 +158,14 @@ pub fn ticks_wait()
 /// The table stays in order, from the first on, whatever happens but a call that is refused and a segment from our own address, and so each that is reached is: ids ascend, no two connections but CLOSED
 /// ones have the same two ends (RFC 9293 section 3.4.1), no two TCP sockets without a connection have the same port, and no
 /// two UDP sockets.
-/// The id given last never goes back, so none is given twice. The address stays, and whether windows may be scaled.
+/// The id given last never goes back, so none is given twice. The address stays, and how connections behave.
 pub fn tables_stay_ordered()
-    ensures fresh { (addr : Addr) (scales : Bool) → IsOrdered (new_sockets addr scales) }
+    ensures fresh { (addr : Addr) (manner : Manner) → IsOrdered (new_sockets addr manner) }
     ensures kept { (h : SocketsView) (e : Event) → IsAllowed h e → IsOrdered h → IsOrdered (after_event h e) }
     ensures reached { (h : SocketsView) → IsReached h → IsOrdered h }
     ensures numbered { (h : SocketsView) (e : Event) → let after = after_event h e in h.last_id ≤ after.last_id }
     ensures address { (h : SocketsView) (e : Event) → let after = after_event h e in after.addr ≡ h.addr }
-    ensures scale { (h : SocketsView) (e : Event) → let after = after_event h e in after.scales ≡ h.scales }
+    ensures manner { (h : SocketsView) (e : Event) → let after = after_event h e in after.manner ≡ h.manner }
 {}
 
 /// No datagram moves a connection: where a UDP socket is made, where a datagram is given to be sent, is read or comes, every TCP socket and

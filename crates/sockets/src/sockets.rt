@@ -11,13 +11,14 @@ use fixed_vec::FixedVec;
 use ipv4::{Addr, Pair};
 use std::alloc::{AllocError, Global};
 use std::marker::Model;
+use tcp_state::Manner;
 
 /// The table of the sockets and connections over one address.
 #[derive(Drop)]
 pub struct Sockets {
     pub(crate) alloc: Global,
     pub(crate) addr: Addr,
-    pub(crate) scales: bool,
+    pub(crate) manner: Manner,
     pub(crate) kept: Moment,
     pub(crate) last_port: u16,
     pub(crate) last_id: u64,
@@ -35,7 +36,7 @@ impl Model for Sockets {
 
     ghost view = { λ h. record {
       addr = h.addr;
-      scales = h.scales;
+      manner = h.manner;
       kept = h.kept;
       last_port = h.last_port;
       last_id = h.last_id;
@@ -59,15 +60,14 @@ impl Sockets {
     ghost use Rattle.sockets.specs.Pairs.{socket_pair};
     ghost use Rattle.sockets.specs.Sound.{IsSoundTable};
 
-    /// A table with no sockets, whose kept moment is 0, and whose connections scale windows where their peers do, or never (RFC 7323 section 2).
-    /// Fails only where memory is refused.
-    pub fn new(alloc: Global, addr: Addr, scales: bool) -> Result<Sockets, AllocError>
-        ensures { IfOk result (λ table. table ≡ new_sockets addr scales) }
+    /// A table with no sockets, whose kept moment is 0, and whose connections behave so. Fails only where memory is refused.
+    pub fn new(alloc: Global, addr: Addr, manner: Manner) -> Result<Sockets, AllocError>
+        ensures { IfOk result (λ table. table ≡ new_sockets addr manner) }
     {
         Ok(Sockets {
             alloc,
             addr,
-            scales,
+            manner,
             kept: Moment(0),
             last_port: ports::LAST,
             last_id: 0,

@@ -11,7 +11,7 @@ use Rattle.tcp_halves.specs.Stream.{outstanding, after_sent, receive_window}
 use Rattle.tcp_halves.specs.Windows.{has_grown, after_advertisement, syn_window, after_syn_advertisement}
 use Rattle.tcp_state.specs.Resend.{resend_probed}
 use Rattle.tcp_state.specs.Timing.{clocked}
-use Rattle.tcp_state.specs.Due.{probe_stretch, end_of, brings_new_octets, after_ack_paid, after_syn_ack_paid, after_resent, after_first_sent, after_numbers, after_new_octets, after_stretch, after_probe, after_syn_again, after_syn_out, after_going_out, after_emitted}
+use Rattle.tcp_state.specs.Due.{probe_stretch, end_of, brings_new_octets, after_ack_paid, after_syn_ack_paid, after_resent, after_first_sent, after_numbers, after_new_octets, after_new_text, after_stretch, after_probe, after_syn_again, after_syn_out, after_going_out, after_emitted}
 use Rattle.stream_law.specs.Channel.{Sender, Receiver, Waiting, Synchronised}
 use Rattle.stream_law.specs.ChannelViews.{sender_of, receiver_of, receiving_of}
 use Rattle.stream_law.proofs.ConnectionArrival.{either}
@@ -54,6 +54,10 @@ renewed : (v w : View) (half : SendingHalf) (new : Bool) → GoesOut v w half �
 renewed v w half true g = record { state = g.state; sending = g.sending; receiver = g.receiver; readable = g.readable }
 renewed v w half false g = g
 
+renewed_by : (v w : View) (stretch : Stretch) (half : SendingHalf) (new : Bool) → GoesOut v w half → GoesOut v (if new then after_new_text w stretch else w) half
+renewed_by v w stretch half true g = record { state = g.state; sending = g.sending; receiver = g.receiver; readable = g.readable }
+renewed_by v w stretch half false g = g
+
 -- whether it is for the first time or not
 syn_numbered : (v : View) (now : Moment) → GoesOut v (after_syn_out v now) (after_sent v.sending 1)
 syn_numbered v now =
@@ -77,7 +81,7 @@ stretch-out v stretch now =
     let half = after_sent v.sending (end_of stretch) in
     let sent = after_numbers v stretch.offset (end_of stretch) now in
     timed v (after_going_out v (Text stretch) now) half now
-    (paid v (after_stretch v stretch now) half true (renewed v sent half (brings_new_octets v stretch) (numbered v stretch.offset (end_of stretch) now)))
+    (paid v (after_stretch v stretch now) half true (renewed_by v sent stretch half (brings_new_octets v stretch) (numbered v stretch.offset (end_of stretch) now)))
 
 pub probe-out : (v : View) (now : Moment) → GoesOut v (after_emitted v Probe now) (after_sent v.sending (end_of (probe_stretch v)))
 probe-out v now =

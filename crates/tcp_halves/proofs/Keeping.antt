@@ -12,6 +12,7 @@ use Rattle.tcp_segment.specs.Wire.{past}
 use Rattle.tcp_halves.specs.Numbers.{is_before}
 use Rattle.tcp_segment.specs.declared.TheConstants.{MSS}
 use Rattle.tcp_halves.specs.declared.buffers.TheConstants.{CAPACITY, LARGEST_CAPACITY}
+use Rattle.tcp_halves.specs.declared.buffers.Manner.{Manner}
 use Rattle.tcp_halves.specs.Halves.{Receiving}
 use Rattle.tcp_halves.specs.Stream.{size_in, own_unit, receiving_nothing, receiving_settled, buffer_of, ReceivingFits, KeptInWindow, receive_window, after_syn, distance_of, octets_within, octets_gained, after_octets, after_end, after_read}
 use Rattle.tcp_halves.specs.Windows.{receive_room, has_grown, whole_units, after_advertisement, syn_window, after_syn_advertisement}
@@ -225,8 +226,8 @@ pub sizes_meet : (scales : Bool) (capacity : ℕ) → capacity ≤ LARGEST_CAPAC
 sizes_meet true capacity most = (omega arith, omega arith, omega arith, omega (arith, most))
 sizes_meet false capacity most = (omega arith, omega arith, omega arith, omega arith)
 
-pub nothing_keeps : (capacity : ℕ) (scales : Bool) → capacity ≤ LARGEST_CAPACITY → IsKeeping (receiving_nothing (record { capacity = capacity; scales = scales }))
-nothing_keeps capacity scales most = let meet = sizes_meet scales capacity most in record {
+pub nothing_keeps : (capacity : ℕ) (manner : Manner) → capacity ≤ LARGEST_CAPACITY → IsKeeping (receiving_nothing (record { capacity = capacity; manner = manner }))
+nothing_keeps capacity manner most = let meet = sizes_meet manner.scales capacity most in record {
   small = omega arith;
   sized = meet.0;
   most = most;
@@ -358,9 +359,9 @@ taken_count r number octets b distance count within is same at cut counted =
     omega (arith, e, few)
 
 -- a new buffer is that of nothing received
-pub new_is : (b : ReceiveView) (scales : Bool) (size unit : ℕ) → b ≡ nothing_received b.capacity → size ≡ size_in scales b.capacity → unit ≡ own_unit scales
-    → receiving_nothing (record { capacity = b.capacity; scales = scales }) ≡ record { readable = b.readable; kept = b.kept; rnext = 0; edge = 0; size = size; capacity = b.capacity; unit = unit }
-new_is b scales size unit is sized counted =
-    ap (λ (n : ℕ). record { readable = []; kept = replicate b.capacity None; rnext = 0; edge = 0; size = n; capacity = b.capacity; unit = own_unit scales }) (sym sized)
+pub new_is : (b : ReceiveView) (manner : Manner) (size unit : ℕ) → b ≡ nothing_received b.capacity → size ≡ size_in manner.scales b.capacity → unit ≡ own_unit manner.scales
+    → receiving_nothing (record { capacity = b.capacity; manner = manner }) ≡ record { readable = b.readable; kept = b.kept; rnext = 0; edge = 0; size = size; capacity = b.capacity; unit = unit }
+new_is b manner size unit is sized counted =
+    ap (λ (n : ℕ). record { readable = []; kept = replicate b.capacity None; rnext = 0; edge = 0; size = n; capacity = b.capacity; unit = own_unit manner.scales }) (sym sized)
     ∙ (ap (λ (n : ℕ). record { readable = []; kept = replicate b.capacity None; rnext = 0; edge = 0; size = size; capacity = b.capacity; unit = n }) (sym counted)
     ∙ ap (λ (x : ReceiveView). record { readable = x.readable; kept = x.kept; rnext = 0; edge = 0; size = size; capacity = b.capacity; unit = unit }) (sym is))

@@ -1,10 +1,11 @@
 -- The two halves of a connection (RFC 9293 section 3.3.1).
-use Rattle.std.specs.Prelude.{ℕ, Bool, List, Option}
+use Rattle.std.specs.Prelude.{ℕ, List, Option}
+use Rattle.tcp_halves.specs.declared.buffers.Manner.{Manner}
 
--- what the buffers of a connection are made for: how many octets each has room for, and whether its host scales windows (RFC 7323 section 2)
+-- what the buffers of a connection are made for: how many octets each has room for, and how the connection behaves, by its host's set-up
 pub record Room : Type 0 where
   pub capacity : ℕ
-  pub scales : Bool
+  pub manner : Manner
 
 -- the sending half: the octets taken from the caller and not acknowledged, SND.UNA, SND.NXT (the number after the
 -- highest sent), SND.WND, the largest window that the peer ever advertised, SND.WL1, SND.WL2, the size of the segments that the peer takes, how many octets are

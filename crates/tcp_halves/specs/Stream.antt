@@ -21,7 +21,7 @@ abbrev pub peer_unit : Bool → ℕ → ℕ
 peer_unit scales shift = if scales then 2 ^ shift else 1
 
 abbrev pub size_of : Room → ℕ
-size_of room = size_in room.scales room.capacity
+size_of room = size_in room.manner.scales room.capacity
 
 -- nothing has come, and no window is advertised; so many places are made
 abbrev pub receiving_nothing : Room → Receiving
@@ -32,7 +32,7 @@ receiving_nothing room = record {
   edge = 0;
   size = size_of room;
   capacity = room.capacity;
-  unit = own_unit room.scales;
+  unit = own_unit room.manner.scales;
 }
 
 -- the buffer of the receiving half

@@ -47,9 +47,13 @@ sendable s cwnd = min (unsent s) (usable s cwnd)
 abbrev pub next_count : Sending → ℕ → ℕ
 next_count s cwnd = min (sendable s cwnd) s.smss
 
--- the new octets that may go out are all that is held, or half the largest window that the peer ever advertised
+-- the new octets that may go out are all that is held ..
+abbrev pub takes_all : Sending → ℕ → Bool
+takes_all s cwnd = nat_le (unsent s) (usable s cwnd)
+
+-- .. or half the largest window that the peer ever advertised
 abbrev pub takes_enough : Sending → ℕ → Bool
-takes_enough s cwnd = nat_le (unsent s) (usable s cwnd) || nat_le s.max_window (2 * sendable s cwnd)
+takes_enough s cwnd = takes_all s cwnd || nat_le s.max_window (2 * sendable s cwnd)
 
 -- A segment of new octets is worth its way (section 3.8.6.2.1): it is full; or nothing is outstanding, and it takes all that is held, or half the largest window that the peer ever advertised; or
 -- what is held need not wait for more, since it did so as long as it may or its caller wants no delay. Else small segments wait for what is outstanding (Nagle, RFC 1122 section 4.2.3.4).

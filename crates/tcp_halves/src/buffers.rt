@@ -20,6 +20,15 @@ pub const CAPACITY: usize = 65_535;
 /// No buffer has more octets: the largest window that this stack tells where it may scale it (RFC 7323 section 2).
 pub const LARGEST_CAPACITY: usize = 1_048_576;
 
+/// How the connections of a host behave where a rule leaves it to them, by the host's set-up.
+#[derive(Clone, Copy, Debug, PartialEq, Eq)]
+pub struct Manner {
+    /// Whether windows are scaled where the peer does it too (RFC 7323 section 2).
+    pub scales: bool,
+    /// Whether a small segment waits for a small one only, and the FIN goes with the last octets (Minshall, RFC 9293 appendix A.3).
+    pub minshall: bool,
+}
+
 /// The empty buffers of one connection, made before it opens, so that an open one takes no memory.
 ///
 /// A clause sees them as what they are made for.
@@ -29,8 +38,8 @@ pub struct Buffers {
     send: SendBuf,
     /// That of the receiving half.
     receive: RecvBuf,
-    /// Whether the connection's host scales windows (RFC 7323 section 2).
-    scales: bool,
+    /// How the connection behaves.
+    manner: Manner,
 }
 
 impl Model for Buffers {
@@ -43,7 +52,7 @@ impl Model for Buffers {
 
     ghost Value = { Room };
 
-    ghost view = { λ b. record { capacity = b.receive.capacity; scales = b.scales } };
+    ghost view = { λ b. record { capacity = b.receive.capacity; manner = b.manner } };
 
     ghost invariant = { λ b. (b.send ≡ nothing_held b.receive.capacity) × (b.receive ≡ nothing_received b.receive.capacity) × (MSS ≤ b.receive.capacity) × (b.receive.capacity ≤ LARGEST_CAPACITY) };
 }
@@ -51,17 +60,17 @@ impl Model for Buffers {
 impl Buffers {
     /// Two empty buffers of so many octets each, those of a segment at least: a smaller window would never be told (RFC 9293 section
     /// 3.8.6.2.2). Fails only where memory is refused.
-    pub fn new(alloc: Global, capacity: usize, scales: bool) -> Result<Buffers, AllocError>
+    pub fn new(alloc: Global, capacity: usize, manner: Manner) -> Result<Buffers, AllocError>
         requires least { MSS ≤ capacity }
         requires most { capacity ≤ LARGEST_CAPACITY }
-        ensures { IfOk result (λ buffers. buffers ≡ record { capacity = capacity; scales = scales }) }
+        ensures { IfOk result (λ buffers. buffers ≡ record { capacity = capacity; manner = manner }) }
     {
         let send = SendBuf::with_capacity(alloc, capacity)?;
         let receive = RecvBuf::with_capacity(alloc, capacity)?;
         Ok(Buffers {
             send,
             receive,
-            scales,
+            manner,
         })
     }
 
@@ -79,19 +88,19 @@ impl Buffers {
         let Buffers {
             send,
             receive,
-            scales,
+            manner,
         } = self;
         (
-            Sender::new(send, isn, scales),
-            Receiver::new(receive, scales),
+            Sender::new(send, isn, manner.scales),
+            Receiver::new(receive, manner),
         )
     }
 
-    /// Whether the connection's host scales windows.
-    pub fn scales(&self) -> bool
-        ensures { result ≡ self.now.scales }
+    /// How the connection behaves.
+    pub fn manner(&self) -> Manner
+        ensures { result ≡ self.now.manner }
     {
-        self.scales
+        self.manner
     }
 }
 

@@ -6,6 +6,6 @@ mod buffers;
 mod receiver;
 mod sender;
 
-pub use buffers::{Buffers, CAPACITY, LARGEST_CAPACITY};
+pub use buffers::{Buffers, CAPACITY, LARGEST_CAPACITY, Manner};
 pub use receiver::Receiver;
 pub use sender::Sender;

@@ -8,7 +8,7 @@ ghost use Rattle.tcp_segment.specs.Wire.{past};
 ghost use Rattle.tcp_halves.specs.declared.buffers.TheConstants.{CAPACITY, LARGEST_CAPACITY};
 ghost use Rattle.tcp_halves.specs.Windows.{receive_room, has_grown, whole_units, after_advertisement, window_field, syn_window, after_syn_advertisement};
 
-use crate::buffers::{CAPACITY, own_unit, size_in};
+use crate::buffers::{CAPACITY, Manner, own_unit, size_in};
 use std::marker::Model;
 use stream_buf::RecvBuf;
 use tcp_segment::{MSS, Seq};
@@ -46,21 +46,21 @@ impl Model for Receiver {
 
 impl Receiver {
     /// Nothing has come, and no window is advertised.
-    pub(crate) fn new(buffer: RecvBuf, scales: bool) -> Receiver
+    pub(crate) fn new(buffer: RecvBuf, manner: Manner) -> Receiver
         requires empty { buffer ≡ nothing_received buffer.capacity }
         requires most { buffer.capacity ≤ LARGEST_CAPACITY }
-        ensures value { result ≡ receiving_nothing (record { capacity = buffer.capacity; scales = scales }) }
+        ensures value { result ≡ receiving_nothing (record { capacity = buffer.capacity; manner = manner }) }
         ensures fits { ReceivingFits result }
         ensures buffer { IsReceiving (buffer_of result) }
         ensures kept { KeptInWindow result }
     {
-        let size = size_in(scales, buffer.capacity()) as u32;
+        let size = size_in(manner.scales, buffer.capacity()) as u32;
         Receiver {
             buffer,
             rnext: Seq(0),
             edge: Seq(0),
             size,
-            unit: own_unit(scales),
+            unit: own_unit(manner.scales),
         }
     }
 

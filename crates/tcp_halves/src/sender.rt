@@ -8,7 +8,7 @@ ghost use Rattle.tcp_segment.specs.Wire.{past};
 ghost use Rattle.tcp_halves.specs.declared.buffers.TheConstants.{LARGEST_CAPACITY};
 ghost use Rattle.tcp_halves.specs.Halves.{Sending};
 ghost use Rattle.tcp_halves.specs.Stream.{size_in, peer_unit, send_room, outstanding, is_new_ack, sending_from, sending_settled, after_syn_acknowledged, after_acknowledged, after_sent};
-ghost use Rattle.tcp_halves.specs.Windows.{window_in, hears_next, after_syn_heard, after_window_update, open_window, unsent, usable, sendable, next_count, takes_enough, is_worth_sending, waits_for_more};
+ghost use Rattle.tcp_halves.specs.Windows.{window_in, hears_next, after_syn_heard, after_window_update, open_window, unsent, usable, sendable, next_count, takes_all, takes_enough, is_worth_sending, waits_for_more};
 
 use crate::buffers::size_in;
 use std::marker::Model;
@@ -279,7 +279,14 @@ impl Sender {
     pub fn takes_enough(&self, cwnd: u32) -> bool
         ensures { result ≡ takes_enough self.now cwnd }
     {
-        self.unsent() <= self.usable(cwnd) || self.max_window as usize <= 2 * self.sendable(cwnd)
+        self.takes_all(cwnd) || self.max_window as usize <= 2 * self.sendable(cwnd)
+    }
+
+    /// Whether the new octets that may go out are all that is held.
+    pub fn takes_all(&self, cwnd: u32) -> bool
+        ensures { result ≡ takes_all self.now cwnd }
+    {
+        self.unsent() <= self.usable(cwnd)
     }
 
     /// Whether a segment of new octets is worth its way (RFC 9293 section 3.8.6.2.1), where they need not wait for more or need to: the

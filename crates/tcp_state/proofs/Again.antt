@@ -12,7 +12,7 @@ use Rattle.tcp_halves.specs.Stream.{outstanding, after_sent}
 use Rattle.tcp_halves.specs.Windows.{open_window}
 use Rattle.tcp_state.specs.Resend.{mark_past}
 use Rattle.tcp_state.specs.View.{View, IsSound, takes_flag_number}
-use Rattle.tcp_state.specs.Due.{first_due, end_of, after_resent, after_first_sent, after_numbers, after_new_octets, brings_new_octets, after_emitted, again, goes_again, new_octets, fin_alone}
+use Rattle.tcp_state.specs.Due.{first_due, end_of, after_resent, after_first_sent, after_numbers, after_new_text, brings_new_octets, after_emitted, again, goes_again, new_octets, fin_alone}
 use Rattle.tcp_state.specs.Edges.{Emits, after_first, after_event}
 use Rattle.tcp_halves.proofs.Choices.{either, by, clash, and_left, and_false, both, or_else}
 use Rattle.tcp_state.proofs.Emissions.{by_due, stretch_sends}
@@ -128,7 +128,7 @@ moved_on v stretch now sound all first before =
     let marked : P sent = either View P (nat_lt stretch.offset o) (after_resent v end) (after_first_sent v end now)
     (λ again. ap (λ b. if b then None else mark_past end (outstanding (after_sent v.sending end))) all ∙ ap (mark_past end) same)
     (λ new. clash (nat_lt stretch.offset o) (lt-ltb stretch.offset o before) new) in
-    either View P (brings_new_octets v stretch) (after_new_octets sent) sent (λ new. marked) (λ old. marked)
+    either View P (brings_new_octets v stretch) (after_new_text sent stretch) sent (λ new. marked) (λ old. marked)
 
 pub mark_moves_on : (v : View) (stretch : Stretch) (now : Moment) → IsSound v → v.resend.once ≡ false → first_due v ≡ Some (Text stretch) → stretch.offset < outstanding v.sending
     → (after_event v (Emits now)).resend.mark ≡ (if nat_lt (end_of stretch) (outstanding v.sending) then Some (end_of stretch) else None)

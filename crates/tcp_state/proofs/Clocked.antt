@@ -16,7 +16,7 @@ use Rattle.tcp_state.specs.View.{View, is_opening, is_syn_received, is_closed}
 use Rattle.tcp_state.specs.Resend.{Resend, resend_probed, resend_acknowledged, resend_lost}
 use Rattle.tcp_state.specs.Timing.{KeepsTime, probes, retransmits, awaits_more, running, retransmission_timer, probe_timer, delayed_ack_timer, override_timer, interval_of, awaits_first, unheard_since, clocked, retransmission_expired, probe_expired, after_expiry, delayed_ack_expired, override_expired, after_timers}
 use Rattle.tcp_state.specs.Arrival.{after_heard, is_rejected, begins_wait, answers_probe, is_duplicate, before, since_after, is_moved, resend_heard, resend_after, congestion_event_of, reveals_loss, congestion_after, timed_by, after_segment_at}
-use Rattle.tcp_state.specs.Due.{probe_stretch, end_of, after_syn_ack_paid, after_resent, after_first_sent, after_numbers, after_new_octets, brings_new_octets, after_syn_again, after_syn_out, after_stretch, after_probe, after_going_out, after_emitted}
+use Rattle.tcp_state.specs.Due.{probe_stretch, end_of, after_syn_ack_paid, after_resent, after_first_sent, after_numbers, after_new_octets, after_new_text, brings_new_octets, after_syn_again, after_syn_out, after_stretch, after_probe, after_going_out, after_emitted}
 use Rattle.tcp_state.specs.Edges.{after_first}
 use Rattle.tcp_state.specs.Congestion.{Signal, after_signal}
 use Rattle.tcp_state.specs.Congestion.Signal.{Begins, Counts, Nothing}
@@ -82,7 +82,7 @@ stretch_emitted : (v : View) (stretch : Stretch) (now : Moment) → Emitted v (a
 stretch_emitted v stretch now =
     let sent = after_numbers v stretch.offset (end_of stretch) now in
     let all = numbers_emitted v stretch.offset (end_of stretch) now in
-    either View (λ w. Emitted v w) (brings_new_octets v stretch) (after_new_octets sent) sent (λ new. emits_on v sent (after_new_octets sent) all refl) (λ old. all)
+    either View (λ w. Emitted v w) (brings_new_octets v stretch) (after_new_text sent stretch) sent (λ new. emits_on v sent (after_new_text sent stretch) all refl) (λ old. all)
 
 probe_emitted : (v : View) → Emitted v (after_probe v)
 probe_emitted v =

@@ -11,7 +11,7 @@ use Rattle.tcp_state.specs.View.{View, is_opening}
 use Rattle.tcp_state.specs.Timing.{probes}
 use Rattle.tcp_state.specs.New.{sends_new, sends_fin}
 pub use Rattle.tcp_state.specs.Due.{is_ack_due}
-use Rattle.tcp_state.specs.Due.{probe_stretch, end_of, after_resent, after_first_sent, after_numbers, after_new_octets, brings_new_octets, after_syn_out, after_stretch, after_probe, ack_due, again, goes_again, again_from, new_octets, fin_alone, new_due, first_due}
+use Rattle.tcp_state.specs.Due.{probe_stretch, end_of, after_resent, after_first_sent, after_numbers, after_new_octets, after_new_text, brings_new_octets, after_syn_out, after_stretch, after_probe, ack_due, again, goes_again, again_from, new_octets, fin_alone, new_due, first_due}
 use Rattle.tcp_state.proofs.Clocked.{syn_out}
 use Rattle.tcp_halves.proofs.Choices.{either, and_left, and_right}
 
@@ -60,7 +60,7 @@ pub stretch_sends : (v : View) (stretch : Stretch) (now : Moment) → (after_str
 stretch_sends v stretch now =
     let sent = after_numbers v stretch.offset (end_of stretch) now in
     let all = numbers_send v stretch.offset (end_of stretch) now in
-    either View (λ w. w.sending ≡ after_sent v.sending (end_of stretch)) (brings_new_octets v stretch) (after_new_octets sent) sent (λ new. all) (λ old. all)
+    either View (λ w. w.sending ≡ after_sent v.sending (end_of stretch)) (brings_new_octets v stretch) (after_new_text sent stretch) sent (λ new. all) (λ old. all)
 
 pub probe_sends : (v : View) → (after_probe v).sending ≡ after_sent v.sending (end_of (probe_stretch v))
 probe_sends v =
@@ -77,7 +77,7 @@ pub stretch_receives : (v : View) (stretch : Stretch) (now : Moment) → (after_
 stretch_receives v stretch now =
     let sent = after_numbers v stretch.offset (end_of stretch) now in
     let all = numbers_receive v stretch.offset (end_of stretch) now in
-    either View (λ w. w.receiving ≡ v.receiving) (brings_new_octets v stretch) (after_new_octets sent) sent (λ new. all) (λ old. all)
+    either View (λ w. w.receiving ≡ v.receiving) (brings_new_octets v stretch) (after_new_text sent stretch) sent (λ new. all) (λ old. all)
 
 pub probe_receives : (v : View) → (after_probe v).receiving ≡ v.receiving
 probe_receives v =

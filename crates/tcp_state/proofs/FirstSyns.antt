@@ -41,6 +41,7 @@ first_syn_sound v s advertised sound waits few =
       kept = keeps.kept;
       flight = subst (λ t. outstanding v.sending ≤ length v.sending.held + (if takes_flag_number t then 1 else 0)) waits sound.flight;
       mark = sound.mark;
+      small = sound.small;
       resend = sound.resend;
       connection = refl;
       segment = omega arith;

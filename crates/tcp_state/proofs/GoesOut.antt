@@ -8,12 +8,12 @@ use Rattle.tcp_state.specs.declared.emission.Stretch.{Stretch}
 use Rattle.tcp_state.specs.declared.state.State.{State}
 use Rattle.tcp_state.specs.declared.state.State.TheVariants.{SynSent}
 use Rattle.tcp_halves.specs.Stream.{outstanding}
-use Rattle.tcp_halves.specs.Windows.{sendable, is_worth_sending, has_grown}
+use Rattle.tcp_halves.specs.Windows.{open_window, sendable, next_count, is_worth_sending, has_grown}
 use Rattle.tcp_state.specs.View.{View, IsSound, is_opening, is_syn_sent, is_closed, awaits_fin_ack}
 use Rattle.tcp_state.specs.Timing.{probes, has_unacknowledged}
-use Rattle.tcp_state.specs.New.{sends_new, sends_fin, waits_no_longer}
+use Rattle.tcp_state.specs.New.{sends_new, takes_fin, sends_fin, waits_no_longer}
 use Rattle.tcp_state.specs.Due.{MayGoOut, IsHeld, first_due, probe_stretch, again, new_octets, fin_alone}
-use Rattle.tcp_halves.proofs.Choices.{either, clash, and_left, and_right, both, or_else, not_true}
+use Rattle.tcp_halves.proofs.Choices.{either, clash, and_left, and_right, and_false, both, or_else, not_true}
 use Rattle.tcp_state.proofs.Emissions.{is_ack_due, by_due}
 
 -- What is outstanding from the mark on: octets that are held, or the FIN behind them.
@@ -52,6 +52,12 @@ held_again v mark sound opened within =
       );
     }
 
+-- no FIN goes with octets of a side that isn't closed
+pub without_fin : (v : View) (end : ℕ) → awaits_fin_ack v.state ≡ false → takes_fin v end ≡ false
+without_fin v end open_yet =
+    let rest = nat_lt end (open_window v.sending v.congestion.cwnd) in
+    ap (λ b. v.minshall && b && (end == length v.sending.held) && rest) open_yet ∙ ap (λ b. b && (end == length v.sending.held) && rest) (and_false v.minshall)
+
 pub held_new : (v : View) → IsSound v → is_opening v.state ≡ false → sends_new v ≡ true → IsHeld v (new_octets v)
 held_new v sound opened sends =
     let some : 0 < sendable v.sending v.congestion.cwnd = ltb-true 0 (sendable v.sending v.congestion.cwnd) (and_left (nat_lt 0 (sendable v.sending v.congestion.cwnd)) (is_worth_sending v.sending v.congestion.cwnd (waits_no_longer v)) sends) in
@@ -61,7 +67,12 @@ held_new v sound opened sends =
       held = omega (arith, some);
       size = omega (arith, sound.segment);
       some = omega (arith, some, sound.segment_least);
-      fin = λ ends. cc;
+      fin = λ ends.
+          let last = outstanding v.sending + next_count v.sending v.congestion.cwnd == length v.sending.held in
+          let two = and_left (v.minshall && awaits_fin_ack v.state && last) _ ends in (
+            and_right v.minshall (awaits_fin_ack v.state) (and_left (v.minshall && awaits_fin_ack v.state) last two),
+            eqb-true (outstanding v.sending + next_count v.sending v.congestion.cwnd) (length v.sending.held) (and_right (v.minshall && awaits_fin_ack v.state) last two),
+          );
     }
 
 pub held_fin : (v : View) → is_opening v.state ≡ false → sends_fin v ≡ true → IsHeld v (fin_alone v)

@@ -8,12 +8,12 @@ use Rattle.tcp_state.specs.declared.emission.Stretch.{Stretch}
 use Rattle.tcp_state.specs.declared.state.State.{State}
 use Rattle.tcp_state.specs.declared.state.State.TheVariants.{Closed, SynSent, SynReceived, FinWait1, Closing, LastAck}
 use Rattle.tcp_halves.specs.Stream.{outstanding}
-use Rattle.tcp_halves.specs.Windows.{open_window, unsent, usable, sendable, takes_enough, is_worth_sending}
+use Rattle.tcp_halves.specs.Windows.{open_window, unsent, usable, sendable, takes_all, takes_enough, is_worth_sending}
 use Rattle.tcp_halves.proofs.Choices.{both, and_false, or_left, or_right, unowed}
 use Rattle.tcp_state.specs.View.{View, IsSound, is_opening, is_closed, is_write_finished, awaits_fin_ack}
 use Rattle.tcp_state.specs.Timing.{probes, has_unacknowledged}
-use Rattle.tcp_state.specs.New.{sends_new, sends_fin, waits_no_longer}
-use Rattle.tcp_state.specs.Due.{first_due, again, goes_again, again_from, new_due, ack_due, new_octets, fin_alone}
+use Rattle.tcp_state.specs.New.{takes_last, passes_full, sends_new, takes_fin, sends_fin, waits_no_longer}
+use Rattle.tcp_state.specs.Due.{first_due, again, goes_again, again_from, new_due, ack_due, new_octets, rest_of, fin_alone}
 use Rattle.tcp_state.proofs.Signals.{flies_open}
 
 -- a connection goes on, and is open
@@ -43,13 +43,13 @@ new_first v sound open_yet unmarked =
 
 -- New octets.
 
-octets_due : (v : View) (count : ℕ) → sends_new v ≡ true → (new_octets v).count ≡ count → new_due v ≡ Some (Text (record { offset = outstanding v.sending; count = count; fin = false }))
+octets_due : (v : View) (count : ℕ) → sends_new v ≡ true → (new_octets v).count ≡ count → new_due v ≡ Some (Text (record { offset = outstanding v.sending; count = count; fin = takes_fin v (outstanding v.sending + count) }))
 octets_due v count sends is =
     ap (λ b. if b then Some (Text (new_octets v)) else if sends_fin v then Some (Text (fin_alone v)) else if v.resend.owes_probe && probes v then Some Probe else ack_due v) sends
-    ∙ ap (λ n. Some (Text (record { offset = outstanding v.sending; count = n; fin = false }))) is
+    ∙ ap (λ n. Some (Text (record { offset = outstanding v.sending; count = n; fin = takes_fin v (outstanding v.sending + n) }))) is
 
 pub full_goes_out : (v : View) → IsSound v → v.resend.mark ≡ None → outstanding v.sending + v.sending.smss ≤ length v.sending.held → outstanding v.sending + v.sending.smss ≤ v.sending.window
-    → outstanding v.sending + v.sending.smss ≤ v.congestion.cwnd → first_due v ≡ Some (Text (record { offset = outstanding v.sending; count = v.sending.smss; fin = false }))
+    → outstanding v.sending + v.sending.smss ≤ v.congestion.cwnd → first_due v ≡ Some (Text (record { offset = outstanding v.sending; count = v.sending.smss; fin = takes_fin v (outstanding v.sending + v.sending.smss) }))
 full_goes_out v sound unmarked held window cwnd =
     let n = sendable v.sending v.congestion.cwnd in
     let least = sound.segment_least in
@@ -63,7 +63,7 @@ full_goes_out v sound unmarked held window cwnd =
 -- nothing is outstanding: what may go out is all that is held, or half of the largest window
 idle : (v : View) → IsSound v → v.resend.mark ≡ None → v.sending.nxt ≡ v.sending.una → 0 < sendable v.sending v.congestion.cwnd
     → (nat_le (unsent v.sending) (usable v.sending v.congestion.cwnd) || nat_le v.sending.max_window (2 * sendable v.sending v.congestion.cwnd)) ≡ true
-    → first_due v ≡ Some (Text (record { offset = 0; count = min (sendable v.sending v.congestion.cwnd) v.sending.smss; fin = false }))
+    → first_due v ≡ Some (Text (record { offset = 0; count = min (sendable v.sending v.congestion.cwnd) v.sending.smss; fin = takes_fin v (min (sendable v.sending v.congestion.cwnd) v.sending.smss) }))
 idle v sound unmarked none some enough =
     let n = sendable v.sending v.congestion.cwnd in
     let out : outstanding v.sending ≡ 0 = omega (arith, none, sound.una) in
@@ -73,42 +73,81 @@ idle v sound unmarked none some enough =
     let sends : sends_new v ≡ true = both (nat_lt 0 n) _ (lt-ltb 0 n some) worth in
     new_first v sound (open_with v.sending.size v.state (length v.sending.held) (omega (arith, some)) sound.held) unmarked
     ∙ octets_due v (min n v.sending.smss) sends refl
-    ∙ ap (λ o. Some (Text (record { offset = o; count = min n v.sending.smss; fin = false }))) out
+    ∙ ap (λ o. Some (Text (record { offset = o; count = min n v.sending.smss; fin = takes_fin v (o + min n v.sending.smss) }))) out
+    ∙ (let same : 0 + min n v.sending.smss ≡ min n v.sending.smss = omega arith in ap (λ end. Some (Text (record { offset = 0; count = min n v.sending.smss; fin = takes_fin v end }))) same)
 
 pub all_goes_out : (v : View) → IsSound v → v.resend.mark ≡ None → v.sending.nxt ≡ v.sending.una → 0 < length v.sending.held → length v.sending.held ≤ v.sending.window → length v.sending.held ≤ v.congestion.cwnd
-    → first_due v ≡ Some (Text (record { offset = 0; count = min (length v.sending.held) v.sending.smss; fin = false }))
+    → first_due v ≡ Some (Text (record { offset = 0; count = min (length v.sending.held) v.sending.smss; fin = takes_fin v (min (length v.sending.held) v.sending.smss) }))
 all_goes_out v sound unmarked none some window cwnd =
     let n = sendable v.sending v.congestion.cwnd in
     let out : outstanding v.sending ≡ 0 = omega (arith, none, sound.una) in
     let all : n ≡ length v.sending.held = omega (arith, out, window, cwnd) in
     idle v sound unmarked none (omega (arith, all, some)) (or_left (nat_le (unsent v.sending) (usable v.sending v.congestion.cwnd)) _ (le-leb (unsent v.sending) (usable v.sending v.congestion.cwnd) (omega (arith, out, window, cwnd))))
-    ∙ ap (λ m. Some (Text (record { offset = 0; count = min m v.sending.smss; fin = false }))) all
+    ∙ ap (λ m. Some (Text (record { offset = 0; count = min m v.sending.smss; fin = takes_fin v (min m v.sending.smss) }))) all
 
 pub half_goes_out : (v : View) → IsSound v → v.resend.mark ≡ None → v.sending.nxt ≡ v.sending.una
-    → (let n = min (length v.sending.held) (min v.sending.window v.congestion.cwnd) in 0 < n → v.sending.max_window ≤ 2 * n → first_due v ≡ Some (Text (record { offset = 0; count = min n v.sending.smss; fin = false })))
+    → (let n = min (length v.sending.held) (min v.sending.window v.congestion.cwnd) in 0 < n → v.sending.max_window ≤ 2 * n → first_due v ≡ Some (Text (record { offset = 0; count = min n v.sending.smss; fin = takes_fin v (min n v.sending.smss) })))
 half_goes_out v sound unmarked none some half =
     let n = sendable v.sending v.congestion.cwnd in
     let m = min (length v.sending.held) (min v.sending.window v.congestion.cwnd) in
     let out : outstanding v.sending ≡ 0 = omega (arith, none, sound.una) in
     let all : n ≡ m = omega (arith, out) in
     idle v sound unmarked none (omega (arith, all, some)) (or_right (nat_le (unsent v.sending) (usable v.sending v.congestion.cwnd)) _ (le-leb v.sending.max_window (2 * n) (omega (arith, all, half))))
-    ∙ ap (λ k. Some (Text (record { offset = 0; count = min k v.sending.smss; fin = false }))) all
+    ∙ ap (λ k. Some (Text (record { offset = 0; count = min k v.sending.smss; fin = takes_fin v (min k v.sending.smss) }))) all
 
--- without delay, what is held goes out whatever is outstanding
-pub small_goes_out : (v : View) → IsSound v → v.nodelay ≡ true → v.resend.mark ≡ None → outstanding v.sending < length v.sending.held → length v.sending.held ≤ v.sending.window → length v.sending.held ≤ v.congestion.cwnd
-    → first_due v ≡ Some (Text (record { offset = outstanding v.sending; count = min (length v.sending.held - outstanding v.sending) v.sending.smss; fin = false }))
-small_goes_out v sound undelayed unmarked some window cwnd =
+-- what is held goes out whatever is outstanding, where it need not wait for more
+unwaiting : (v : View) → IsSound v → waits_no_longer v ≡ true → v.resend.mark ≡ None → outstanding v.sending < length v.sending.held → length v.sending.held ≤ v.sending.window → length v.sending.held ≤ v.congestion.cwnd
+    → first_due v ≡ Some (Text (rest_of v))
+unwaiting v sound waits_not unmarked some window cwnd =
     let n = sendable v.sending v.congestion.cwnd in
     let all : n ≡ length v.sending.held - outstanding v.sending = omega (arith, window, cwnd) in
-    let enough : takes_enough v.sending v.congestion.cwnd ≡ true =
-    or_left (nat_le (unsent v.sending) (usable v.sending v.congestion.cwnd)) _ (le-leb (unsent v.sending) (usable v.sending v.congestion.cwnd) (omega (arith, window, cwnd))) in
-    let waits_not : waits_no_longer v ≡ true = or_left (v.nodelay && takes_enough v.sending v.congestion.cwnd) v.resend.overridden (both v.nodelay _ undelayed enough) in
     let worth : is_worth_sending v.sending v.congestion.cwnd (waits_no_longer v) ≡ true =
     or_right (nat_le v.sending.smss n || ((outstanding v.sending == 0) && takes_enough v.sending v.congestion.cwnd)) (waits_no_longer v) waits_not in
     let sends : sends_new v ≡ true = both (nat_lt 0 n) _ (lt-ltb 0 n (omega (arith, all, some))) worth in
     new_first v sound (open_with v.sending.size v.state (length v.sending.held) (omega (arith, some)) sound.held) unmarked
     ∙ octets_due v (min n v.sending.smss) sends refl
-    ∙ ap (λ m. Some (Text (record { offset = outstanding v.sending; count = min m v.sending.smss; fin = false }))) all
+    ∙ ap (λ m. Some (Text (record { offset = outstanding v.sending; count = min m v.sending.smss; fin = takes_fin v (outstanding v.sending + min m v.sending.smss) }))) all
+
+enough_fits : (v : View) → length v.sending.held ≤ v.sending.window → length v.sending.held ≤ v.congestion.cwnd → outstanding v.sending < length v.sending.held → takes_all v.sending v.congestion.cwnd ≡ true
+enough_fits v window cwnd some = le-leb (unsent v.sending) (usable v.sending v.congestion.cwnd) (omega (arith, window, cwnd))
+
+-- without delay
+pub small_goes_out : (v : View) → IsSound v → v.nodelay ≡ true → v.resend.mark ≡ None → outstanding v.sending < length v.sending.held → length v.sending.held ≤ v.sending.window → length v.sending.held ≤ v.congestion.cwnd
+    → first_due v ≡ Some (Text (rest_of v))
+small_goes_out v sound undelayed unmarked some window cwnd =
+    let enough : takes_enough v.sending v.congestion.cwnd ≡ true = or_left (takes_all v.sending v.congestion.cwnd) _ (enough_fits v window cwnd some) in
+    unwaiting v sound (or_left ((v.nodelay && takes_enough v.sending v.congestion.cwnd) || passes_full v) v.resend.overridden
+    (or_left (v.nodelay && takes_enough v.sending v.congestion.cwnd) (passes_full v) (both v.nodelay _ undelayed enough))) unmarked some window cwnd
+
+-- or where small segments wait for small ones only: where none of these is outstanding, or our side is closed
+pub passing_goes_out : (v : View) → IsSound v → v.minshall ≡ true → (v.resend.small ≡ 0) ⊎ (awaits_fin_ack v.state ≡ true) → v.resend.mark ≡ None → outstanding v.sending < length v.sending.held
+    → length v.sending.held ≤ v.sending.window → length v.sending.held ≤ v.congestion.cwnd → first_due v ≡ Some (Text (rest_of v))
+passing_goes_out v sound on why unmarked some window cwnd =
+    let all = enough_fits v window cwnd some in
+    let enough : takes_enough v.sending v.congestion.cwnd ≡ true = or_left (takes_all v.sending v.congestion.cwnd) _ all in
+    let passes : ((v.resend.small == 0) || takes_last v) ≡ true = elim why [
+      | inl none ↦ or_left (v.resend.small == 0) (takes_last v) (eq-eqb v.resend.small 0 none)
+      | inr waits ↦ or_right (v.resend.small == 0) (takes_last v) (both (awaits_fin_ack v.state) _ waits all)
+    ] in
+    unwaiting v sound (or_left ((v.nodelay && takes_enough v.sending v.congestion.cwnd) || passes_full v) v.resend.overridden
+    (or_right (v.nodelay && takes_enough v.sending v.congestion.cwnd) (passes_full v)
+    (both (v.minshall && takes_enough v.sending v.congestion.cwnd) ((v.resend.small == 0) || takes_last v) (both v.minshall _ on enough) passes))) unmarked some window cwnd
+
+-- the FIN goes with the last octets
+pub last_goes_out : (v : View) → IsSound v → v.minshall ≡ true → awaits_fin_ack v.state ≡ true → v.resend.mark ≡ None → outstanding v.sending < length v.sending.held → length v.sending.held - outstanding v.sending ≤ v.sending.smss
+    → length v.sending.held < v.sending.window → length v.sending.held < v.congestion.cwnd
+    → first_due v ≡ Some (Text (record { offset = outstanding v.sending; count = length v.sending.held - outstanding v.sending; fin = true }))
+last_goes_out v sound on waits unmarked some short window cwnd =
+    let o = outstanding v.sending in
+    let held = length v.sending.held in
+    let count : min (held - o) v.sending.smss ≡ held - o = omega (arith, short) in
+    let end : o + (held - o) ≡ held = omega (arith, some) in
+    let goes : takes_fin v held ≡ true = both (v.minshall && awaits_fin_ack v.state && (held == held)) (nat_lt held (open_window v.sending v.congestion.cwnd))
+    (both (v.minshall && awaits_fin_ack v.state) (held == held) (both v.minshall (awaits_fin_ack v.state) on waits) (eq-eqb held held refl)) (lt-ltb held (open_window v.sending v.congestion.cwnd) (omega (arith, window, cwnd))) in
+    passing_goes_out v sound on (inr waits) unmarked some (omega (arith, window)) (omega (arith, cwnd))
+    ∙ ap (λ n. Some (Text (record { offset = o; count = n; fin = takes_fin v (o + n) }))) count
+    ∙ ap (λ n. Some (Text (record { offset = o; count = held - o; fin = takes_fin v n }))) end
+    ∙ ap (λ b. Some (Text (record { offset = o; count = held - o; fin = b }))) goes
 
 -- The FIN.
 

@@ -21,7 +21,7 @@ use Rattle.tcp_state.specs.Timing.{KeepsTime, probes, waiting_since, awaits_firs
 use Rattle.tcp_state.specs.Hop.{end_of_hop_wait, unheard_until, after_hopless}
 use Rattle.tcp_state.specs.Calls.{told_nodelay, latest}
 use Rattle.tcp_state.specs.Arrival.{is_receiving, after_ack, after_window, after_text, after_heard, is_moved, before, since_after, resend_after, congestion_after}
-use Rattle.tcp_state.specs.Due.{MayGoOut, IsHeld, first_due, new_due, again_from, new_octets, fin_alone, probe_stretch, octets_of_stretch, after_resent, after_first_sent, after_numbers, after_new_octets, brings_new_octets, after_syn_out, after_syn_ack_paid, after_going_out, end_of}
+use Rattle.tcp_state.specs.Due.{MayGoOut, IsHeld, first_due, new_due, again_from, new_octets, fin_alone, probe_stretch, octets_of_stretch, after_resent, after_first_sent, after_numbers, after_new_text, brings_new_octets, after_syn_out, after_syn_ack_paid, after_going_out, end_of}
 use Rattle.tcp_state.specs.Edges.{Event, LosesHop, moment_of, after_first, after_event, fate_by, is_removed, left_by, state_after}
 use Rattle.tcp_state.specs.Positions.{takes_numbers}
 use Rattle.tcp_state.specs.Said.{segment_of}
@@ -178,7 +178,7 @@ going_leaves v (Text stretch) now =
     let P : View → Type 0 = λ w. w.unheard ≡ v.unheard in
     let sent = after_numbers v stretch.offset (end_of stretch) now in
     let same = numbers_leave v stretch.offset (end_of stretch) now in
-    either View P (brings_new_octets v stretch) (after_new_octets sent) sent (λ new. same) (λ old. same)
+    either View P (brings_new_octets v stretch) (after_new_text sent stretch) sent (λ new. same) (λ old. same)
 going_leaves v Probe now = either View (λ w. w.unheard ≡ v.unheard) (brings_new_octets v (probe_stretch v)) _ _ (λ new. refl) (λ old. refl)
 going_leaves v Ack now = refl
 

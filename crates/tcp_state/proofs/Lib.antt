@@ -84,3 +84,5 @@ pub mod FirstSyns
 pub mod NoDelay
 pub mod Recount
 pub mod WouldReject
+pub mod Minshall
+pub mod LastSmall

@@ -21,7 +21,7 @@ use Rattle.tcp_state.specs.View.{View, IsSound, is_opening, is_syn_sent, is_syn_
 use Rattle.tcp_state.specs.Congestion.{Signal}
 use Rattle.tcp_state.specs.Congestion.Signal.{Begins, Counts, Nothing}
 use Rattle.tcp_state.specs.Arrival.{owing_ack, after_establishment, is_receiving, beyond_fin, is_of_fin, fin_acknowledged, after_new_ack, after_ack, is_read, after_window, after_text, counts_fin, after_fin, is_lost, after_lost, after_segment, after_heard, octets_outstanding, is_duplicate, before, is_moved, resend_heard, resend_after, congestion_event_of, reveals_loss, timed_by, after_segment_at}
-use Rattle.tcp_state.specs.Due.{end_of, after_resent, after_first_sent, after_numbers, after_new_octets, brings_new_octets, after_emitted, ack_due, again, again_from, new_due, first_due}
+use Rattle.tcp_state.specs.Due.{end_of, after_resent, after_first_sent, after_numbers, after_new_text, brings_new_octets, after_emitted, ack_due, again, again_from, new_due, first_due}
 use Rattle.tcp_state.proofs.Clocked.{comes_to, unmoved, heard_paced, signalled}
 use Rattle.tcp_halves.proofs.Choices.{either, clash, and_left, and_right, and_false, both, not_true, unowed}
 use Rattle.tcp_state.proofs.Segments.{IsRead, by_fin, by_ack, by_hearing, by_clock, read_tells, reads, not_rejected}
@@ -199,4 +199,4 @@ resends_alone v stretch now once again =
     let resent = after_resent v (end_of stretch) in
     let none : P sent = either View P (nat_lt stretch.offset (outstanding v.sending)) resent (after_first_sent v (end_of stretch) now)
     (λ before. ap (λ b. if b then None else mark_past (end_of stretch) (outstanding resent.sending)) once) (λ first. clash (nat_lt stretch.offset (outstanding v.sending)) again first) in
-    either View P (brings_new_octets v stretch) (after_new_octets sent) sent (λ new. none) (λ old. none)
+    either View P (brings_new_octets v stretch) (after_new_text sent stretch) sent (λ new. none) (λ old. none)

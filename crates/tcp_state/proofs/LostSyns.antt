@@ -13,7 +13,7 @@ use Rattle.tcp_state.specs.Resend.{Resend, stopped, resend_probed}
 use Rattle.tcp_state.specs.View.{View, is_closed, is_syn_received}
 use Rattle.tcp_state.specs.Timing.{clocked, retransmission_expired, probe_expired, after_timers}
 use Rattle.tcp_state.specs.Arrival.{is_receiving, beyond_fin, after_new_ack, after_ack, after_window, after_text, after_heard, before, resend_heard, timed_by}
-use Rattle.tcp_state.specs.Due.{first_due, probe_stretch, end_of, after_resent, after_first_sent, after_numbers, after_new_octets, brings_new_octets, after_syn_ack_paid, after_syn_again, after_syn_out, after_stretch, after_probe, after_emitted}
+use Rattle.tcp_state.specs.Due.{first_due, probe_stretch, end_of, after_resent, after_first_sent, after_numbers, after_new_octets, after_new_text, brings_new_octets, after_syn_ack_paid, after_syn_again, after_syn_out, after_stretch, after_probe, after_emitted}
 use Rattle.tcp_state.specs.Edges.{Event, Emits, after_first, after_event}
 use Rattle.tcp_state.proofs.Clocked.{by_others, after_paced}
 use Rattle.tcp_state.proofs.Congestion.{syn_kept}
@@ -63,7 +63,7 @@ stretch_same : (v : View) (stretch : Stretch) (now : Moment) → Same v (after_s
 stretch_same v stretch now =
     let sent = after_numbers v stretch.offset (end_of stretch) now in
     let all = numbers_same v stretch.offset (end_of stretch) now in
-    either View (Same v) (brings_new_octets v stretch) (after_new_octets sent) sent (λ new. all) (λ old. all)
+    either View (Same v) (brings_new_octets v stretch) (after_new_text sent stretch) sent (λ new. all) (λ old. all)
 
 probe_same : (v : View) → Same v (after_probe v)
 probe_same v =

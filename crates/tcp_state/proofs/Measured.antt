@@ -13,7 +13,7 @@ use Rattle.tcp_state.specs.View.{View, is_opening, is_syn_received}
 use Rattle.tcp_state.specs.Timing.{clocked, retransmission_expired, probe_expired, after_timers}
 use Rattle.tcp_state.specs.Calls.{aborted_at}
 use Rattle.tcp_state.specs.Arrival.{after_heard, before, resend_heard, resend_after, timed_by}
-use Rattle.tcp_state.specs.Due.{MayGoOut, sends_again, after_emitted, probe_stretch, end_of, after_syn_ack_paid, after_resent, after_first_sent, after_numbers, after_new_octets, brings_new_octets, after_syn_out, after_going_out, first_due}
+use Rattle.tcp_state.specs.Due.{MayGoOut, sends_again, after_emitted, probe_stretch, end_of, after_syn_ack_paid, after_resent, after_first_sent, after_numbers, after_new_octets, after_new_text, brings_new_octets, after_syn_out, after_going_out, first_due}
 use Rattle.tcp_state.specs.Edges.{Event, moment_of, after_first, after_event}
 use Rattle.tcp_state.proofs.Clocked.{by_others, syn_out, heard_paced, after_paced}
 use Rattle.tcp_halves.proofs.Choices.{either, clash}
@@ -35,7 +35,7 @@ not_timed v Syn now may again =
 not_timed v (Text stretch) now may again =
     let sent = after_numbers v stretch.offset (end_of stretch) now in
     let none = resent v stretch.offset (end_of stretch) now again in
-    either View (λ w. w.resend.timed ≡ None) (brings_new_octets v stretch) (after_new_octets sent) sent (λ new. none) (λ old. none)
+    either View (λ w. w.resend.timed ≡ None) (brings_new_octets v stretch) (after_new_text sent stretch) sent (λ new. none) (λ old. none)
 not_timed v Probe now may again =
     let sent = record v { sending = after_sent v.sending (end_of (probe_stretch v)); resend = resend_probed v.resend } in
     either View (λ w. w.resend.timed ≡ None) (brings_new_octets v (probe_stretch v)) (after_new_octets sent) sent (λ new. refl) (λ old. refl)

@@ -18,7 +18,7 @@ use Rattle.tcp_state.specs.Resend.{Resend, timing_of, timed_left, resend_acknowl
 use Rattle.tcp_state.specs.View.{View, IsSound, is_opening, is_closed, is_syn_received}
 use Rattle.tcp_state.specs.Timing.{clocked, retransmission_expired, probe_expired, after_timers}
 use Rattle.tcp_state.specs.Arrival.{after_heard, before, is_moved, resend_heard, resend_after, timed_by}
-use Rattle.tcp_state.specs.Due.{first_due, sends_again, end_of, after_resent, after_first_sent, after_numbers, after_new_octets, brings_new_octets, after_syn_ack_paid, after_syn_out, after_emitted}
+use Rattle.tcp_state.specs.Due.{first_due, sends_again, end_of, after_resent, after_first_sent, after_numbers, after_new_text, brings_new_octets, after_syn_ack_paid, after_syn_out, after_emitted}
 use Rattle.tcp_state.specs.Edges.{Event, Hears, Emits, after_first, after_event}
 use Rattle.tcp_state.specs.Counted.{BringsNew, BringsAgain}
 use Rattle.tcp_state.proofs.Clocked.{by_others, syn_out, after_paced}
@@ -57,7 +57,7 @@ new_times v (Text stretch) now new = elim new [
       let same : other.0 ≡ stretch = cc in
       let sent = after_numbers v stretch.offset (end_of stretch) now in
       let numbers = numbers_time v stretch.offset (end_of stretch) now (subst (λ (t : Stretch). outstanding v.sending ≤ t.offset) same other.2) in
-      either View (Times v now) (brings_new_octets v stretch) (after_new_octets sent) sent (λ octets. numbers) (λ fin. numbers)
+      either View (Times v now) (brings_new_octets v stretch) (after_new_text sent stretch) sent (λ octets. numbers) (λ fin. numbers)
 ]
 new_times v Rst now new = elim new [ inl first ↦ let bad : Rst ≡ Syn = first.0 in cc | inr stretch ↦ let bad : Rst ≡ Text stretch.0 = stretch.1 in cc ]
 new_times v Probe now new = elim new [ inl first ↦ let bad : Probe ≡ Syn = first.0 in cc | inr stretch ↦ let bad : Probe ≡ Text stretch.0 = stretch.1 in cc ]

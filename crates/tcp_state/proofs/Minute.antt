@@ -1,5 +1,5 @@
 -- Why a tick by which every timer has come leaves the oldest octet to go out first.
-use Rattle.std.proofs.Common.{◌≡◌, ℕ, zero, suc, ◌+◌, ◌^◌, ◌<◌, ◌≤◌, ◌==◌, ◌||◌, ◌&&◌, not, nat_le, nat_lt, if◌then◌else◌, Bool, true, false, List, [], ◌∷◌, length, take, drop, Option, Some, None, is_some, inl, inr, arith, refl, sym, ◌∙◌, ap, subst}
+use Rattle.std.proofs.Common.{◌≡◌, ℕ, zero, suc, ◌+◌, ◌^◌, ◌<◌, ◌≤◌, ◌==◌, ◌||◌, ◌&&◌, not, nat_le, nat_lt, if◌then◌else◌, Bool, true, false, List, [], ◌∷◌, length, take, drop, Option, Some, None, is_some, inl, inr, arith, refl, sym, ◌∙◌, ap, ap₂, subst}
 use Rattle.std.specs.Option.{option_or}
 use Rattle.std.proofs.lemmas.Bool.{lt-ltb, lt-leb, le-leb, ltb-true, eqb-true}
 use Rattle.std.proofs.lemmas.Bool.Decides.{eqb_tells}
@@ -23,12 +23,13 @@ use Rattle.tcp_halves.specs.Windows.{open_window, sendable, takes_enough, is_wor
 use Rattle.tcp_state.specs.View.{View, IsSound, is_opening, is_closed, is_write_finished, awaits_fin_ack, takes_flag_number, end_of_wait, is_at_end, after_stop, after_reset}
 use Rattle.tcp_state.specs.Congestion.{KeepsCongestion}
 use Rattle.tcp_state.specs.Timing.{KeepsTime, has_unacknowledged, probes, clocked, expires, gives_up, retransmission_expired, probe_expired, after_expiry, delayed_ack_expired, override_expired, after_timers, after_tick}
-use Rattle.tcp_state.specs.New.{sends_new, sends_fin, waits_no_longer}
+use Rattle.tcp_state.specs.New.{passes_full, sends_new, sends_fin, waits_no_longer}
 use Rattle.tcp_state.specs.Due.{probe_stretch, ack_due, again, goes_again, again_from, new_octets, fin_alone, new_due, first_due}
 use Rattle.tcp_state.specs.Said.{segment_of}
 use Rattle.tcp_state.specs.Progress.{AllCome, BringsOldest}
 use Rattle.tcp_halves.proofs.Choices.{either, by, clash, and_left, and_right, and_false, both, or_left, or_right, or_else, neither, of_false}
 use Rattle.tcp_state.proofs.Unchanged.{none_below}
+use Rattle.tcp_state.proofs.GoesOut.{without_fin}
 use Rattle.tcp_state.proofs.ResetAges.{live}
 use Rattle.tcp_state.proofs.Clocked.{timers_keep}
 use Rattle.tcp_state.proofs.Deadlines.{timers_come}
@@ -179,7 +180,7 @@ new_brings w s idle unmarked sends =
       Text (new_octets w),
       once_open w s ∙ (ap (λ m. option_or (again_from w m) (new_due w)) unmarked
           ∙ ap (λ b. if b then Some (Text (new_octets w)) else if sends_fin w then Some (Text (fin_alone w)) else if w.resend.owes_probe && probes w then Some Probe else ack_due w) sends),
-      stretch_brings w (new_octets w) s.small s.some idle (omega (arith, some, s.size)) (omega arith) (λ none. refl),
+      stretch_brings w (new_octets w) s.small s.some idle (omega (arith, some, s.size)) (omega arith) (λ none. without_fin w (outstanding w.sending + (new_octets w).count) none),
     )
 
 -- The timers.
@@ -199,13 +200,14 @@ record Idles (v : View) (now : Moment) (w : View) : Type 0 where
   pub still : v.resend.overridden ≡ true → w.resend.overridden ≡ true
   pub over : has_come v.timers.overriding now ≡ true → w.resend.overridden ≡ true
   pub nodelay : w.nodelay ≡ v.nodelay
+  pub passes : passes_full w ≡ passes_full v
 
 override_idles : (v : View) (owes : Bool) (now : Moment) → Idles v now (override_expired (record v { owes_ack = owes }) now)
 override_idles v owes now =
     let x = record v { owes_ack = owes } in
     either View (Idles v now) (has_come v.timers.overriding now) _ x
-    (λ is. record { mark = refl; congestion = refl; still = λ o. refl; over = λ o. refl; nodelay = refl })
-    (λ early. record { mark = refl; congestion = refl; still = λ o. o; over = λ is. clash (has_come v.timers.overriding now) is early; nodelay = refl })
+    (λ is. record { mark = refl; congestion = refl; still = λ o. refl; over = λ o. refl; nodelay = refl; passes = refl })
+    (λ early. record { mark = refl; congestion = refl; still = λ o. o; over = λ is. clash (has_come v.timers.overriding now) is early; nodelay = refl; passes = refl })
 
 timers_idle : (v : View) (now : Moment) → expires v now ≡ false → Idles v now (after_timers v now)
 timers_idle v now none =
@@ -219,7 +221,7 @@ timers_idle v now none =
 tick_idles : (v : View) (now : Moment) → is_closed (after_tick v now).state ≡ false → expires v now ≡ false → Idles v now (after_tick v now)
 tick_idles v now lives none =
     by_live_tick (Idles v now) v now lives
-    (let k = timers_idle v now none in record { mark = k.mark; congestion = k.congestion; still = k.still; over = k.over; nodelay = k.nodelay })
+    (let k = timers_idle v now none in record { mark = k.mark; congestion = k.congestion; still = k.still; over = k.over; nodelay = k.nodelay; passes = k.passes })
     (λ early. record {
       mark = refl;
       congestion = refl;
@@ -228,6 +230,7 @@ tick_idles v now lives none =
           let others = (neither (expires v now) (has_come v.timers.delayed_ack now || has_come v.timers.overriding now) (sym (timers_come v now) ∙ early)).1 in
           clash (has_come v.timers.overriding now) is (neither (has_come v.timers.delayed_ack now) (has_come v.timers.overriding now) others).1;
       nodelay = refl;
+      passes = refl;
     })
 
 -- Together.
@@ -244,11 +247,11 @@ over_still true before after e w = refl
 over_still false before after e w = e w
 
 sends_where : (v w : View) → w.sending ≡ v.sending → w.congestion ≡ v.congestion → nat_lt 0 (sendable v.sending v.congestion.cwnd) ≡ true
-    → is_worth_sending v.sending v.congestion.cwnd ((w.nodelay && takes_enough v.sending v.congestion.cwnd) || w.resend.overridden) ≡ true → sends_new w ≡ true
+    → is_worth_sending v.sending v.congestion.cwnd ((w.nodelay && takes_enough v.sending v.congestion.cwnd) || passes_full w || w.resend.overridden) ≡ true → sends_new w ≡ true
 sends_where v w sending congestion goes worth =
-    ap (λ (t : Sending). nat_lt 0 (sendable t w.congestion.cwnd) && is_worth_sending t w.congestion.cwnd ((w.nodelay && takes_enough t w.congestion.cwnd) || w.resend.overridden)) sending
-    ∙ (ap (λ (c : Window). nat_lt 0 (sendable v.sending c.cwnd) && is_worth_sending v.sending c.cwnd ((w.nodelay && takes_enough v.sending c.cwnd) || w.resend.overridden)) congestion
-    ∙ both (nat_lt 0 (sendable v.sending v.congestion.cwnd)) (is_worth_sending v.sending v.congestion.cwnd ((w.nodelay && takes_enough v.sending v.congestion.cwnd) || w.resend.overridden)) goes worth)
+    ap (λ (t : Sending). nat_lt 0 (sendable t w.congestion.cwnd) && is_worth_sending t w.congestion.cwnd ((w.nodelay && takes_enough t w.congestion.cwnd) || passes_full w || w.resend.overridden)) sending
+    ∙ (ap (λ (c : Window). nat_lt 0 (sendable v.sending c.cwnd) && is_worth_sending v.sending c.cwnd ((w.nodelay && takes_enough v.sending c.cwnd) || passes_full w || w.resend.overridden)) congestion
+    ∙ both (nat_lt 0 (sendable v.sending v.congestion.cwnd)) (is_worth_sending v.sending v.congestion.cwnd ((w.nodelay && takes_enough v.sending v.congestion.cwnd) || passes_full w || w.resend.overridden)) goes worth)
 
 over_worth : (full alone over : Bool) → over ≡ true → (full || alone || over) ≡ true
 over_worth true alone over e = refl
@@ -326,15 +329,15 @@ idle_brings v now sound keeps network some all few unprobed room idle =
     let full = nat_le sent.smss (sendable sent cwnd) in
     let alone = (outstanding sent == 0) && takes_enough sent cwnd in
     let before = waits_no_longer v in
-    let after = (w.nodelay && takes_enough sent cwnd) || w.resend.overridden in
+    let after = (w.nodelay && takes_enough sent cwnd) || passes_full w || w.resend.overridden in
     let still : before ≡ true → after ≡ true = λ is.
-    ap (λ b. (b && takes_enough sent cwnd) || w.resend.overridden) i.nodelay ∙ over_still (v.nodelay && takes_enough sent cwnd) v.resend.overridden w.resend.overridden i.still is in
+    ap₂ (λ a b. (a && takes_enough sent cwnd) || b || w.resend.overridden) i.nodelay i.passes ∙ over_still ((v.nodelay && takes_enough sent cwnd) || passes_full v) v.resend.overridden w.resend.overridden i.still is in
     let worth : is_worth_sending sent cwnd after ≡ true = by (is_worth_sending sent cwnd after ≡ true) (is_worth_sending sent cwnd before)
     (λ is. worth_still full alone before after still is)
     (λ waits.
     let awaits = both (not (is_opening v.state)) (nat_lt 0 (sendable sent cwnd) && not (is_worth_sending sent cwnd before)) (of_false (is_opening v.state) opened)
     (both (nat_lt 0 (sendable sent cwnd)) (not (is_worth_sending sent cwnd before)) may (of_false (is_worth_sending sent cwnd before) waits)) in
-    over_worth full alone after (or_right (w.nodelay && takes_enough sent cwnd) w.resend.overridden (i.over (comes v.timers.overriding now (keeps.overriding awaits) (all Override))))) in
+    over_worth full alone after (or_right ((w.nodelay && takes_enough sent cwnd) || passes_full w) w.resend.overridden (i.over (comes v.timers.overriding now (keeps.overriding awaits) (all Override))))) in
     new_brings w (sends_after v now sound some few) (ap outstanding k.0 ∙ idle) (i.mark ∙ none_below v.resend.mark (outstanding sent) idle sound.mark) (sends_where v w k.0 i.congestion may worth)
 
 pub oldest_brought : (v : View) (now : Moment) → IsSound v → KeepsTime v → KeepsCongestion v → 0 < length v.sending.held → AllCome v.timers now → v.resend.expiries < 12

@@ -306,7 +306,11 @@ by_emission v now sound =
           let size : stretch.offset + stretch.count ≤ 1060000 = omega (arith, within, few, sound.segment) in
           let end = flag_number stretch.fin stretch.offset stretch.count 1060000 size in
           text stretch (omega (arith, end));
-      octets = λ opened sends. text (new_octets v) (omega (arith, few, sound.segment));
+      octets = λ opened sends.
+          let stretch = new_octets v in
+          let size : stretch.offset + stretch.count ≤ 1060000 = omega (arith, few, sound.segment) in
+          let end = flag_number stretch.fin stretch.offset stretch.count 1060000 size in
+          text stretch (omega (arith, end));
       fin = λ opened sends. text (fin_alone v) (omega (arith, few));
       probe = λ opened owes probes. alike v (after_ack_paid (after_probe v)) (after_emitted v Probe now) refl refl (by_probe v sound);
       ack = λ owes. alike v (after_ack_paid v) (after_emitted v Ack now) refl refl (pays v v sound refl (still v v refl refl refl));

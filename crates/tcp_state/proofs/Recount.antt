@@ -14,7 +14,7 @@ use Rattle.tcp_state.specs.View.{View, is_closed, is_syn_received}
 use Rattle.tcp_state.specs.Timing.{clocked, retransmission_expired, probe_expired, after_timers}
 use Rattle.tcp_state.specs.Arrival.{is_receiving, beyond_fin, after_new_ack, after_ack, after_window, after_text, after_heard, before, timed_by}
 use Rattle.tcp_state.specs.Counted.{BringsAgain}
-use Rattle.tcp_state.specs.Due.{first_due, probe_stretch, end_of, after_resent, after_first_sent, after_numbers, after_new_octets, brings_new_octets, after_syn_ack_paid, after_syn_out, after_emitted}
+use Rattle.tcp_state.specs.Due.{first_due, probe_stretch, end_of, after_resent, after_first_sent, after_numbers, after_new_octets, after_new_text, brings_new_octets, after_syn_ack_paid, after_syn_out, after_emitted}
 use Rattle.tcp_state.specs.Edges.{Event, Emits, after_first, after_event}
 use Rattle.tcp_state.proofs.Clocked.{by_others, heard_paced, after_paced, syn_out}
 use Rattle.tcp_state.proofs.Events.{by_event}
@@ -78,7 +78,7 @@ syn_counts v now count sent =
 
 stretch_counts : (v : View) (stretch : Stretch) (now : Moment) (count : ℕ) → Is count (after_numbers v stretch.offset (end_of stretch) now) → Is count (after_emitted v (Text stretch) now)
 stretch_counts v stretch now count sent =
-    either View (Is count) (brings_new_octets v stretch) (after_new_octets (after_numbers v stretch.offset (end_of stretch) now)) (after_numbers v stretch.offset (end_of stretch) now) (λ new. sent) (λ old. sent)
+    either View (Is count) (brings_new_octets v stretch) (after_new_text (after_numbers v stretch.offset (end_of stretch) now) stretch) (after_numbers v stretch.offset (end_of stretch) now) (λ new. sent) (λ old. sent)
 
 probe_counts : (v : View) (now : Moment) → Is (once_more v.resend.resent) (after_emitted v Probe now)
 probe_counts v now =

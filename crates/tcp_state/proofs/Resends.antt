@@ -13,7 +13,7 @@ use Rattle.tcp_halves.specs.Windows.{after_advertisement, after_syn_advertisemen
 use Rattle.tcp_state.specs.Resend.{Resend, stopped, timing_of, resend_probed}
 use Rattle.tcp_state.specs.View.{View, is_closed, is_syn_received}
 use Rattle.tcp_state.specs.Arrival.{is_receiving, beyond_fin, fin_acknowledged, after_new_ack, after_ack, after_window, after_text, after_heard}
-use Rattle.tcp_state.specs.Due.{probe_stretch, end_of, after_syn_ack_paid, after_resent, after_first_sent, after_numbers, after_new_octets, brings_new_octets, after_stretch, after_probe, after_syn_out, after_going_out}
+use Rattle.tcp_state.specs.Due.{probe_stretch, end_of, after_syn_ack_paid, after_resent, after_first_sent, after_numbers, after_new_octets, after_new_text, brings_new_octets, after_stretch, after_probe, after_syn_out, after_going_out}
 use Rattle.tcp_state.proofs.Clocked.{syn_out}
 use Rattle.tcp_halves.proofs.Choices.{either, clash, and_left, and_right}
 use Rattle.tcp_state.proofs.Segments.{by_fin, by_ack, by_hearing}
@@ -21,9 +21,9 @@ use Rattle.tcp_state.proofs.Gains.{receiving_lives}
 
 -- Segments.
 
--- the retransmission state stays but for the mark, and the timers run on ..
+-- the retransmission state stays but for the mark and the end of the last small segment, and the timers run on ..
 record Stays (v w : View) : Type 0 where
-  pub resend : w.resend ≡ record v.resend { mark = w.resend.mark }
+  pub resend : w.resend ≡ record v.resend { mark = w.resend.mark; small = w.resend.small }
   pub timers : w.timers ≡ v.timers
 
 -- .. or all stops, where it closes
@@ -60,7 +60,7 @@ ack_leaves v ack = by_ack (Leaves v) v ack (record {
 -- nothing else of a segment is of the retransmission state or the timers
 on : (v w x : View) → x.resend ≡ w.resend → x.timers ≡ w.timers → (is_closed w.state ≡ true → is_closed x.state ≡ true) → Leaves v w → Leaves v x
 on v w x resend timers closes leaves = elim leaves [
-  | inl k ↦ inl (record { resend = subst (λ (p : Resend). p ≡ record v.resend { mark = p.mark }) (sym resend) k.resend; timers = timers ∙ k.timers })
+  | inl k ↦ inl (record { resend = subst (λ (p : Resend). p ≡ record v.resend { mark = p.mark; small = p.small }) (sym resend) k.resend; timers = timers ∙ k.timers })
   | inr k ↦ inr (record { resend = resend ∙ k.resend; timers = timers ∙ k.timers; closed = closes k.closed })
 ]
 
@@ -135,6 +135,9 @@ numbers_out v offset end now =
 new_out : (v w : View) (now : Moment) → GoesOut v now w → GoesOut v now (after_new_octets w)
 new_out v w now k = record { timeout = k.timeout; timed = k.timed; overriding = inr refl; others = ap (λ (t : Timers). record t { overriding = None }) k.others; expiries = k.expiries; interval = k.interval; overridden = inr refl }
 
+text_out : (v w : View) (stretch : Stretch) (now : Moment) → GoesOut v now w → GoesOut v now (after_new_text w stretch)
+text_out v w stretch now k = record { timeout = k.timeout; timed = k.timed; overriding = inr refl; others = ap (λ (t : Timers). record t { overriding = None }) k.others; expiries = k.expiries; interval = k.interval; overridden = inr refl }
+
 -- an acknowledgement goes out with them
 paid_out : (v w : View) (now : Moment) (told : Receiving) (spoke : Bool) → GoesOut v now w → GoesOut v now (record w { receiving = told; owes_ack = false; delays_ack = false; spoke = spoke })
 paid_out v w now told spoke k = record { timeout = k.timeout; timed = k.timed; overriding = k.overriding; others = k.others; expiries = k.expiries; interval = k.interval; overridden = k.overridden }
@@ -143,7 +146,7 @@ stretch_out : (v : View) (stretch : Stretch) (now : Moment) → GoesOut v now (a
 stretch_out v stretch now =
     let sent = after_numbers v stretch.offset (end_of stretch) now in
     let k = numbers_out v stretch.offset (end_of stretch) now in
-    either View (GoesOut v now) (brings_new_octets v stretch) (after_new_octets sent) sent (λ new. new_out v sent now k) (λ old. k)
+    either View (GoesOut v now) (brings_new_octets v stretch) (after_new_text sent stretch) sent (λ new. text_out v sent stretch now k) (λ old. k)
 
 probe_out : (v : View) (now : Moment) → GoesOut v now (after_probe v)
 probe_out v now =

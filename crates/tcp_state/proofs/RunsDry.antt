@@ -17,7 +17,7 @@ use Rattle.tcp_halves.proofs.Choices.{either, clash}
 use Rattle.tcp_state.specs.View.{View, IsSound, is_opening, is_syn_received, is_closed, is_write_finished, awaits_fin_ack, most_outstanding}
 use Rattle.tcp_state.specs.Resend.{mark_past, resend_probed}
 use Rattle.tcp_state.specs.Timing.{probes, clocked}
-use Rattle.tcp_state.specs.Due.{IsHeld, first_due, is_ack_due, again, new_octets, fin_alone, probe_stretch, end_of, after_ack_paid, after_syn_ack_paid, after_speaking, after_resent, after_first_sent, after_numbers, after_new_octets, brings_new_octets, after_syn_again, after_syn_out, after_stretch, after_probe, after_emitted}
+use Rattle.tcp_state.specs.Due.{IsHeld, first_due, is_ack_due, again, new_octets, fin_alone, probe_stretch, end_of, after_ack_paid, after_syn_ack_paid, after_speaking, after_resent, after_first_sent, after_numbers, after_new_octets, after_new_text, brings_new_octets, after_syn_again, after_syn_out, after_stretch, after_probe, after_emitted}
 use Rattle.tcp_state.specs.Most.{one_if, left_from, numbers_left, most_due}
 use Rattle.tcp_state.proofs.Clocked.{syn_out}
 use Rattle.tcp_state.proofs.Emissions.{by_due}
@@ -149,6 +149,9 @@ first_sent v end now sound some within small = record {
 new_sends : (v y : View) → Sends v y → Sends v (after_new_octets y)
 new_sends v y s = record { fewer = s.fewer; reset = s.reset; owes = s.owes; spoke = s.spoke; state = s.state; receiving = s.receiving }
 
+text_sends : (v y : View) (stretch : Stretch) → Sends v y → Sends v (after_new_text y stretch)
+text_sends v y stretch s = record { fewer = s.fewer; reset = s.reset; owes = s.owes; spoke = s.spoke; state = s.state; receiving = s.receiving }
+
 again_sends : (v y : View) → Sends v y → Sends v (after_syn_again y)
 again_sends v y s = record { fewer = s.fewer; reset = s.reset; owes = s.owes; spoke = s.spoke; state = s.state; receiving = s.receiving }
 
@@ -169,7 +172,7 @@ end_small v stretch sound h =
 stretch_of : (v : View) (stretch : Stretch) (now : Moment) → Sends v (after_numbers v stretch.offset (end_of stretch) now) → Sends v (after_stretch v stretch now)
 stretch_of v stretch now s =
     let sent = after_numbers v stretch.offset (end_of stretch) now in
-    either View (Sends v) (brings_new_octets v stretch) (after_new_octets sent) sent (λ new. new_sends v sent s) (λ old. s)
+    either View (Sends v) (brings_new_octets v stretch) (after_new_text sent stretch) sent (λ new. text_sends v sent stretch s) (λ old. s)
 
 again_goes : (v : View) (mark : ℕ) (now : Moment) → IsSound v → v.resend.mark ≡ Some mark → IsHeld v (again v mark) → Sends v (after_stretch v (again v mark) now)
 again_goes v mark now sound is h =

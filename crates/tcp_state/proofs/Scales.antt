@@ -52,7 +52,7 @@ offered_to_none offers told none = ap (λ o. offers && is_some o) none ∙ and_f
 
 pub told_to_none : (room : Room) (local peer : Endpoint) (isn : ℕ) (syn : Segment) (now : Moment) (due : Due) → scale_option_of syn ≡ None
     → scale_option_of (segment_of (opened_passively room local peer isn syn now) due) ≡ None
-told_to_none room local peer isn syn now due none = untold (opened_passively room local peer isn syn now) due (offered_to_none room.scales (scale_option_of syn) none)
+told_to_none room local peer isn syn now due none = untold (opened_passively room local peer isn syn now) due (offered_to_none room.manner.scales (scale_option_of syn) none)
 
 pub told_unasked : (v : View) (s : Segment) (now : Moment) (due : Due) → v.state ≡ SynSent → TakesSyn v s now → scale_option_of s ≡ None
     → scale_option_of (segment_of (after_event v (Hears s now)) due) ≡ None

@@ -19,6 +19,7 @@ use Rattle.tcp_state.specs.declared.state.State.TheVariants.{SynReceived, Establ
 use Rattle.tcp_halves.specs.Numbers.{is_before, later_number}
 use Rattle.tcp_halves.specs.Halves.{Room, Receiving}
 use Rattle.tcp_halves.specs.Stream.{size_in, own_unit, peer_unit, size_of, outstanding, sending_from, receiving_nothing, receive_window, is_in_window, is_acceptable}
+use Rattle.tcp_state.specs.New.{waits_no_longer}
 use Rattle.tcp_halves.specs.Windows.{window_in, updates_window, is_worth_sending, receive_room, has_grown, whole_units, after_advertisement, window_field, syn_window, after_syn_advertisement}
 use Rattle.tcp_state.specs.Resend.{Resend, first_resend, mark_past, resend_lost}
 use Rattle.tcp_state.specs.Timing.{waiting_since, clocked}
@@ -175,7 +176,7 @@ record Tells (unit : ℕ) (h : Half) : Type 0 where
 
 -- what the other's SYN settles, as it says it
 abbrev read_of : Meeting → Settled
-read_of m = let s = syn_of (mirror m) in let scales = m.mine.room.scales && is_some (scale_option_of s) in record {
+read_of m = let s = syn_of (mirror m) in let scales = m.mine.room.manner.scales && is_some (scale_option_of s) in record {
   scales = scales;
   sends = size_in scales (size_of m.mine.room);
   peer = peer_unit scales (shift_of s);
@@ -389,7 +390,7 @@ at_rest m first now =
     let w = opened m in
     let n = outstanding w.sending in
     let open_window = min w.sending.window w.congestion.cwnd - n in
-    let worth = is_worth_sending w.sending w.congestion.cwnd false in
+    let worth = is_worth_sending w.sending w.congestion.cwnd (waits_no_longer w) in
     ap (λ b. record w {
       resend = record w.resend { interval = if b && false then 1000 else 1000 };
       timers = record no_timers {
@@ -429,7 +430,7 @@ none_left : (m : Meeting) → Fits m → first_due (opened m) ≡ None
 none_left m f =
     let v = opened m in
     let n = outstanding v.sending in
-    ap (λ b. if b && is_worth_sending v.sending v.congestion.cwnd false then Some (Text (new_octets v)) else ack_due v) (none_waits n (min v.sending.window v.congestion.cwnd - n))
+    ap (λ b. if b && is_worth_sending v.sending v.congestion.cwnd (waits_no_longer v) then Some (Text (new_octets v)) else ack_due v) (none_waits n (min v.sending.window v.congestion.cwnd - n))
     ∙ ap (λ b. if b then Some Ack else None) (full m f)
 
 -- Both together.
@@ -549,23 +550,23 @@ syn_tells : (room : Room) → CanBeMade room → min (receive_window (after_syn_
 syn_tells room made =
     let r = receiving_nothing room in
     let told = min room.capacity 65535 in
-    ap (λ n. min (receive_window (if nat_le 1460 n then record r { edge = (0 + n) % 2 ^ 32 } else r)) 65535) (told_of room.scales room.capacity)
+    ap (λ n. min (receive_window (if nat_le 1460 n then record r { edge = (0 + n) % 2 ^ 32 } else r)) 65535) (told_of room.manner.scales room.capacity)
     ∙ (ap (λ b. min (receive_window (if b then record r { edge = (0 + told) % 2 ^ 32 } else r)) 65535) (le-leb 1460 told (omega (arith, made.least))) ∙ omega arith)
 
 alike : (t : Settled) (scales : Bool) (sends peer takes own smss heard told : ℕ) → scales ≡ t.scales → sends ≡ t.sends → peer ≡ t.peer → takes ≡ t.takes → own ≡ t.own → smss ≡ t.smss → heard ≡ t.heard → told ≡ t.told
     → record { scales = scales; sends = sends; peer = peer; takes = takes; own = own; smss = smss; heard = heard; told = told } ≡ t
 alike t scales sends peer takes own smss heard told a b c d e f g h = rw a (rw b (rw c (rw d (rw e (rw f (rw g (rw h refl)))))))
 
-settles : (both : Bool) (room facing : Room) (here there : Endpoint) (isn other : ℕ) → CanBeMade facing → (room.scales && facing.scales) ≡ both
+settles : (both : Bool) (room facing : Room) (here there : Endpoint) (isn other : ℕ) → CanBeMade facing → (room.manner.scales && facing.manner.scales) ≡ both
     → (let m = meeting both room facing here there isn other in read_of m ≡ settled m)
 settles both room facing here there isn other made say =
     let m = meeting both room facing here there isn other in
     let t = read_of m in
-    let same : t.scales ≡ both = both_say room.scales facing.scales ∙ say in
-    let size = ap (λ b. size_in b (size_of room)) same ∙ size_settled room.scales facing.scales both room.capacity say in
+    let same : t.scales ≡ both = both_say room.manner.scales facing.manner.scales ∙ say in
+    let size = ap (λ b. size_in b (size_of room)) same ∙ size_settled room.manner.scales facing.manner.scales both room.capacity say in
     alike (settled m) t.scales t.sends t.peer t.takes t.own t.smss t.heard t.told
-    same size (ap (λ b. peer_unit b (shift_of (syn_of (mirror m)))) same ∙ unit_read room.scales facing.scales both say) size (ap own_unit same)
-    (size_read facing.scales) (syn_tells facing made) (told_of room.scales room.capacity)
+    same size (ap (λ b. peer_unit b (shift_of (syn_of (mirror m)))) same ∙ unit_read room.manner.scales facing.manner.scales both say) size (ap own_unit same)
+    (size_read facing.manner.scales) (syn_tells facing made) (told_of room.manner.scales room.capacity)
 
 units : (both : Bool) → (0 < own_unit both) × (own_unit both ≤ 1460)
 units true = (omega arith, omega arith)
@@ -592,7 +593,7 @@ tells both room made =
           (omega (arith, made.least), omega arith, none.1)
     ] in
     record {
-      offers = told_of room.scales room.capacity;
+      offers = told_of room.manner.scales room.capacity;
       some = omega (arith, made.least);
       few = omega arith;
       again = sized.0;
@@ -603,14 +604,14 @@ tells both room made =
     }
 
 fits : (room facing : Room) (here there : Endpoint) (isn other : ℕ) → CanBeMade room → CanBeMade facing → isn < 2 ^ 32 → other < 2 ^ 32
-    → Fits (meeting (room.scales && facing.scales) room facing here there isn other)
-fits room facing here there isn other made made_there few other_few = let both = room.scales && facing.scales in record {
+    → Fits (meeting (room.manner.scales && facing.manner.scales) room facing here there isn other)
+fits room facing here there isn other made made_there few other_few = let both = room.manner.scales && facing.manner.scales in record {
   isn = few;
   other = other_few;
   mine = tells both room made;
   theirs = tells both facing made_there;
   settles = settles both room facing here there isn other made_there refl;
-  settles_there = settles both facing room there here other isn made (both_say_too facing.scales room.scales);
+  settles_there = settles both facing room there here other isn made (both_say_too facing.manner.scales room.manner.scales);
 }
 
 -- a mebibyte is told whole, and what 16 bits can tell
@@ -649,9 +650,9 @@ knows m f = record { unit = refl; window = ap (whole_units m.unit) (sym (window_
 
 pub both_answered : (here there : Endpoint) (room facing : Room) (isn other : ℕ) (one two first : Moment) → CanBeMade room → CanBeMade facing → isn < 2 ^ 32 → other < 2 ^ 32
     → (let ends = crossed (record { one = opened_actively room here there isn one; other = opened_actively facing there here other two }) first in
-    let both = room.scales && facing.scales in AnswersSyn isn other ends.one × (ends.one.scales ≡ both) × AnswersSyn other isn ends.other × (ends.other.scales ≡ both))
+    let both = room.manner.scales && facing.manner.scales in AnswersSyn isn other ends.one × (ends.one.scales ≡ both) × AnswersSyn other isn ends.other × (ends.other.scales ≡ both))
 both_answered here there room facing isn other one two first made made_there few other_few =
-    let both = room.scales && facing.scales in
+    let both = room.manner.scales && facing.manner.scales in
     let m = meeting both room facing here there isn other in
     let f = fits room facing here there isn other made made_there few other_few in
     subst (λ (ends : Ends). AnswersSyn isn other ends.one × (ends.one.scales ≡ both) × AnswersSyn other isn ends.other × (ends.other.scales ≡ both)) (sym (first_crossing m one two first f))
@@ -659,9 +660,9 @@ both_answered here there room facing isn other one two first made made_there few
 
 pub both_opened : (here there : Endpoint) (room facing : Room) (isn other : ℕ) (one two first second third : Moment) → CanBeMade room → CanBeMade facing → isn < 2 ^ 32 → other < 2 ^ 32
     → (let ends = crossed (crossed (crossed (record { one = opened_actively room here there isn one; other = opened_actively facing there here other two }) first) second) third in
-    let both = room.scales && facing.scales in HasOpened both room.capacity isn other ends.one × HasOpened both facing.capacity other isn ends.other)
+    let both = room.manner.scales && facing.manner.scales in HasOpened both room.capacity isn other ends.one × HasOpened both facing.capacity other isn ends.other)
 both_opened here there room facing isn other one two first second third made made_there few other_few =
-    let both = room.scales && facing.scales in
+    let both = room.manner.scales && facing.manner.scales in
     let m = meeting both room facing here there isn other in
     let f = fits room facing here there isn other made made_there few other_few in
     subst (λ (ends : Ends). HasOpened both room.capacity isn other ends.one × HasOpened both facing.capacity other isn ends.other) (sym (all_crossings m one two first second third f))
@@ -671,6 +672,6 @@ pub both_know : (here there : Endpoint) (room facing : Room) (isn other : ℕ) (
     → (let ends = crossed (crossed (crossed (record { one = opened_actively room here there isn one; other = opened_actively facing there here other two }) first) second) third in
     KnowsWindow ends.one ends.other × KnowsWindow ends.other ends.one)
 both_know here there room facing isn other one two first second third made made_there few other_few =
-    let m = meeting (room.scales && facing.scales) room facing here there isn other in
+    let m = meeting (room.manner.scales && facing.manner.scales) room facing here there isn other in
     let f = fits room facing here there isn other made made_there few other_few in
     subst (λ (ends : Ends). KnowsWindow ends.one ends.other × KnowsWindow ends.other ends.one) (sym (all_crossings m one two first second third f)) (knows m f, knows (mirror m) (mirrored m f))

@@ -14,7 +14,7 @@ use Rattle.tcp_halves.specs.declared.buffers.TheConstants.{CAPACITY}
 use Rattle.tcp_halves.specs.Stream.{outstanding, after_sent, receive_window}
 use Rattle.tcp_halves.specs.Windows.{hears_next, open_window, next_count, has_grown, after_advertisement, window_field, after_syn_advertisement}
 use Rattle.tcp_state.specs.View.{View, is_opening, is_syn_sent, is_syn_received, is_closed, awaits_fin_ack}
-use Rattle.tcp_state.specs.New.{sends_new, sends_fin}
+use Rattle.tcp_state.specs.New.{sends_new, takes_fin, sends_fin}
 use Rattle.tcp_state.specs.Timing.{probes, clocked}
 
 -- The segment that goes out for each thing that may be due.
@@ -138,13 +138,26 @@ after_numbers v offset end now = if nat_lt offset (outstanding v.sending) then a
 abbrev pub after_new_octets : View → View
 after_new_octets v = record v { resend = record v.resend { overridden = false }; timers = record v.timers { overriding = None } }
 
+-- a small segment of new octets: it has fewer of them than one may
+pub record IsSmall (v : View) (stretch : Stretch) : Type 0 where
+  pub new : outstanding v.sending ≤ stretch.offset
+  pub some : 0 < stretch.count
+  pub few : stretch.count < v.sending.smss
+
+-- where new octets go out in one, it is the last
+abbrev pub small_with : View → Stretch → ℕ
+small_with v stretch = if nat_lt stretch.count v.sending.smss then end_of stretch else v.resend.small
+
+abbrev pub after_new_text : View → Stretch → View
+after_new_text v stretch = let ended = after_new_octets v in record ended { resend = record ended.resend { small = small_with v stretch } }
+
 abbrev pub brings_new_octets : View → Stretch → Bool
 brings_new_octets v stretch = nat_lt 0 stretch.count && not (nat_lt stretch.offset (outstanding v.sending))
 
 abbrev pub after_stretch : View → Stretch → Moment → View
 after_stretch v stretch now =
     let sent = after_numbers v stretch.offset (end_of stretch) now in
-    if brings_new_octets v stretch then after_new_octets sent else sent
+    if brings_new_octets v stretch then after_new_text sent stretch else sent
 
 abbrev pub after_probe : View → View
 after_probe v =
@@ -210,9 +223,17 @@ abbrev pub again_from : View → Option ℕ → Option Due
 again_from v None = None
 again_from v (Some mark) = if goes_again v mark then Some (Text (again v mark)) else None
 
--- the new octets of the next segment
+-- the new octets of the next segment, and the FIN that goes with them
 abbrev pub new_octets : View → Stretch
-new_octets v = record { offset = outstanding v.sending; count = next_count v.sending v.congestion.cwnd; fin = false }
+new_octets v =
+    let count = next_count v.sending v.congestion.cwnd in
+    record { offset = outstanding v.sending; count = count; fin = takes_fin v (outstanding v.sending + count) }
+
+-- all that has not gone out, as much of it as one segment takes, and the FIN that goes with that
+abbrev pub rest_of : View → Stretch
+rest_of v =
+    let count = min (length v.sending.held - outstanding v.sending) v.sending.smss in
+    record { offset = outstanding v.sending; count = count; fin = takes_fin v (outstanding v.sending + count) }
 
 -- the FIN behind all octets
 abbrev pub fin_alone : View → Stretch

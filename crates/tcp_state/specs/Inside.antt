@@ -23,4 +23,5 @@ view_of c = record {
   since = c.since;
   unheard = c.unheard;
   nodelay = c.is_undelayed;
+  minshall = c.minshall;
 }

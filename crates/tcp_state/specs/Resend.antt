@@ -27,6 +27,8 @@ pub record Resend : Type 0 where
   pub syn_resent : Bool
   -- how many segments brought what went out before, each probe among them
   pub resent : ℕ
+  -- the number behind the last small segment of new octets that is outstanding, as a distance past SND.UNA; 0 where none is
+  pub small : ℕ
 
 -- the timeout and the wait of a probe last a second at least and a minute at most, and the timers expire twelve times without progress at most
 pub record IsSoundResend (p : Resend) : Type 0 where
@@ -49,11 +51,12 @@ first_resend = record {
   overridden = false;
   syn_resent = false;
   resent = 0;
+  small = 0;
 }
 
 -- nothing is outstanding or waits any longer
 abbrev pub stopped : Resend → Resend
-stopped p = record p { mark = None; once = false; timed = None; interval = p.timeout.rto; owes_probe = false; overridden = false }
+stopped p = record p { mark = None; once = false; timed = None; interval = p.timeout.rto; owes_probe = false; overridden = false; small = 0 }
 
 -- What goes out.
 
@@ -97,13 +100,13 @@ resend_probes p = record p { owes_probe = true; interval = min MOST_INTERVAL (2 
 
 -- Acknowledgements.
 
--- so many numbers are acknowledged, and so many are outstanding still: the mark stays at its number, or moves with SND.UNA
+-- so many numbers are acknowledged, and so many are outstanding still: the mark stays at its number, or moves with SND.UNA; and so does the end of the last small segment
 abbrev pub mark_left : Option ℕ → ℕ → ℕ → Option ℕ
 mark_left None gained outstanding = None
 mark_left (Some distance) gained outstanding = mark_past (distance - gained) outstanding
 
 abbrev pub mark_moved : Resend → ℕ → ℕ → Resend
-mark_moved p gained outstanding = record p { mark = mark_left p.mark gained outstanding }
+mark_moved p gained outstanding = record p { mark = mark_left p.mark gained outstanding; small = p.small - gained }
 
 -- the segment at SND.UNA counts as lost: it alone goes out again (RFC 5681 section 3.2)
 abbrev pub resend_lost : Resend → ℕ → Resend
@@ -111,7 +114,7 @@ resend_lost p outstanding = record p { mark = mark_past 0 outstanding; once = tr
 
 -- nothing is outstanding
 abbrev pub unmarked : Resend → Resend
-unmarked p = record p { mark = None }
+unmarked p = record p { mark = None; small = 0 }
 
 -- SND.UNA is at the end of what is measured, or past it
 abbrev pub is_timed_by : Timed → ℕ → Bool

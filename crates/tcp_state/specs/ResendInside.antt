@@ -14,4 +14,5 @@ resend_view p = record {
   overridden = p.overridden;
   syn_resent = p.syn_resent;
   resent = p.resent;
+  small = p.small;
 }

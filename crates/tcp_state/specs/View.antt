@@ -52,6 +52,8 @@ pub record View : Type 0 where
   pub unheard : Option Moment
   -- small segments don't wait for what is outstanding
   pub nodelay : Bool
+  -- they wait for small ones only, and the FIN goes with the last octets (Minshall, RFC 9293 appendix A.3)
+  pub minshall : Bool
 
 -- SYN-SENT or SYN-RECEIVED
 abbrev pub is_opening : State → Bool
@@ -161,7 +163,7 @@ opened_actively room local peer isn now = record {
   peer = peer;
   state = SynSent;
   passive = false;
-  scales = room.scales;
+  scales = room.manner.scales;
   sending = sending_from (size_of room) isn;
   receiving = receiving_nothing room;
   owes_ack = false;
@@ -176,6 +178,7 @@ opened_actively room local peer isn now = record {
   since = record { 0 = 0 };
   unheard = Some now;
   nodelay = false;
+  minshall = room.manner.minshall;
 }
 
 -- a SYN, or the FIN of a closed side behind all octets, may be outstanding
@@ -205,7 +208,7 @@ pub record AreTerms (scales : Bool) (sent peer size made unit : ℕ) : Type 0 wh
   pub settled_peer_unit : scales ≡ false → peer ≡ 1
 
 -- What holds of every connection. While it opens, nothing is held or readable, and before the peer's SYN came no window is advertised and a unit of the peer's is an octet; nothing is held once our FIN is acknowledged or all is closed. What is
--- outstanding is of what is held, with the SYN or the FIN; the resend mark stands within it. A segment may
+-- outstanding is of what is held, with the SYN or the FIN; the resend mark stands within it, and the end of the last small segment. A segment may
 -- have `LEAST_MSS` octets at least, so that what is held can always go out. An acknowledgement is owed once a SYN came, and none when all is closed.
 -- An error is pending, and a reset owed, only where all is closed; what its caller closed is closed on our side.
 pub record IsSound (v : View) : Type 0 where
@@ -221,6 +224,7 @@ pub record IsSound (v : View) : Type 0 where
   pub kept : KeptInWindow v.receiving
   pub flight : outstanding v.sending ≤ most_outstanding v
   pub mark : ForSome v.resend.mark (λ distance. distance < outstanding v.sending)
+  pub small : v.resend.small ≤ outstanding v.sending
   pub resend : IsSoundResend v.resend
   pub connection : is_listening v.state ≡ false
   pub segment : v.sending.smss ≤ MSS

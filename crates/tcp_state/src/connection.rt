@@ -69,6 +69,8 @@ pub struct Connection {
     pub(crate) unheard: Option<Moment>,
     /// Whether small segments don't wait for what is outstanding.
     pub(crate) is_undelayed: bool,
+    /// Whether they wait for small ones only, and the FIN goes with the last octets (Minshall, RFC 9293 appendix A.3).
+    pub(crate) minshall: bool,
 }
 
 impl Model for Connection {
@@ -94,14 +96,14 @@ impl Connection {
     ) -> Connection
         ensures { result ≡ opened_actively buffers local peer isn.0 now }
     {
-        let scales = buffers.scales();
+        let manner = buffers.manner();
         let (sender, receiver) = buffers.into_halves(isn);
         Connection {
             local,
             peer,
             state: State::SynSent,
             is_passive: false,
-            scales,
+            scales: manner.scales,
             sender,
             receiver,
             owes_ack: false,
@@ -116,6 +118,7 @@ impl Connection {
             since: Moment(0),
             unheard: Some(now),
             is_undelayed: false,
+            minshall: manner.minshall,
         }
     }
 

@@ -5,9 +5,9 @@ ghost use Rattle.inet_sum.specs.Sum.{sum_of};
 ghost use Rattle.tcp_state.specs.View.{is_opening, is_syn_sent, most_outstanding};
 ghost use Rattle.tcp_halves.specs.Stream.{outstanding};
 ghost use Rattle.tcp_segment.specs.declared.TheConstants.{MSS};
-ghost use Rattle.tcp_state.specs.New.{waits_no_longer, sends_new, sends_fin};
+ghost use Rattle.tcp_state.specs.New.{takes_last, passes_full, waits_no_longer, sends_new, takes_fin, sends_fin};
 ghost use Rattle.tcp_state.specs.Timing.{probes};
-ghost use Rattle.tcp_state.specs.Due.{MayGoOut, IsHeld, first_due, ack_due, again, goes_again, again_from, new_octets, fin_alone, new_due, probe_stretch, numbers_of, end_of, flags_of, flags_of_stretch, ack_number, number_of, octets_of, window_of, head_of, segment_octets, emitted_len, after_emitted, after_going_out, after_ack_paid, after_syn_ack_paid, after_speaking, after_numbers, after_resent, after_first_sent, after_new_octets, brings_new_octets, after_stretch, after_probe, after_syn_out};
+ghost use Rattle.tcp_state.specs.Due.{MayGoOut, IsHeld, first_due, ack_due, again, goes_again, again_from, new_octets, fin_alone, new_due, probe_stretch, numbers_of, end_of, flags_of, flags_of_stretch, ack_number, number_of, octets_of, window_of, head_of, segment_octets, emitted_len, after_emitted, after_going_out, after_ack_paid, after_syn_ack_paid, after_speaking, after_numbers, after_resent, after_first_sent, after_new_octets, small_with, brings_new_octets, after_stretch, after_probe, after_syn_out};
 
 use crate::connection::Connection;
 use crate::state::State;
@@ -157,7 +157,24 @@ impl Connection {
         ensures { result ≡ waits_no_longer self.now }
     {
         self.is_undelayed && self.sender.takes_enough(self.congestion.window())
+            || self.passes_full()
             || self.resend.is_overridden()
+    }
+
+    /// Whether a segment that isn't full waits for a small one only, and none is outstanding, or it has the last octets of a closed side.
+    fn passes_full(&self) -> bool
+        ensures { result ≡ passes_full self.now }
+    {
+        self.minshall
+            && self.sender.takes_enough(self.congestion.window())
+            && (self.resend.small() == 0 || self.takes_last())
+    }
+
+    /// Whether our side is closed, and both windows take all that has not gone out.
+    fn takes_last(&self) -> bool
+        ensures { result ≡ takes_last self.now }
+    {
+        self.state.awaits_fin_ack() && self.sender.takes_all(self.congestion.window())
     }
 
     /// Whether new octets go out.
@@ -175,14 +192,26 @@ impl Connection {
         ensures value { result ≡ new_octets self.now }
         ensures held { IsHeld self.now result }
     {
+        let offset = self.sender.outstanding() as usize;
+        let count = self.sender.next_count(self.congestion.window());
         Stretch {
-            offset: self.sender.outstanding() as usize,
-            count: self.sender.next_count(self.congestion.window()),
-            fin: false,
+            offset,
+            count,
+            fin: self.takes_fin(offset + count),
         }
     }
 
-    /// Whether the FIN of a closed side goes out behind all octets.
+    /// Whether the FIN of a closed side goes with octets up to this distance past SND.UNA: with the last that are held.
+    fn takes_fin(&self, end: usize) -> bool
+        ensures { result ≡ takes_fin self.now end }
+    {
+        self.minshall
+            && self.state.awaits_fin_ack()
+            && end == self.sender.held_len()
+            && end < self.sender.open_window(self.congestion.window()) as usize
+    }
+
+    /// Whether the FIN of a closed side goes out alone, behind all octets.
     pub(crate) fn sends_fin(&self) -> bool
         ensures { result ≡ sends_fin self.now }
     {
@@ -419,6 +448,19 @@ impl Connection {
         self.note_numbers(stretch.offset as u32, end, now);
         if is_new {
             self.end_override();
+            self.note_small(stretch, end);
+        }
+    }
+
+    /// New octets went out, up to this distance past SND.UNA: in a small segment, if these are fewer than a segment may have.
+    fn note_small(&mut self, stretch: Stretch, end: u32)
+        requires end { end ≡ end_of stretch }
+        requires opened { is_opening self.old.state ≡ false }
+        requires out { end ≤ outstanding self.old.sending }
+        ensures { self.new ≡ record self.old { resend = record self.old.resend { small = small_with self.old stretch } } }
+    {
+        if stretch.count < self.sender.smss() {
+            self.resend.note_small(end);
         }
     }
 
@@ -465,7 +507,8 @@ impl Connection {
         requires joined { offset ≤ outstanding self.old.sending }
         requires some { offset < end }
         requires fits { end ≤ most_outstanding self.old }
-        ensures { self.new ≡ after_numbers self.old offset end now }
+        ensures after { self.new ≡ after_numbers self.old offset end now }
+        ensures reached { end ≤ outstanding self.new.sending }
     {
         let is_new = self.sender.outstanding() <= offset;
         self.sender.sent(end);

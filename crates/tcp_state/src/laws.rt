@@ -14,7 +14,7 @@ ghost use Rattle.clock.specs.Moments.{after, has_come};
 ghost use Rattle.tcp_state.specs.declared.connection.Fate.{Fate};
 ghost use Rattle.tcp_state.specs.declared.state.State.{State};
 ghost use Rattle.tcp_state.specs.declared.emission.Due.{Due};
-ghost use Rattle.tcp_state.specs.View.{View, IsSound, is_opening, is_closed, is_syn_sent, is_at_end, is_over, is_read_closed, reset_since, opened_actively};
+ghost use Rattle.tcp_state.specs.View.{View, IsSound, is_opening, is_closed, is_syn_sent, is_at_end, is_over, is_read_closed, awaits_fin_ack, reset_since, opened_actively};
 ghost use Rattle.tcp_segment.specs.Wire.{wire, past, IsBefore};
 ghost use Rattle.tcp_halves.specs.Numbers.{is_before};
 ghost use Rattle.tcp_halves.specs.Halves.{Room, Sending, Receiving};
@@ -27,11 +27,12 @@ ghost use Rattle.retransmit.specs.declared.timers.TimerKind.{TimerKind};
 ghost use Rattle.retransmit.specs.Deadlines.{deadline_of};
 ghost use Rattle.tcp_state.specs.declared.resend.Timed.{Timed};
 ghost use Rattle.tcp_state.specs.declared.emission.Stretch.{Stretch};
+ghost use Rattle.tcp_state.specs.New.{passes_full, takes_fin};
 ghost use Rattle.tcp_state.specs.Timing.{KeepsTime, probes, awaits_more, expires, wants_out, after_tick, deadline};
 ghost use Rattle.congestion.specs.Window.{is_recovering, third_is_next};
 ghost use Rattle.tcp_state.specs.Congestion.{KeepsCongestion, after_signal};
 ghost use Rattle.tcp_state.specs.Arrival.{opened_passively, fate, is_acceptable_to, is_receiving, is_read, is_duplicate, after_ack, after_heard, after_segment_at};
-ghost use Rattle.tcp_state.specs.Due.{MayGoOut, first_due, number_of, end_of, flags_of, octets_of, window_of, sends_again, again, after_emitted};
+ghost use Rattle.tcp_state.specs.Due.{MayGoOut, first_due, number_of, end_of, flags_of, octets_of, window_of, sends_again, again, rest_of, IsSmall, after_emitted};
 ghost use Rattle.tcp_state.specs.Unreachable.{IsRefused};
 ghost use Rattle.tcp_state.specs.Simultaneous.{crossed, AnswersSyn, CanBeMade, HasOpened, KnowsWindow};
 ghost use Rattle.tcp_state.specs.Opening.{TellsShift, TakesSyn, HearsSyn, OpenedBy, Confirmed};
@@ -56,9 +57,9 @@ pub fn constants()
 /// peer's SYN on, whether ours went out or not. In SYN-SENT nothing but a SYN that is taken changes what our SYN offers, and past it no event changes what was settled. Our SYN has the option where its caller's host uses it, a SYN-ACK where
 /// windows are scaled, and none where the SYN had none; no other segment has any.
 pub fn windows_are_scaled_where_both_sides_say_so()
-    ensures offered { (room : Room) (local peer : Endpoint) (isn : ℕ) (now : Moment) → (opened_actively room local peer isn now).scales ≡ room.scales }
+    ensures offered { (room : Room) (local peer : Endpoint) (isn : ℕ) (now : Moment) → (opened_actively room local peer isn now).scales ≡ room.manner.scales }
     ensures accepted { (room : Room) (local peer : Endpoint) (isn : ℕ) (syn : Segment) (now : Moment)
-        → ((opened_passively room local peer isn syn now).scales ≡ true) ↔ ((room.scales ≡ true) × TellsShift syn) }
+        → ((opened_passively room local peer isn syn now).scales ≡ true) ↔ ((room.manner.scales ≡ true) × TellsShift syn) }
     ensures answered { (v : View) (s : Segment) (now : Moment) → v.state ≡ State.SynSent → TakesSyn v s now
         → ((after_event v (Event.Hears s now)).scales ≡ true) ↔ ((v.scales ≡ true) × TellsShift s) }
     ensures stays { (v : View) (e : Event) → (is_syn_sent v.state ≡ false) ⊎ (is_syn_sent (after_event v e).state ≡ true) → (after_event v e).scales ≡ v.scales }
@@ -92,7 +93,7 @@ pub fn units_stay()
     ensures peer { (v : View) → IsSound v → v.scales ≡ false → v.sending.unit ≡ 1 }
     ensures unsettled { (v : View) → IsSound v → is_syn_sent v.state ≡ true → v.sending.unit ≡ 1 }
     ensures opened { (room : Room) (local peer : Endpoint) (isn : ℕ) (now : Moment)
-        → (let w = opened_actively room local peer isn now in (w.sending.unit ≡ 1) × (w.receiving.unit ≡ (if room.scales then 32 else 1))) }
+        → (let w = opened_actively room local peer isn now in (w.sending.unit ≡ 1) × (w.receiving.unit ≡ (if room.manner.scales then 32 else 1))) }
     ensures accepted { (room : Room) (local peer : Endpoint) (isn : ℕ) (syn : Segment) (now : Moment)
         → (let w = opened_passively room local peer isn syn now in w.sending.unit ≡ peer_unit w.scales (shift_of syn)) }
     ensures answered { (v : View) (s : Segment) (now : Moment) → v.state ≡ State.SynSent → TakesSyn v s now
@@ -346,10 +347,10 @@ pub fn hard_errors_end_openings_alone()
 pub fn simultaneous_openings_meet()
     ensures answers { (here there : Endpoint) (room facing : Room) (isn other : ℕ) (one two first : Moment) → CanBeMade room → CanBeMade facing → isn < 2 ^ 32 → other < 2 ^ 32
         → (let ends = crossed (record { one = opened_actively room here there isn one; other = opened_actively facing there here other two }) first in
-        let both = room.scales && facing.scales in AnswersSyn isn other ends.one × (ends.one.scales ≡ both) × AnswersSyn other isn ends.other × (ends.other.scales ≡ both)) }
+        let both = room.manner.scales && facing.manner.scales in AnswersSyn isn other ends.one × (ends.one.scales ≡ both) × AnswersSyn other isn ends.other × (ends.other.scales ≡ both)) }
     ensures opens { (here there : Endpoint) (room facing : Room) (isn other : ℕ) (one two first second third : Moment) → CanBeMade room → CanBeMade facing → isn < 2 ^ 32 → other < 2 ^ 32
         → (let ends = crossed (crossed (crossed (record { one = opened_actively room here there isn one; other = opened_actively facing there here other two }) first) second) third in
-        let both = room.scales && facing.scales in HasOpened both room.capacity isn other ends.one × HasOpened both facing.capacity other isn ends.other) }
+        let both = room.manner.scales && facing.manner.scales in HasOpened both room.capacity isn other ends.one × HasOpened both facing.capacity other isn ends.other) }
     ensures windows { (here there : Endpoint) (room facing : Room) (isn other : ℕ) (one two first second third : Moment) → CanBeMade room → CanBeMade facing → isn < 2 ^ 32 → other < 2 ^ 32
         → (let ends = crossed (crossed (crossed (record { one = opened_actively room here there isn one; other = opened_actively facing there here other two }) first) second) third in KnowsWindow ends.one ends.other × KnowsWindow ends.other ends.one) }
 {}
@@ -386,12 +387,12 @@ pub fn what_goes_out_again_went_out_before()
         → (after_event v (Event.Emits now)).resend.mark ≡ (if nat_lt (end_of stretch) (outstanding v.sending) then Some (end_of stretch) else None) }
 {}
 
-/// A segment of new octets that isn't full waits for what is outstanding (Nagle, RFC 1122 section 4.2.3.4), unless its caller wants no delay. Where nothing is, it takes all that is held, or is half of the largest window that the peer ever
+/// A segment of new octets that isn't full waits for what is outstanding (Nagle, RFC 1122 section 4.2.3.4), unless its caller wants no delay, or its host has it wait for small ones only. Where nothing is, it takes all that is held, or is half of the largest window that the peer ever
 /// advertised (RFC 9293 section 3.8.6.2.1). The wait is over otherwise only by the clock, at the deadline of the override,
 /// 500 ms after the event by which that began.
 pub fn small_segments_wait()
     ensures waits { (v : View) (stretch : Stretch) → IsSound v → first_due v ≡ Some (Due.Text stretch) → outstanding v.sending ≤ stretch.offset → 0 < stretch.count → stretch.count < v.sending.smss → v.resend.overridden ≡ false → v.nodelay ≡ false
-        → (outstanding v.sending ≡ 0) × ((stretch.count ≡ length v.sending.held) ⊎ (v.sending.max_window ≤ 2 * stretch.count)) }
+        → v.minshall ≡ false → (outstanding v.sending ≡ 0) × ((stretch.count ≡ length v.sending.held) ⊎ (v.sending.max_window ≤ 2 * stretch.count)) }
     ensures overridden { (v : View) (e : Event) → v.resend.overridden ≡ false → (after_event v e).resend.overridden ≡ true → (now : Moment) × (e ≡ Event.Ticks now) × (has_come v.timers.overriding now ≡ true) }
     ensures begins { (v : View) (e : Event) (deadline : Moment) → v.timers.overriding ≡ None → (after_event v e).timers.overriding ≡ Some deadline → (now : Moment) × (moment_of e ≡ Some now) × (deadline ≡ after now 500) }
 {}
@@ -401,7 +402,7 @@ pub fn small_segments_wait()
 /// new octets still wait.
 pub fn no_delay_sends_at_once()
     ensures sends { (v : View) → IsSound v → v.nodelay ≡ true → v.resend.mark ≡ None → outstanding v.sending < length v.sending.held → length v.sending.held ≤ v.sending.window → length v.sending.held ≤ v.congestion.cwnd
-        → first_due v ≡ Some (Due.Text (record { offset = outstanding v.sending; count = min (length v.sending.held - outstanding v.sending) v.sending.smss; fin = false })) }
+        → first_due v ≡ Some (Due.Text (rest_of v)) }
     ensures opened { (room : Room) (local peer : Endpoint) (isn : ℕ) (now : Moment) → (opened_actively room local peer isn now).nodelay ≡ false }
     ensures accepted { (room : Room) (local peer : Endpoint) (isn : ℕ) (syn : Segment) (now : Moment) → (opened_passively room local peer isn syn now).nodelay ≡ false }
     ensures told { (v : View) (on : Bool) (now : Moment) → (after_event v (Event.SetsNoDelay on now)).nodelay ≡ on }
@@ -409,6 +410,34 @@ pub fn no_delay_sends_at_once()
     ensures streams { (v : View) (on : Bool) (now : Moment)
         → ((after_event v (Event.SetsNoDelay on now)).sending ≡ v.sending) × ((after_event v (Event.SetsNoDelay on now)).receiving ≡ v.receiving) × ((after_event v (Event.SetsNoDelay on now)).state ≡ v.state) }
     ensures timer { (v : View) (on : Bool) (now : Moment) → is_some (after_event v (Event.SetsNoDelay on now)).timers.overriding ≡ awaits_more (after_event v (Event.SetsNoDelay on now)) }
+{}
+
+/// Where its host says so, a segment of new octets that isn't full waits for a small one only (Minshall, RFC 9293 appendix A.3), unless its caller wants no delay or the override ran out: none is outstanding, and it takes all that is held, or is half of
+/// the largest window that the peer ever advertised (section 3.8.6.2.1); or it has the last octets of a closed side. Where none is outstanding, or our side is closed, what is held goes out at once, if it lies within both windows and nothing goes
+/// out again; and the FIN goes with the last octets, where both windows take its number. The set-up says so when a connection opens, and nothing later; without it nothing passes a full segment, and no FIN goes with new octets.
+pub fn small_segments_wait_for_small_ones()
+    ensures waits { (v : View) (stretch : Stretch) → IsSound v → first_due v ≡ Some (Due.Text stretch) → outstanding v.sending ≤ stretch.offset → 0 < stretch.count → stretch.count < v.sending.smss → v.resend.overridden ≡ false → v.nodelay ≡ false
+        → ((v.resend.small ≡ 0) × ((outstanding v.sending + stretch.count ≡ length v.sending.held) ⊎ (v.sending.max_window ≤ 2 * stretch.count)))
+        ⊎ ((awaits_fin_ack v.state ≡ true) × (outstanding v.sending + stretch.count ≡ length v.sending.held)) }
+    ensures sends { (v : View) → IsSound v → v.minshall ≡ true → (v.resend.small ≡ 0) ⊎ (awaits_fin_ack v.state ≡ true) → v.resend.mark ≡ None → outstanding v.sending < length v.sending.held → length v.sending.held ≤ v.sending.window → length v.sending.held ≤ v.congestion.cwnd
+        → first_due v ≡ Some (Due.Text (rest_of v)) }
+    ensures last { (v : View) → IsSound v → v.minshall ≡ true → awaits_fin_ack v.state ≡ true → v.resend.mark ≡ None → outstanding v.sending < length v.sending.held → length v.sending.held - outstanding v.sending ≤ v.sending.smss → length v.sending.held < v.sending.window → length v.sending.held < v.congestion.cwnd
+        → first_due v ≡ Some (Due.Text (record { offset = outstanding v.sending; count = length v.sending.held - outstanding v.sending; fin = true })) }
+    ensures plain { (v : View) → v.minshall ≡ false → (passes_full v ≡ false) × ((end : ℕ) → takes_fin v end ≡ false) }
+    ensures opened { (room : Room) (local peer : Endpoint) (isn : ℕ) (now : Moment) → (opened_actively room local peer isn now).minshall ≡ room.manner.minshall }
+    ensures accepted { (room : Room) (local peer : Endpoint) (isn : ℕ) (syn : Segment) (now : Moment) → (opened_passively room local peer isn syn now).minshall ≡ room.manner.minshall }
+    ensures stays { (v : View) (e : Event) → (after_event v e).minshall ≡ v.minshall }
+{}
+
+/// The end of the last small segment of new octets is known as long as it is outstanding (RFC 9293 appendix A.3): it stands where such a segment that goes out ends, an acknowledgement that moves SND.UNA brings it as much nearer to that, or to it, and
+/// nothing else moves it.
+pub fn the_last_small_segment_is_known()
+    ensures opened { (room : Room) (local peer : Endpoint) (isn : ℕ) (now : Moment) → (opened_actively room local peer isn now).resend.small ≡ 0 }
+    ensures accepted { (room : Room) (local peer : Endpoint) (isn : ℕ) (syn : Segment) (now : Moment) → (opened_passively room local peer isn syn now).resend.small ≡ 0 }
+    ensures within { (v : View) → IsSound v → v.resend.small ≤ outstanding v.sending }
+    ensures begins { (v : View) (stretch : Stretch) (now : Moment) → first_due v ≡ Some (Due.Text stretch) → IsSmall v stretch → (after_event v (Event.Emits now)).resend.small ≡ end_of stretch }
+    ensures stays { (v : View) (e : Event) → IsSound v → ((after_event v e).resend.small ≡ v.resend.small - past (after_event v e).sending.una v.sending.una)
+        ⊎ ((now : Moment) × (stretch : Stretch) × (e ≡ Event.Emits now) × (first_due v ≡ Some (Due.Text stretch)) × IsSmall v stretch) }
 {}
 
 /// PSH stands on each segment that brings octets and behind which nothing that is held is left, and on no other (RFC 9293 section 3.9.1.2).

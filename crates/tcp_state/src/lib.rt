@@ -26,4 +26,4 @@ pub use hop::HOP_PATIENCE;
 pub use info::Info;
 pub use resend::Timed;
 pub use state::State;
-pub use tcp_halves::{Buffers, CAPACITY, LARGEST_CAPACITY};
+pub use tcp_halves::{Buffers, CAPACITY, LARGEST_CAPACITY, Manner};

@@ -47,6 +47,8 @@ pub(crate) struct Resend {
     syn_resent: bool,
     /// How many segments brought what went out before, each probe among them.
     resent: u64,
+    /// The number behind the last small segment of new octets that is outstanding, as a distance past SND.UNA; 0 where none is.
+    small: u32,
 }
 
 impl Model for Resend {
@@ -79,6 +81,7 @@ impl Resend {
             overridden: false,
             syn_resent: false,
             resent: 0,
+            small: 0,
         }
     }
 
@@ -145,6 +148,13 @@ impl Resend {
         self.resent
     }
 
+    /// The number behind the last small segment of new octets that is outstanding, as a distance past SND.UNA; 0 where none is.
+    pub(crate) fn small(&self) -> u32
+        ensures { result ≡ self.now.small }
+    {
+        self.small
+    }
+
     /// Nothing is outstanding or waits any longer.
     pub(crate) fn stop(&mut self)
         ensures after { self.new ≡ stopped self.old }
@@ -156,6 +166,7 @@ impl Resend {
         self.interval = self.timeout.rto();
         self.owes_probe = false;
         self.overridden = false;
+        self.small = 0;
     }
 
     /// All of so many numbers that are outstanding go out again.
@@ -174,6 +185,7 @@ impl Resend {
         if let Some(distance) = self.mark {
             self.mark = mark_past(distance.saturating_sub(gained), outstanding);
         }
+        self.small = self.small.saturating_sub(gained);
     }
 
     /// The segment at SND.UNA counts as lost: it alone goes out again, of so many numbers that are outstanding (fast retransmit, RFC 5681
@@ -192,6 +204,7 @@ impl Resend {
         ensures resend_view { IsSoundResend self.new }
     {
         self.mark = None;
+        self.small = 0;
     }
 
     /// What was outstanding went out again, up to this distance past SND.UNA.
@@ -225,6 +238,14 @@ impl Resend {
         if self.timed.is_none() {
             self.timed = Some(Timed { end, since: now });
         }
+    }
+
+    /// A small segment of new octets went out, up to this distance past SND.UNA.
+    pub(crate) fn note_small(&mut self, end: u32)
+        ensures after { self.new ≡ record self.old { small = end } }
+        ensures resend_view { IsSoundResend self.new }
+    {
+        self.small = end;
     }
 
     /// New octets went out, so that none wait for more any longer.

@@ -13,6 +13,7 @@ ghost use Rattle.tcp_halves.specs.Stream.{outstanding};
 ghost use Rattle.tcp_halves.specs.Windows.{hears_next};
 ghost use Rattle.tcp_state.specs.View.{View, IsSound, is_opening, awaits_fin_ack};
 ghost use Rattle.tcp_state.specs.Most.{most_due};
+ghost use Rattle.tcp_state.specs.New.{takes_fin};
 ghost use Rattle.tcp_state.specs.Due.{MayGoOut, first_due, segment_octets, after_emitted};
 ghost use Rattle.tcp_state.specs.Arrival.{is_acceptable_to, fate};
 ghost use Rattle.tcp_state.specs.Edges.{Event, after_event, state_after};
@@ -62,16 +63,16 @@ pub fn second_syns_go_back_to_listen()
 {}
 
 /// What is new goes out as soon as both windows take it, where nothing goes out again (RFC 9293 sections 3.8.6.1 and 3.8.6.2.1, RFC 1122 section 4.2.3.4): a full segment, whatever is outstanding; where nothing is, all that is
-/// held, or what takes half of the largest window that the peer ever advertised; behind all octets the FIN, which wants one number of the peer's window; and into a closed window the probe
+/// held, or what takes half of the largest window that the peer ever advertised, with the FIN where that goes with it; behind all octets the FIN, which wants one number of the peer's window; and into a closed window the probe
 /// for which its timer has come.
 pub fn what_is_new_goes_out()
     ensures full { (v : View) → IsSound v → v.resend.mark ≡ None → outstanding v.sending + v.sending.smss ≤ length v.sending.held → outstanding v.sending + v.sending.smss ≤ v.sending.window
-        → outstanding v.sending + v.sending.smss ≤ v.congestion.cwnd → first_due v ≡ Some (Due.Text (record { offset = outstanding v.sending; count = v.sending.smss; fin = false })) }
+        → outstanding v.sending + v.sending.smss ≤ v.congestion.cwnd → first_due v ≡ Some (Due.Text (record { offset = outstanding v.sending; count = v.sending.smss; fin = takes_fin v (outstanding v.sending + v.sending.smss) })) }
     ensures all { (v : View) → IsSound v → v.resend.mark ≡ None → v.sending.nxt ≡ v.sending.una → 0 < length v.sending.held → length v.sending.held ≤ v.sending.window → length v.sending.held ≤ v.congestion.cwnd
-        → first_due v ≡ Some (Due.Text (record { offset = 0; count = min (length v.sending.held) v.sending.smss; fin = false })) }
+        → first_due v ≡ Some (Due.Text (record { offset = 0; count = min (length v.sending.held) v.sending.smss; fin = takes_fin v (min (length v.sending.held) v.sending.smss) })) }
     ensures half { (v : View) → IsSound v → v.resend.mark ≡ None → v.sending.nxt ≡ v.sending.una
         → (let n = min (length v.sending.held) (min v.sending.window v.congestion.cwnd) in 0 < n → v.sending.max_window ≤ 2 * n
-        → first_due v ≡ Some (Due.Text (record { offset = 0; count = min n v.sending.smss; fin = false }))) }
+        → first_due v ≡ Some (Due.Text (record { offset = 0; count = min n v.sending.smss; fin = takes_fin v (min n v.sending.smss) }))) }
     ensures fin { (v : View) → IsSound v → v.resend.mark ≡ None → awaits_fin_ack v.state ≡ true → outstanding v.sending ≡ length v.sending.held → outstanding v.sending < v.sending.window
         → first_due v ≡ Some (Due.Text (record { offset = length v.sending.held; count = 0; fin = true })) }
     ensures probe { (v : View) → IsSound v → v.resend.mark ≡ None → v.resend.owes_probe ≡ true → v.sending.window ≡ 0 → (0 < length v.sending.held) ⊎ (awaits_fin_ack v.state ≡ true) → first_due v ≡ Some Due.Probe }

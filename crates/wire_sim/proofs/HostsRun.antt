@@ -5,6 +5,7 @@ use Rattle.std.proofs.lemmas.Bool.{eqb-true}
 use Rattle.std.proofs.lemmas.List.Elements.{Contains-append_left, Contains-append_right, Contains-append_cases}
 use Rattle.ipv4.specs.declared.addr.Addr.{Addr}
 use Rattle.ipv4.specs.declared.addr.Endpoint.{Endpoint}
+use Rattle.tcp_halves.specs.declared.buffers.Manner.{Manner}
 use Rattle.clock.specs.declared.moment.Moment.{Moment}
 use Rattle.tcp_segment.specs.declared.seq.Seq.{Seq}
 use Rattle.tcp_state.specs.declared.calls.Refusal.{Refusal as Error}
@@ -70,7 +71,7 @@ use Rattle.wire_sim.specs.Steps.{Answers, MeetsSocket, recv_len, MeetsReceived, 
 use Rattle.wire_sim.specs.Windows.{QuietReadersLeaveAWindow}
 use Rattle.wire_sim.specs.WorldView.{NetworkView, WorldView, station_of, host_of, table_of, clock_of}
 use Rattle.wire_sim.proofs.fairness.NotesAreTraced.{frames-step, got-still, got-last}
-use Rattle.host.proofs.Tables.{run-scale}
+use Rattle.host.proofs.Tables.{run-manner}
 use Rattle.wire_sim.proofs.passage.HostsStay.{run-stays}
 use Rattle.wire_sim.proofs.openings.HoldingsAreNoted.{other-stays, side_of}
 use Rattle.wire_sim.proofs.runs.ClocksGoOn.{clock-goes-on, tick-told}
@@ -101,7 +102,7 @@ unrefused None is = refl
 unrefused (Some refusal) is = cc
 
 made : (i : InterfaceView) (kind : Kind) (h : SocketsView) (answer : Answer) (new : SocketsView) → MeetsSocket kind h answer new → IsCalled i h new
-made i Tcp h (reply.Socket id) new meets = inr (table.Makes (room_of h.scales), meets.0, tt, λ latest. tt, meets.2, (tt, room_wide h.scales))
+made i Tcp h (reply.Socket id) new meets = inr (table.Makes (room_of h.manner), meets.0, tt, λ latest. tt, meets.2, (tt, room_wide h.manner))
 made i Udp h (reply.Socket id) new meets = inr (table.MakesDatagrams, meets.0, tt, λ latest. tt, meets.2, (tt, tt))
 made i kind h (reply.Refused EMFILE) new meets = inl meets.1
 made i kind h (reply.Refused ENOMEM) new meets = inl meets.1
@@ -255,14 +256,14 @@ delivered-now w v happens answer step side octets b = record {
 }
 
 -- a host keeps its set-up
-set-up : (c : ConfigView) (events : List HostEvent) (h : HostView) → Runs c events h → c ≡ record { mac = h.interface.mac; addr = h.interface.addr; routes = h.interface.routes; scales = h.sockets.scales }
+set-up : (c : ConfigView) (events : List HostEvent) (h : HostView) → Runs c events h → c ≡ record { mac = h.interface.mac; addr = h.interface.addr; routes = h.interface.routes; manner = h.sockets.manner }
 set-up c events h runs =
     let s = run-stays c events h runs in
-    let with_mac : Mac → ConfigView = λ m. record { mac = m; addr = c.addr; routes = c.routes; scales = c.scales } in
-    let with_addr : Addr → ConfigView = λ a. record { mac = h.interface.mac; addr = a; routes = c.routes; scales = c.scales } in
-    let with_routes : List Route → ConfigView = λ rs. record { mac = h.interface.mac; addr = h.interface.addr; routes = rs; scales = c.scales } in
-    let with_scale : Bool → ConfigView = λ b. record { mac = h.interface.mac; addr = h.interface.addr; routes = h.interface.routes; scales = b } in
-    ap with_mac (sym s.mac) ∙ (ap with_addr (sym s.addr) ∙ (ap with_routes (sym s.routes) ∙ ap with_scale (sym (run-scale c events h runs))))
+    let with_mac : Mac → ConfigView = λ m. record { mac = m; addr = c.addr; routes = c.routes; manner = c.manner } in
+    let with_addr : Addr → ConfigView = λ a. record { mac = h.interface.mac; addr = a; routes = c.routes; manner = c.manner } in
+    let with_routes : List Route → ConfigView = λ rs. record { mac = h.interface.mac; addr = h.interface.addr; routes = rs; manner = c.manner } in
+    let with_manner : Manner → ConfigView = λ m. record { mac = h.interface.mac; addr = h.interface.addr; routes = h.interface.routes; manner = m } in
+    ap with_mac (sym s.mac) ∙ (ap with_addr (sym s.addr) ∙ (ap with_routes (sym s.routes) ∙ ap with_manner (sym (run-manner c events h runs))))
 
 -- what may be asked of a host is what its own routes know
 asked-own : (c : ConfigView) (routes : List Route) (e : HostEvent) → c.routes ≡ routes → IsOwnCall routes e → IsAsked c e
@@ -334,8 +335,8 @@ nearer before after h on_clock near = record { kept = omega (arith, near.kept, o
 
 -- each event of a host names its side's clock at the latest
 pub tables-near : (limit : ℕ) (w : WorldView) → IsReached limit w → (side : Side) → AreNear (clock_of w.network side) (table_of w.network side)
-tables-near limit w (begins a b a_is b_is apart small) A = fresh_near a.addr a.scales (record { 0 = 0 })
-tables-near limit w (begins a b a_is b_is apart small) B = fresh_near b.addr b.scales (record { 0 = 0 })
+tables-near limit w (begins a b a_is b_is apart small) A = fresh_near a.addr a.manner (record { 0 = 0 })
+tables-near limit w (begins a b a_is b_is apart small) B = fresh_near b.addr b.manner (record { 0 = 0 })
 tables-near limit _ (goes_on w v happens answer reached step) side =
     by_move (nearer (clock_of w.network side) (clock_of v.network side) (table_of w.network side) (clock-goes-on happens (length w.trace) answer w.network v.network step.network side) (tables-near limit w reached side)) (moved w v happens answer step side)
   where
@@ -351,8 +352,8 @@ own-sized routes (Emits now) own = tt
 
 -- each connection leaves its peer a window
 pub tables-leave : (limit : ℕ) (w : WorldView) → IsReached limit w → (side : Side) → EachLeavesAWindow (table_of w.network side)
-tables-leave limit w (begins a b a_is b_is apart small) A = fresh_leaves a.addr a.scales
-tables-leave limit w (begins a b a_is b_is apart small) B = fresh_leaves b.addr b.scales
+tables-leave limit w (begins a b a_is b_is apart small) A = fresh_leaves a.addr a.manner
+tables-leave limit w (begins a b a_is b_is apart small) B = fresh_leaves b.addr b.manner
 tables-leave limit _ (goes_on w v happens answer reached step) side = by_move (tables-leave limit w reached side) (moved w v happens answer step side)
   where
     old : HostView

@@ -55,7 +55,7 @@ AreTraced w side events = (now : Moment) (isn : ℕ) (octets : List ℕ) → Con
 -- a list of events that may be asked of it leads to a side's host, from one that was set up with its own MAC, address and routes, and what the list delivers was delivered in the world
 pub record HasRun (w : WorldView) (side : Side) : Type 0 where
   pub run : hosts.HasRun (host_of w.network side)
-  pub own : let h = host_of w.network side in run.config ≡ record { mac = h.interface.mac; addr = h.interface.addr; routes = h.interface.routes; scales = h.sockets.scales }
+  pub own : let h = host_of w.network side in run.config ≡ record { mac = h.interface.mac; addr = h.interface.addr; routes = h.interface.routes; manner = h.sockets.manner }
   pub traced : AreTraced w side run.events
 
 abbrev pub EveryHostRuns : Type 0

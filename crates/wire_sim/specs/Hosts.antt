@@ -1,5 +1,5 @@
 -- The two hosts of a script and of a copy, and how each is set up.
-use Rattle.std.specs.Prelude.{Bool, ◌≡◌, [], ◌∷◌}
+use Rattle.std.specs.Prelude.{Bool, false, ◌≡◌, [], ◌∷◌}
 use Rattle.ether.specs.declared.mac.Mac.{Mac}
 use Rattle.ipv4.specs.declared.addr.Addr.{Addr}
 use Rattle.routes.specs.declared.route.Route.{Route}
@@ -24,11 +24,11 @@ pub record IsLinkRoute (route : Route) : Type 0 where
   pub length : route.prefix.length ≡ 24
   pub hop : route.hop ≡ Direct
 
--- how a side's host is set up: that is its one route, and it uses the window scale option or doesn't
+-- how a side's host is set up: that is its one route, it uses the window scale option or doesn't, and its small segments wait for all that is outstanding
 pub record IsSetUp (scales : Bool) (side : Side) (config : ConfigView) : Type 0 where
   pub mac : config.mac ≡ mac_of side
   pub addr : config.addr ≡ address_of side
   pub route : Route
   pub link : IsLinkRoute route
   pub routes : config.routes ≡ route ∷ []
-  pub uses : config.scales ≡ scales
+  pub manner : config.manner ≡ record { scales = scales; minshall = false }

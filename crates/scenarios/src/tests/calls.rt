@@ -3,7 +3,7 @@
 use super::octets::{ABORT, ABORT_BEHIND_OCTETS};
 use super::stations::Side::{A, B};
 use super::stations::{
-    Act, CLIENT, FRESH, LISTENING, ONE, PAIR, SERVER, Scenario, Step, THREE, TWO,
+    Act, CLIENT, FRESH, LISTENING, ONE, PAIR, PASSING, SERVER, Scenario, Step, THREE, TWO,
 };
 use host::Refusal;
 use host::SocketState::Stream;
@@ -97,7 +97,27 @@ const LISTENER_ABORTED: &[Step] = &[
     (A, Act::Recv(ONE, Err(Refusal::ECONNRESET))),
 ];
 
+/// Octets of two segments are written and the side closes: the second goes at once too, and brings the FIN. From B, which a call opened, likewise.
+const LAST_AT_ONCE: &[Step] = &[
+    (B, Act::Accept(ONE, TWO, CLIENT)),
+    (A, Act::Send(ONE, &[7; 1_461], Ok(1_461))),
+    (A, Act::Close(ONE)),
+    (B, Act::Send(TWO, &[8; 1_461], Ok(1_461))),
+    (B, Act::Close(TWO)),
+    (A, Act::Emit(Some(1_514))),
+    (A, Act::Emit(Some(60))),
+    (A, Act::Emit(None)),
+    (B, Act::Emit(Some(1_514))),
+    (B, Act::Emit(Some(60))),
+    (B, Act::Emit(None)),
+];
+
 pub(super) const SCENARIOS: &[Scenario] = &[
+    Scenario {
+        name: "the last octets go with the FIN",
+        hosts: PASSING,
+        parts: &[LISTENING, CONNECTED, LAST_AT_ONCE],
+    },
     Scenario {
         name: "both sides close",
         hosts: FRESH,

@@ -127,6 +127,82 @@ const LOST: &[Step] = &[
     ),
 ];
 
+/// A full segment and an octet.
+const LONG: &[u8] = &[7; 1_461];
+
+/// Where small segments wait for small ones only, the second of two waits until the first is acknowledged.
+const SMALL_BEHIND_SMALL: &[Step] = &[
+    (A, Act::Send(b"a", Ok(1))),
+    (A, Act::Pass(0, Stays)),
+    (A, Act::Send(b"b", Ok(1))),
+    (A, Act::Due(None)),
+    (A, Act::Deadline(Some(Moment(500)))),
+    (B, Act::Tick(200, Stays)),
+    (B, Act::Pass(200, Stays)),
+    (A, Act::Due(Some(NEXT))),
+    (A, Act::Emit(200, Some(21))),
+];
+
+/// The second, once the first is acknowledged.
+const NEXT: Due = Due::Text(Stretch {
+    offset: 0,
+    count: 1,
+    fin: false,
+});
+
+/// One behind a full segment goes out at once, and the next waits for it.
+const SMALL_BEHIND_FULL: &[Step] = &[
+    (A, Act::Send(LONG, Ok(1_461))),
+    (A, Act::Emit(0, Some(1_480))),
+    (A, Act::Due(Some(REST))),
+    (A, Act::Emit(0, Some(21))),
+    (A, Act::Send(b"c", Ok(1))),
+    (A, Act::Due(None)),
+];
+
+/// The octet behind a full segment.
+const REST: Due = Due::Text(Stretch {
+    offset: 1_460,
+    count: 1,
+    fin: false,
+});
+
+/// The last octets of a closed side wait for nothing, and bring the FIN.
+const LAST_WITH_FIN: &[Step] = &[
+    (A, Act::Send(b"a", Ok(1))),
+    (A, Act::Emit(0, Some(21))),
+    (A, Act::Send(b"b", Ok(1))),
+    (A, Act::Due(None)),
+    (A, Act::Shutdown),
+    (A, Act::Due(Some(LAST))),
+    (A, Act::Emit(0, Some(21))),
+    (A, Act::Due(None)),
+    (A, Act::Arrive(0, Stays)),
+];
+
+/// The second octet, and the FIN.
+const LAST: Due = Due::Text(Stretch {
+    offset: 1,
+    count: 1,
+    fin: true,
+});
+
+/// Those of hosts whose small segments wait for small ones only.
+pub(super) const PASSING: &[Scenario] = &[
+    Scenario {
+        name: "a small segment behind a small one",
+        parts: &[HANDSHAKE, SMALL_BEHIND_SMALL],
+    },
+    Scenario {
+        name: "a small segment behind a full one",
+        parts: &[HANDSHAKE, SMALL_BEHIND_FULL],
+    },
+    Scenario {
+        name: "the last octets with the FIN",
+        parts: &[HANDSHAKE, LAST_WITH_FIN],
+    },
+];
+
 pub(super) const SCENARIOS: &[Scenario] = &[
     Scenario {
         name: "small segments don't wait",

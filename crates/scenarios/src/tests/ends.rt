@@ -8,7 +8,9 @@ use std::alloc::Global;
 use std::process::Abort;
 use tcp_segment::{Flags, Head, Seq, TcpView};
 use tcp_state::Fate::{self, Stays};
-use tcp_state::{Buffers, CAPACITY, Connection, Due, Info, MOST_SEGMENT, Received, Refusal, State};
+use tcp_state::{
+    Buffers, CAPACITY, Connection, Due, Info, MOST_SEGMENT, Manner, Received, Refusal, State,
+};
 
 pub(super) const CALLER: Endpoint = Endpoint {
     addr: Addr([10, 0, 0, 1]),
@@ -228,10 +230,14 @@ pub(super) const HANDSHAKE: &[Step] = &[
     (Side::A, Act::Pass(0, Stays)),
 ];
 
-/// Plays a scenario with two ends of its own.
-fn plays(rt: &impl Abort, alloc: Global, scenario: &Scenario) {
-    let ours = Buffers::new(alloc, CAPACITY, false).expect(rt, "memory for two buffers");
-    let theirs = Buffers::new(alloc, CAPACITY, false).expect(rt, "memory for two buffers");
+/// Plays a scenario with two ends of its own, of hosts whose small segments wait for small ones only, or for all that is outstanding.
+fn plays(rt: &impl Abort, alloc: Global, scenario: &Scenario, minshall: bool) {
+    let manner = Manner {
+        scales: false,
+        minshall,
+    };
+    let ours = Buffers::new(alloc, CAPACITY, manner).expect(rt, "memory for two buffers");
+    let theirs = Buffers::new(alloc, CAPACITY, manner).expect(rt, "memory for two buffers");
     let syn = TcpView::parse(CALLER.addr, LISTENER.addr, &SYN_SEGMENT).expect(rt, "a segment");
     let mut a = End::new(Connection::active(ours, CALLER, LISTENER, Seq(4_294_967_295), Moment(0)));
     let mut b = End::new(Connection::passive(theirs, LISTENER, CALLER, Seq(7), &syn, Moment(0)));
@@ -259,7 +265,10 @@ const SCENARIOS: [&[Scenario]; 5] = [
 fn ends_answer_as_they_should(rt: HostRuntime) {
     for scenarios in SCENARIOS {
         for scenario in scenarios {
-            plays(&rt, rt.alloc(), scenario);
+            plays(&rt, rt.alloc(), scenario, false);
         }
+    }
+    for scenario in delays::PASSING {
+        plays(&rt, rt.alloc(), scenario, true);
     }
 }

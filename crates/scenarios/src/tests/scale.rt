@@ -12,7 +12,7 @@ use std::alloc::Global;
 use std::process::Abort;
 use tcp_segment::Seq;
 use tcp_state::Fate::Stays;
-use tcp_state::{Buffers, Connection, LARGEST_CAPACITY};
+use tcp_state::{Buffers, Connection, LARGEST_CAPACITY, Manner};
 
 /// A asks for B's MAC, and a connection opens and carries octets.
 const STANDARD: &[Step] = &[
@@ -136,7 +136,14 @@ const WINDOWS: [(&[u8], &[u8], usize); 8] = [
 
 /// An end that offers the option calls, and is answered so.
 fn answered(rt: &impl Abort, alloc: Global, answer: &[u8]) -> End {
-    let buffers = Buffers::new(alloc, LARGEST_CAPACITY, true).expect(rt, "memory for two buffers");
+    let manner = Manner {
+        scales: true,
+        minshall: false,
+    };
+    let buffers = Buffers::new(alloc, LARGEST_CAPACITY, manner).expect(
+        rt,
+        "memory for two buffers",
+    );
     let connection = Connection::active(buffers, CALLER, LISTENER, Seq(u32::MAX), Moment(0));
     let mut end = End::new(connection);
     assert!(rt; end.emit(0) == Some(28));

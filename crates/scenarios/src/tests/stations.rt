@@ -140,23 +140,31 @@ pub(super) type Step = (Side, Act);
 /// Where a host's routes lead.
 type Ways = &'static [(Addr, u8, Hop)];
 
-/// How the hosts are set up: the ways of A and of B, and whether each uses the window scale option.
+/// How the hosts are set up: the ways of A and of B, whether each uses the window scale option, and whether small segments wait for small ones only.
 #[derive(Clone, Copy)]
 pub(super) struct Hosts {
     ways: (Ways, Ways),
     scales: (bool, bool),
+    minshall: bool,
 }
 
 /// To the link alone, 10.0.0.0/24.
 const LINK: Ways = &[(Addr([10, 0, 0, 0]), 24, Hop::Direct)];
 
-/// No other host is known beside those on the link, and neither uses the option.
+/// No other host is known beside those on the link, and neither uses an option.
 pub(super) const FRESH: Hosts = Hosts {
     ways: (LINK, LINK),
     scales: (false, false),
+    minshall: false,
 };
 
-/// Both use it.
+/// Small segments wait for small ones only.
+pub(super) const PASSING: Hosts = Hosts {
+    minshall: true,
+    ..FRESH
+};
+
+/// Both use window scale.
 pub(super) const SCALED: Hosts = Hosts {
     scales: (true, true),
     ..FRESH
@@ -494,9 +502,17 @@ pub(super) const LISTENING: &[Step] = &[
 
 /// Plays a scenario with two hosts of its own.
 fn plays(rt: &impl Abort, alloc: Global, scenario: &Scenario) {
-    let Hosts { ways, scales } = scenario.hosts;
-    let a = routed(rt, Side::A, ways.0).with_scale(scales.0);
-    let b = routed(rt, Side::B, ways.1).with_scale(scales.1);
+    let Hosts {
+        ways,
+        scales,
+        minshall,
+    } = scenario.hosts;
+    let a = routed(rt, Side::A, ways.0)
+        .with_scale(scales.0)
+        .with_minshall(minshall);
+    let b = routed(rt, Side::B, ways.1)
+        .with_scale(scales.1)
+        .with_minshall(minshall);
     let (mut a, mut b) = (Station::new(rt, alloc, a), Station::new(rt, alloc, b));
     for (part, steps) in scenario.parts.iter().enumerate() {
         for (step, (side, act)) in steps.iter().enumerate() {

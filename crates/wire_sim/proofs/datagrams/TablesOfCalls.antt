@@ -5,6 +5,7 @@ use Rattle.std.specs.Prelude.{option_and_then}
 use Rattle.std.specs.Option.{ok_or}
 use Rattle.ipv4.specs.declared.addr.Addr.{Addr}
 use Rattle.ipv4.specs.declared.addr.Endpoint.{Endpoint}
+use Rattle.tcp_halves.specs.declared.buffers.Manner.{Manner}
 use Rattle.ipv4.specs.Addresses.{same_addr}
 use Rattle.sockets.specs.declared.entry.Entry.{Entry}
 use Rattle.sockets.specs.declared.entry.Kind.{Kind}
@@ -31,8 +32,8 @@ use Rattle.wire_sim.proofs.datagrams.TablesKeepToAccepted.{IsEntryOf, AreEntries
 none-in_turn : AreInTurn []
 none-in_turn = record { numbered = λ n a e. cc; widths = λ k d within. absurd (omega (arith, within)) }
 
-pub kept-fresh : (addr : Addr) (scales : Bool) → IsTableOf [] [] (new_sockets addr scales)
-kept-fresh addr scales = record { numbered = refl; in_turn = none-in_turn; sockets = tt }
+pub kept-fresh : (addr : Addr) (manner : Manner) → IsTableOf [] [] (new_sockets addr manner)
+kept-fresh addr manner = record { numbered = refl; in_turn = none-in_turn; sockets = tt }
 
 -- one of the two hosts accepts more
 pub are-own : (own other more : List Accepted) (addr : Addr) (entries : List Entry) → AreEntriesOf own other addr entries → AreEntriesOf (own ++ more) other addr entries
@@ -53,7 +54,7 @@ pub kept-made : (own other : List Accepted) (kind : Kind) (h next : SocketsView)
 kept-made own other Tcp h next made t = subst (IsTableOf own other) (sym made) record {
   numbered = t.numbered;
   in_turn = t.in_turn;
-  sockets = All-added (λ (e : Entry). IsEntryOf own other h.addr e.role) h.entries (new_entry (record { 0 = h.last_id + 1 }) (room_of h.scales)) t.sockets tt;
+  sockets = All-added (λ (e : Entry). IsEntryOf own other h.addr e.role) h.entries (new_entry (record { 0 = h.last_id + 1 }) (room_of h.manner)) t.sockets tt;
 }
 kept-made own other Udp h next made t = subst (IsTableOf own other) (sym made) record {
   numbered = t.numbered;

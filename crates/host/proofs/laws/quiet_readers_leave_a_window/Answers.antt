@@ -5,4 +5,4 @@ use Rattle.host.proofs.Tables.{event-leaves, run-leaves}
 use Rattle.host.proofs.laws.quiet_readers_leave_a_window.Goals as goal
 
 pub returns : goal.returns
-returns c = record { fresh = λ (c : ConfigView). fresh_leaves c.addr c.scales; heard = segments_fit; event = event-leaves; over = run-leaves }
+returns c = record { fresh = λ (c : ConfigView). fresh_leaves c.addr c.manner; heard = segments_fit; event = event-leaves; over = run-leaves }

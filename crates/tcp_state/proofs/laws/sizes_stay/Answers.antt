@@ -7,7 +7,7 @@ use Rattle.tcp_state.proofs.laws.sizes_stay.Goals as goal
 pub returns : goal.returns
 returns c = record {
   opened = λ room local peer isn now. (refl, refl, refl);
-  accepted = λ room local peer isn syn now. let once = settled_once room.scales (is_some (scale_option_of syn)) room.capacity in (once, once, refl);
+  accepted = λ room local peer isn syn now. let once = settled_once room.manner.scales (is_some (scale_option_of syn)) room.capacity in (once, once, refl);
   settled = sizes_are;
   largest = largest_where_scaled;
   stays = sizes_stay;

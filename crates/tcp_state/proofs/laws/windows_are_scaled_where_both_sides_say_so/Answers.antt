@@ -7,7 +7,7 @@ use Rattle.tcp_state.proofs.laws.windows_are_scaled_where_both_sides_say_so.Goal
 pub returns : goal.returns
 returns c = record {
   offered = λ room local peer isn now. refl;
-  accepted = λ room local peer isn syn now. where_both room.scales (scale_option_of syn);
+  accepted = λ room local peer isn syn now. where_both room.manner.scales (scale_option_of syn);
   answered = heard_by_both;
   stays = scale_stays;
   waits = λ v e sent. scale_waits v e;

@@ -11,5 +11,5 @@ returns c =
       route = c.link.ensures.0;
       link = c.link.ensures.2;
       routes = ap (λ (x : ConfigView). x.routes) value ∙ c.link.ensures.1;
-      uses = ap (λ (x : ConfigView). x.scales) value;
+      manner = ap (λ (x : ConfigView). x.manner) value;
     }

@@ -8,7 +8,7 @@ use Rattle.sockets.specs.Entries.{is_socket, role_after_leaving, leaving_fate_of
 use Rattle.sockets.specs.SocketsView.{SocketsView}
 use Rattle.sockets.proofs.Arrived.{entry_settled}
 use Rattle.sockets.proofs.Closed.{left-found, close-allowed}
-use Rattle.sockets.proofs.Written.{found_lent, role_changed}
+use Rattle.sockets.proofs.Written.{found_lent, place_written, role_changed}
 use Rattle.sockets.proofs.Firsts.{found_by_place}
 use Rattle.sockets.proofs.Ascending.{ascends_written, ascends_settled}
 use Rattle.sockets.proofs.Filed.{index_written}
@@ -42,3 +42,7 @@ settle-requires-clause-order c = (c.self.inside.last_id, ascends_written _ _ _ _
 
 pub settle-requires-clause-index : goal.settle-requires-clause-index
 settle-requires-clause-index c = index_written _ _ _ _ _ c.index-deref_mut-place.result c.self.invariant.2 c.deref_mut.ensures.value (filed_role (role_after_leaving c.args.how c.self.inside.kept) _ _ (filed-leaving _ _ _) c.leave-fate.ensures.after)
+
+-- its place is one of the table still
+pub settle-requires-clause-place : goal.settle-requires-clause-place
+settle-requires-clause-place c = place_written _ c.args.self.now (is_socket c.args.id) _ _ _ c.self.view_is c.in_ok-place.ensures.place c.deref_mut.ensures.value

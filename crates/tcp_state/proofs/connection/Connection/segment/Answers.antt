@@ -1,15 +1,24 @@
-use Rattle.std.proofs.Common.{rules, ◌≡◌, false, sym, ◌∙◌, ap}
+use Rattle.std.proofs.Common.{rules, ◌≡◌, false, refl, sym, ◌∙◌, ap, subst}
+use denote.Enum.Bare.{sameb}
+use Rattle.tcp_state.specs.contracts.state.State.{the_type}
+use Rattle.tcp_state.specs.declared.state.State.{State}
+use Rattle.tcp_state.specs.declared.state.State.TheVariants.{Closed}
 use Rattle.tcp_state.specs.declared.connection.Fate.TheVariants.{Rejected}
-use Rattle.tcp_state.specs.View.{is_closed}
+use Rattle.tcp_state.specs.View.{View, is_closed}
 use Rattle.tcp_state.specs.Arrival.{before, timed_by, fate}
 use Rattle.tcp_state.proofs.Rejecting.{heard_at}
 use Rattle.tcp_state.proofs.Unchanged.{rejected_leaves, rejected_leaves_at}
 use Rattle.tcp_state.proofs.connection.Connection.segment.Goals as goal
 
+-- no other state is CLOSED
+going : (t : State) → sameb the_type t Closed ≡ false → is_closed t ≡ false
+going Closed e = cc
+going _ e = refl
+
 -- a segment that is not rejected is heard, and the clock notes it
 pub returns-then-ne-clause-after : goal.returns-then-ne-clause-after
 returns-then-ne-clause-after c =
-    let lives : is_closed c.args.self.now.state ≡ false = search rules in
+    let lives : is_closed c.args.self.now.state ≡ false = subst (λ (v : View). is_closed v.state ≡ false) c.self.view_is (going c.self.inside.state (sym c.eq.ensures ∙ c.if-eq.false)) in
     let heard : fate c.args.self.now c.args.segment.now ≡ Rejected → ⊥ = search rules in
     c.note_heard.ensures
     ∙ ap (λ b. timed_by b c.hear-fate.new.self c.args.now) c.before-before.ensures
