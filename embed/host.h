@@ -165,7 +165,8 @@ struct host_config {
     uint32_t addr;
     uint8_t mac[6];
     uint8_t no_window_scale;         /* 1: no window scale option (RFC 7323 section 2); a connection holds 65,535 octets each way, else 1,048,576 */
-    uint8_t zero[5];                 /* 0 */
+    uint8_t minshall;                /* 1: a small segment waits for a small one only, and the FIN goes with the last octets (RFC 9293 appendix A.3) */
+    uint8_t zero[4];                 /* 0 */
 };
 
 /* A connection as it stands. `size` is sizeof (struct host_info); all others are the library's to write. Lengths are octets; of a timer or a
@@ -231,7 +232,9 @@ typedef char host_info_has_its_form[sizeof(struct host_info) == 23 * 8 && offset
 
 /* So the library finds it. */
 typedef char host_config_has_its_form[sizeof(struct host_config) == 40 && offsetof(struct host_config, addr) == 24 &&
-                                              offsetof(struct host_config, no_window_scale) == 34 ? 1 : -1];
+                                              offsetof(struct host_config, no_window_scale) == 34 && offsetof(struct host_config, minshall) == 35
+                                          ? 1
+                                          : -1];
 
 /* ---- A host ---------------------------------------------------------------------------------------------------------------------------- */
 
@@ -249,8 +252,8 @@ int64_t host_new_from(struct host *host, const uint8_t *config, size_t size, con
 
 /* Makes a host as host_new does, by a config. host_new makes one whose options are 0.
  *
- * HOST_EINVAL, also where the config's size is less than 40, its no_window_scale is neither 0 nor 1, or an octet behind that one, up to its size,
- * isn't 0. HOST_ENOMEM. */
+ * HOST_EINVAL, also where the config's size is less than 40, its no_window_scale or its minshall is neither 0 nor 1, or an octet behind these, up to
+ * its size, isn't 0. HOST_ENOMEM. */
 static inline int64_t host_new_with(struct host *host, const struct host_config *config)
 {
     const struct host_route none = {0, 0, 0};

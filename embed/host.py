@@ -158,7 +158,8 @@ class _Config(ctypes.Structure):
         ("addr", ctypes.c_uint32),
         ("mac", ctypes.c_uint8 * 6),
         ("no_window_scale", ctypes.c_uint8),
-        ("zero", ctypes.c_uint8 * 5),
+        ("minshall", ctypes.c_uint8),
+        ("zero", ctypes.c_uint8 * 4),
     ]
 
 
@@ -273,11 +274,14 @@ class Host:
     """A host at `addr` (`"10.0.0.1"`), whose interface has the MAC `mac` (`"02:00:00:00:00:01"`, or six octets).
 
     `routes` has for each prefix (`"10.0.0.0/24"`) the gateway, or None where the prefix is on the link. With `scale` the host uses the window
-    scale option, and a connection with a peer that does too holds 1,048,576 octets each way, else 65,535. A host is freed by `free`, at the end
-    of a `with`, or when nothing names it any more.
+    scale option, and a connection with a peer that does too holds 1,048,576 octets each way, else 65,535. With `minshall` a small segment waits
+    for a small one only, and the FIN goes with the last octets (RFC 9293 appendix A.3). A host is freed by `free`, at the end of a `with`, or when
+    nothing names it any more.
     """
 
-    def __init__(self, mac: Union[str, bytes], addr: Address, routes: Mapping[str, Optional[Address]], scale: bool = True) -> None:
+    def __init__(
+        self, mac: Union[str, bytes], addr: Address, routes: Mapping[str, Optional[Address]], scale: bool = True, minshall: bool = False
+    ) -> None:
         self._handle = _Handle()
         # What is read stands here first: it is made once, and once more for a call that asks for more octets than any before.
         self._buffer = ctypes.create_string_buffer(FRAME_SIZE)
@@ -290,7 +294,7 @@ class Host:
             network = ipaddress.IPv4Network(prefix)
             row.prefix, row.length = int(network.network_address), network.prefixlen
             row.gateway = 0 if gateway is None else _addr(gateway)
-        config = _Config(ctypes.sizeof(_Config), None, len(routes), _addr(addr), tuple(mac), not scale)
+        config = _Config(ctypes.sizeof(_Config), None, len(routes), _addr(addr), tuple(mac), not scale, minshall)
         self._call("host_new_from", bytes(config), config.size, rows, len(routes))
 
     def _call(self, name: str, *arguments: Any) -> int:

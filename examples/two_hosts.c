@@ -226,9 +226,12 @@ static void configs(struct host_config config)
     config.no_window_scale = 2;
     CHECK(host_new_with(&b, &config) == HOST_EINVAL);
     config.no_window_scale = 0;
-    config.zero[4] = 1;
+    config.minshall = 2;
     CHECK(host_new_with(&b, &config) == HOST_EINVAL);
-    config.zero[4] = 0;
+    config.minshall = 0;
+    config.zero[3] = 1;
+    CHECK(host_new_with(&b, &config) == HOST_EINVAL);
+    config.zero[3] = 0;
     config.size = sizeof config - 1;
     CHECK(host_new_with(&b, &config) == HOST_EINVAL);
     CHECK(host_new_from(&b, (const uint8_t *)&config, sizeof config, config.routes, config.count) == HOST_EINVAL);

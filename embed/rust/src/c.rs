@@ -30,7 +30,8 @@ pub struct Config {
     pub addr: u32,
     pub mac: [u8; 6],
     pub no_window_scale: u8,
-    pub zero: [u8; 5],
+    pub minshall: u8,
+    pub zero: [u8; 4],
 }
 
 extern "C" {

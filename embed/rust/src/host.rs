@@ -83,18 +83,25 @@ pub struct Config<'a> {
     addr: Ipv4Addr,
     routes: &'a [Route],
     scales: bool,
+    minshall: bool,
 }
 
 impl<'a> Config<'a> {
     /// A host at `addr`, whose interface has this MAC, with these routes. It uses the window scale option (RFC 7323 section 2).
     pub fn new(mac: [u8; 6], addr: Ipv4Addr, routes: &'a [Route]) -> Config<'a> {
-        let scales = true;
-        Config { mac, addr, routes, scales }
+        let (scales, minshall) = (true, false);
+        Config { mac, addr, routes, scales, minshall }
     }
 
     /// With the window scale option a connection holds 1,048,576 octets each way, and else 65,535.
     pub fn with_scale(self, scales: bool) -> Config<'a> {
         Config { scales, ..self }
+    }
+
+    /// Where this is on, a small segment waits for a small one only, and the FIN goes with the last octets (Minshall, RFC 9293 appendix A.3); else small
+    /// segments wait for all that is outstanding, and the FIN goes alone.
+    pub fn with_minshall(self, minshall: bool) -> Config<'a> {
+        Config { minshall, ..self }
     }
 }
 
@@ -126,7 +133,8 @@ impl Host {
             addr: config.addr.into(),
             mac: config.mac,
             no_window_scale: u8::from(!config.scales),
-            zero: [0; 5],
+            minshall: u8::from(config.minshall),
+            zero: [0; 4],
         };
         let mut host = Host(c::Host { at: null_mut() });
         Error::check(unsafe { c::host_new_from(&mut host.0, &given, given.size, given.routes, given.count) })?;
