@@ -5,4 +5,5 @@ pub mod Replies
 pub mod Queue
 pub mod Emission
 pub mod Timing
+pub mod GivenUp
 pub mod Sound

@@ -3,6 +3,7 @@
 #![tactic(auto)]
 
 mod emission;
+mod given_up;
 mod hop;
 mod interface;
 pub mod laws;

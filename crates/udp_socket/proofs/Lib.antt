@@ -11,3 +11,4 @@ pub mod Places
 pub mod FirstThat
 pub mod Sending
 pub mod InTime
+pub mod Counted

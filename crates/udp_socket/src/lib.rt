@@ -2,6 +2,7 @@
 //! fragment by fragment (RFC 791 section 3.2). It knows nothing of other sockets, of routes or of the link.
 #![tactic(auto)]
 
+mod given_up;
 pub mod laws;
 mod part;
 mod socket;

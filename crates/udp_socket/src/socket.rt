@@ -26,7 +26,7 @@ pub const MOST_OCTETS: usize = 65_507;
 pub struct UdpSocket {
     inbox: Queue,
     datagrams: Queue,
-    tags: HeapCircularBuffer<Tag>,
+    pub(crate) tags: HeapCircularBuffer<Tag>,
     parts: u16,
 }
 
