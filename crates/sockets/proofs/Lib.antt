@@ -70,3 +70,5 @@ pub mod Strays
 pub mod Calling
 pub mod NoMemory
 pub mod Needed
+pub mod Outboxes
+pub mod Counted

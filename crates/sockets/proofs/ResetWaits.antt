@@ -20,7 +20,7 @@ comes_after : (since now : Moment) → now.0 < 2 ^ 64 - 1 → has_come (Some (af
 comes_after since now before_last = grind (arith, nat_tests)
 
 -- what stays waits as before
-still_waits : (lost : Addr → Bool) (now : Moment) (role : Role) → reset_wait (role_after_giving_up lost now role) ≡ reset_wait role
+pub still_waits : (lost : Addr → Bool) (now : Moment) (role : Role) → reset_wait (role_after_giving_up lost now role) ≡ reset_wait role
 still_waits lost now (Connected c l) =
     by_test (is_hopless lost c)
     (λ hopless. rw hopless (by_test (has_come (unheard_until c) now) (λ over. rw over refl) (λ waits. rw waits refl)))
@@ -29,7 +29,7 @@ still_waits lost now (Datagrams bound socket) = refl
 still_waits lost now _ = refl
 
 -- what owes a reset is taken out with it alone
-kept_with : (lost : Addr → Bool) (now : Moment) (role : Role) (wait : Endpoint × Moment) → reset_wait role ≡ Some wait → is_given_up lost now role ≡ false → is_kept (give_up_fate_of lost now role) ≡ true
+pub kept_with : (lost : Addr → Bool) (now : Moment) (role : Role) (wait : Endpoint × Moment) → reset_wait role ≡ Some wait → is_given_up lost now role ≡ false → is_kept (give_up_fate_of lost now role) ≡ true
 kept_with lost now (Connected c l) wait is waits =
     by_test c.owes_reset
     (λ owes. let none : loses_hop lost (Connected c l) ≡ false = rw owes refl in rw (waits, none) refl)

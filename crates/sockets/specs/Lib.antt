@@ -6,6 +6,7 @@ pub mod Index
 pub mod SocketsView
 pub mod Ticks
 pub mod Lost
+pub mod GivenUp
 pub mod Ports
 pub mod Calls
 pub mod Datagrams

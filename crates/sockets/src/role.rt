@@ -344,7 +344,7 @@ impl Role {
     }
 
     /// Whether its reset is given up: it has waited for `HOP_WAIT`, and its peer's address is lost.
-    fn is_given_up<F: Fn(Addr) -> bool>(&self, now: Moment, lost: &F) -> bool
+    pub(crate) fn is_given_up<F: Fn(Addr) -> bool>(&self, now: Moment, lost: &F) -> bool
         requires { F.IsAlwaysCallable lost.now }
         ensures { (test : Addr → Bool) → ((addr : Addr) (answer : Bool) → F.post lost.now addr answer → answer ≡ test addr) → result ≡ is_given_up test now self.now }
     {

@@ -17,6 +17,9 @@ impl UdpSocket {
         ensures count { (test : Addr → Bool) → ((addr : Addr) (answer : Bool) → F.post lost.now addr answer → answer ≡ test addr) → result ≡ count_by (is_given_up test now) self.now.outbox }
         ensures most { (test : Addr → Bool) → ((addr : Addr) (answer : Bool) → F.post lost.now addr answer → answer ≡ test addr) → result ≤ 64 }
     {
+        if self.tags.is_empty() {
+            return 0;
+        }
         self.tags
             .iter()
             .filter(|tag| tag.is_given_up(now, lost))
