@@ -31,3 +31,4 @@ pub mod Unopened
 pub mod Filled
 pub mod Within
 pub mod Moving
+pub mod Counted

@@ -6,6 +6,7 @@ pub mod Concerned
 pub mod Lack
 pub mod Emission
 pub mod Ticks
+pub mod GivenUp
 pub mod Sound
 pub mod Places
 pub mod Carried

@@ -29,7 +29,7 @@ ghost use Rattle.frames.specs.Pairs.{pair_in, pair_between};
 ghost use Rattle.interface.specs.declared.reply.Reply.TheVariants.{Echo, Error};
 ghost use Rattle.interface.specs.declared.reply.Waiting.{Waiting};
 ghost use Rattle.interface.specs.Ways.{is_routed};
-ghost use Rattle.interface.specs.Timing.{least_deadline as reply_deadline};
+ghost use Rattle.interface.specs.Timing.{after_tick as interface_after_tick, least_deadline as reply_deadline};
 ghost use Rattle.reassembly.specs.Places.{next_deadline as pool_deadline};
 ghost use Rattle.tcp_segment.specs.declared.TheConstants.{MSS};
 ghost use Rattle.tcp_state.specs.declared.calls.Refusal.{Refusal as SocketError};
@@ -46,6 +46,8 @@ ghost use Rattle.sockets.specs.declared.role.Role.TheVariants.{Connected, Datagr
 ghost use Rattle.sockets.specs.Causes.{Follows, pending_error_in, TellsStill};
 ghost use Rattle.sockets.specs.Closing.{entry_of};
 ghost use Rattle.sockets.specs.Entries.{due_to, is_datagrams_at, sends};
+ghost use Rattle.sockets.specs.GivenUp.{waiting_datagrams};
+ghost use Rattle.sockets.specs.Lost.{waiting_resets};
 ghost use Rattle.sockets.specs.Offered.{IsReached};
 ghost use Rattle.sockets.specs.Order.{IsOrdered};
 ghost use Rattle.sockets.specs.Sound.{NoneIsOver};
@@ -62,6 +64,7 @@ ghost use Rattle.host.specs.Carried.{Carried, carried};
 ghost use Rattle.host.specs.Causes.{IsAbout};
 ghost use Rattle.host.specs.ComesUp.{IsDueSoon, IsQuiet, ComesUp, ConnectionComesUp, HasEnded, WaitsSince, address_of, is_on_route, most_wait};
 ghost use Rattle.host.specs.Emission.{Replies, Sends, Nothing, emission, emission_to, emission_len, after_emission, emission_octets, goes_out_from};
+ghost use Rattle.host.specs.GivenUp.{gives_up};
 ghost use Rattle.host.specs.declared.lack.Lack.{Lack};
 ghost use Rattle.host.specs.declared.lack.Lack.TheVariants.{Memory};
 ghost use Rattle.host.specs.Lack.{lack};
@@ -195,6 +198,17 @@ pub fn what_is_due_comes_up()
 pub fn ticks_wait()
     ensures { (h : HostView) (now : Moment) → let moment = later_moment h.sockets now in has_come (least_deadline h) moment ≡ false → after_age moment h.interface.cache ≡ h.interface.cache
         → after_tick h now ≡ with_sockets h (record h.sockets { kept = moment }) }
+{}
+
+/// What a tick gives up, as `Host::gives_up` tells before it, is gone, and all else waits on: of the control replies, where errors about datagrams whose time ran out join them only then; of the resets of aborts;
+/// and of the datagrams. The timers, which act first, make and take nothing of it. Every host is sound, and each of its connections keeps its time, as `Host::sound` says.
+pub fn what_is_given_up_is_told()
+    ensures replies { (h : HostView) (now : Moment) → let left = interface_after_tick h.interface (later_moment h.sockets now) in let given = gives_up h now in
+        length h.interface.replies ≡ length left.replies + given.replies }
+    ensures resets { (h : HostView) (now : Moment) → IsSoundHost h → EachKeepsTime h.sockets → let left = after_tick h now in let given = gives_up h now in
+        length (waiting_resets h.sockets) ≡ length (waiting_resets left.sockets) + given.resets }
+    ensures datagrams { (h : HostView) (now : Moment) → let left = after_tick h now in let given = gives_up h now in
+        length (waiting_datagrams h.sockets) ≡ length (waiting_datagrams left.sockets) + given.datagrams }
 {}
 
 /// What is answered by an error may be (RFC 1122 section 3.2.2). A datagram that nothing takes, a whole UDP datagram and a fragment zero carry no

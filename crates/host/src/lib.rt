@@ -9,6 +9,7 @@ mod datagrams;
 pub mod dry;
 pub mod duties;
 mod emission;
+mod given_up;
 mod host;
 mod info;
 mod lack;
@@ -19,6 +20,7 @@ mod ticks;
 
 pub use config::Config;
 pub use frames::DropCause;
+pub use given_up::GivenUp;
 pub use host::Host;
 pub use lack::Lack;
 pub use sockets::{Info, Kind, Ready, Refusal, SocketId, SocketState};
