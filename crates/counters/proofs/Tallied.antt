@@ -9,8 +9,8 @@ use Rattle.host.specs.declared.lack.Lack.TheVariants.{Backlog, Table, Memory, Re
 use Rattle.counters.specs.declared.counters.Counters.{Counters}
 use Rattle.counters.specs.declared.drops.Drops.{Drops}
 use Rattle.counters.specs.declared.lacks.Lacks.{Lacks}
-use Rattle.counters.specs.Counting.{Event, Came, Went, held, raised, after_drop, after_lack, lack_for, after_event, new_counters}
-use Rattle.counters.specs.Tally.{IsTallyOf, is_coming, octets_coming, is_going, octets_going, is_dropped_for, is_dropped_at, is_this, place_of}
+use Rattle.counters.specs.Counting.{Event, Came, Went, Ticked, held, raised, after_drop, after_lack, lack_for, after_event, new_counters}
+use Rattle.counters.specs.Tally.{IsTallyOf, is_coming, octets_coming, is_going, octets_going, is_dropped_for, is_dropped_at, is_this, place_of, given_up_at}
 
 -- The numbers alone.
 
@@ -49,21 +49,25 @@ frame_in : (c : Counters) (e : Event) → c.frames_in < 2 ^ 64 → (let after = 
 frame_in c (Came len (Ok done) found) within = refl
 frame_in c (Came len (Err cause) found) within = refl
 frame_in c (Went len) within = still c.frames_in within
+frame_in c (Ticked more) within = still c.frames_in within
 
 octets_in : (c : Counters) (e : Event) → c.octets_in < 2 ^ 64 → (let after = after_event c e in after.octets_in) ≡ held (c.octets_in + octets_coming e)
 octets_in c (Came len (Ok done) found) within = refl
 octets_in c (Came len (Err cause) found) within = refl
 octets_in c (Went len) within = still c.octets_in within
+octets_in c (Ticked more) within = still c.octets_in within
 
 frame_out : (c : Counters) (e : Event) → c.frames_out < 2 ^ 64 → (let after = after_event c e in after.frames_out) ≡ held (c.frames_out + cond (is_going e) 1 0)
 frame_out c (Came len (Ok done) found) within = still c.frames_out within
 frame_out c (Came len (Err cause) found) within = still c.frames_out within
 frame_out c (Went len) within = refl
+frame_out c (Ticked more) within = still c.frames_out within
 
 octets_out : (c : Counters) (e : Event) → c.octets_out < 2 ^ 64 → (let after = after_event c e in after.octets_out) ≡ held (c.octets_out + octets_going e)
 octets_out c (Came len (Ok done) found) within = still c.octets_out within
 octets_out c (Came len (Err cause) found) within = still c.octets_out within
 octets_out c (Went len) within = refl
+octets_out c (Ticked more) within = still c.octets_out within
 
 -- The counts of drops, by the cause.
 
@@ -109,6 +113,7 @@ drop_step : (cause : DropCause) → IsCounted cause → (c : Counters) (e : Even
 drop_step cause own c (Came len (Ok done) found) within = still (dropped cause c.drops) within
 drop_step cause own c (Came len (Err other) found) within = own_drop cause other c.drops own ∙ once_or_not (number_of other == number_of cause) (dropped cause c.drops) within
 drop_step cause own c (Went len) within = still (dropped cause c.drops) within
+drop_step cause own c (Ticked more) within = still (dropped cause c.drops) within
 
 -- The counts of want of room, by what there was none of.
 
@@ -145,6 +150,27 @@ lack_step : (what : Lack) (c : Counters) (e : Event) → lacked what c.lacks < 2
 lack_step what c (Came len (Ok done) found) within = still (lacked what c.lacks) within
 lack_step what c (Came len (Err cause) found) within = any_lack what (lack_for cause found) c.lacks within
 lack_step what c (Went len) within = still (lacked what c.lacks) within
+lack_step what c (Ticked more) within = still (lacked what c.lacks) within
+
+-- What was given up.
+
+replies_step : (c : Counters) (e : Event) → c.given_up.replies < 2 ^ 64 → (let after = after_event c e in after.given_up.replies) ≡ held (c.given_up.replies + (given_up_at e).replies)
+replies_step c (Ticked more) within = refl
+replies_step c (Came len (Ok done) found) within = still c.given_up.replies within
+replies_step c (Came len (Err cause) found) within = still c.given_up.replies within
+replies_step c (Went len) within = still c.given_up.replies within
+
+resets_step : (c : Counters) (e : Event) → c.given_up.resets < 2 ^ 64 → (let after = after_event c e in after.given_up.resets) ≡ held (c.given_up.resets + (given_up_at e).resets)
+resets_step c (Ticked more) within = refl
+resets_step c (Came len (Ok done) found) within = still c.given_up.resets within
+resets_step c (Came len (Err cause) found) within = still c.given_up.resets within
+resets_step c (Went len) within = still c.given_up.resets within
+
+datagrams_step : (c : Counters) (e : Event) → c.given_up.datagrams < 2 ^ 64 → (let after = after_event c e in after.given_up.datagrams) ≡ held (c.given_up.datagrams + (given_up_at e).datagrams)
+datagrams_step c (Ticked more) within = refl
+datagrams_step c (Came len (Ok done) found) within = still c.given_up.datagrams within
+datagrams_step c (Came len (Err cause) found) within = still c.given_up.datagrams within
+datagrams_step c (Went len) within = still c.given_up.datagrams within
 
 -- All of them.
 
@@ -178,4 +204,7 @@ tallied events = record {
   queue = lacks_tallied Queue refl events;
   reassembly = lacks_tallied Reassembly refl events;
   route = lacks_tallied Route refl events;
+  replies_given_up = from_new (λ c. c.given_up.replies) (λ e. (given_up_at e).replies) replies_step refl events;
+  resets_given_up = from_new (λ c. c.given_up.resets) (λ e. (given_up_at e).resets) resets_step refl events;
+  datagrams_given_up = from_new (λ c. c.given_up.datagrams) (λ e. (given_up_at e).datagrams) datagrams_step refl events;
 }

@@ -1,17 +1,20 @@
--- What the counters of a host make of what comes and goes out.
+-- What the counters of a host make of what comes and goes out, and of its ticks.
 use Rattle.std.specs.Prelude.{ℕ, ◌+◌, ◌-◌, ◌^◌, min, Option, Some, None, Result, Ok, Err}
 use Rattle.frames.specs.declared.drop.DropCause.{DropCause}
 use Rattle.frames.specs.declared.drop.DropCause.TheVariants.{Short, OtherMac, OtherType, IpHeader, IpSum, OtherAddress, UpperHeader, UpperSum, NoRoom, Fragment}
+use Rattle.host.specs.declared.given_up.GivenUp.{GivenUp}
 use Rattle.host.specs.declared.lack.Lack.{Lack}
 use Rattle.host.specs.declared.lack.Lack.TheVariants.{Backlog, Table, Memory, Replies, Queue, Reassembly, Route}
 use Rattle.counters.specs.declared.counters.Counters.{Counters}
 use Rattle.counters.specs.declared.drops.Drops.{Drops}
 use Rattle.counters.specs.declared.lacks.Lacks.{Lacks}
 
--- A frame of so many octets came, with this answer of the host, and this at which it finds no room; or one of so many octets went out.
+-- A frame of so many octets came, with this answer of the host, and this at which it finds no room; or one of so many octets went out; or a tick gave
+-- up so much.
 pub data Event : Type 0 where
   Came : ℕ → Result (Unit {0}) DropCause → Option Lack → Event
   Went : ℕ → Event
+  Ticked : GivenUp → Event
 
 -- 64 bits hold a count, and at its last value it stays
 abbrev pub held : ℕ → ℕ
@@ -27,9 +30,12 @@ no_drops = record { short = 0; other_mac = 0; other_type = 0; ip_header = 0; ip_
 abbrev pub no_lacks : Lacks
 no_lacks = record { backlog = 0; table = 0; memory = 0; replies = 0; queue = 0; reassembly = 0; route = 0 }
 
+abbrev pub nothing_given_up : GivenUp
+nothing_given_up = record { replies = 0; resets = 0; datagrams = 0 }
+
 -- nothing came yet, and nothing went out
 abbrev pub new_counters : Counters
-new_counters = record { frames_in = 0; octets_in = 0; frames_out = 0; octets_out = 0; drops = no_drops; lacks = no_lacks }
+new_counters = record { frames_in = 0; octets_in = 0; frames_out = 0; octets_out = 0; drops = no_drops; lacks = no_lacks; given_up = nothing_given_up }
 
 -- each cause has its own count, but the want of room
 abbrev pub after_drop : DropCause → Drops → Drops
@@ -76,10 +82,15 @@ abbrev pub after_answer : Result (Unit {0}) DropCause → Option Lack → Counte
 after_answer (Ok done) found c = c
 after_answer (Err cause) found c = after_refusal cause found c
 
+-- so much more was given up
+abbrev pub after_giving_up : GivenUp → GivenUp → GivenUp
+after_giving_up more g = record { replies = raised g.replies more.replies; resets = raised g.resets more.resets; datagrams = raised g.datagrams more.datagrams }
+
 -- each frame is counted with its octets, also one that is dropped
 abbrev pub after_event : Counters → Event → Counters
 after_event c (Came len answer found) = after_answer answer found (record c { frames_in = raised c.frames_in 1; octets_in = raised c.octets_in len })
 after_event c (Went len) = record c { frames_out = raised c.frames_out 1; octets_out = raised c.octets_out len }
+after_event c (Ticked more) = record c { given_up = after_giving_up more c.given_up }
 
 -- a frame of this length went out, or none did
 abbrev pub after_going : Counters → Option ℕ → Counters

@@ -1,36 +1,42 @@
--- What each counter is to count, of all that came and went out.
+-- What each counter is to count, of all that came and went out, and of all that ticks gave up.
 use Rattle.std.specs.Prelude.{◌≡◌, ℕ, ◌==◌, Bool, true, false, List, sum_by, count_by, Option, Some, None, Ok, Err}
 use Rattle.frames.specs.declared.drop.DropCause.{DropCause}
 use Rattle.frames.specs.declared.drop.DropCause.TheVariants.{Short, OtherMac, OtherType, IpHeader, IpSum, OtherAddress, UpperHeader, UpperSum, Fragment}
 use Rattle.frames.specs.Drops.{number_of}
+use Rattle.host.specs.declared.given_up.GivenUp.{GivenUp}
 use Rattle.host.specs.declared.lack.Lack.{Lack}
 use Rattle.host.specs.declared.lack.Lack.TheVariants.{Backlog, Table, Memory, Replies, Queue, Reassembly, Route}
 use Rattle.counters.specs.declared.counters.Counters.{Counters}
-use Rattle.counters.specs.Counting.{Event, Came, Went, held, lack_for}
+use Rattle.counters.specs.Counting.{Event, Came, Went, Ticked, held, lack_for, nothing_given_up}
 
 -- a frame came, of so many octets ..
 abbrev pub is_coming : Event → Bool
 is_coming (Came len answer found) = true
 is_coming (Went len) = false
+is_coming (Ticked more) = false
 
 abbrev pub octets_coming : Event → ℕ
 octets_coming (Came len answer found) = len
 octets_coming (Went len) = 0
+octets_coming (Ticked more) = 0
 
 -- .. or went out
 abbrev pub is_going : Event → Bool
 is_going (Came len answer found) = false
 is_going (Went len) = true
+is_going (Ticked more) = false
 
 abbrev pub octets_going : Event → ℕ
 octets_going (Came len answer found) = 0
 octets_going (Went len) = len
+octets_going (Ticked more) = 0
 
 -- a frame came that was dropped for this cause
 abbrev pub is_dropped_for : DropCause → Event → Bool
 is_dropped_for cause (Came len (Ok done) found) = false
 is_dropped_for cause (Came len (Err other) found) = number_of other == number_of cause
 is_dropped_for cause (Went len) = false
+is_dropped_for cause (Ticked more) = false
 
 -- what there may be no room at, in the order of its counts
 abbrev pub place_of : Lack → ℕ
@@ -51,6 +57,13 @@ abbrev pub is_dropped_at : Lack → Event → Bool
 is_dropped_at what (Came len (Ok done) found) = false
 is_dropped_at what (Came len (Err cause) found) = is_this what (lack_for cause found)
 is_dropped_at what (Went len) = false
+is_dropped_at what (Ticked more) = false
+
+-- what a tick gave up; nothing where it was none
+abbrev pub given_up_at : Event → GivenUp
+given_up_at (Ticked more) = more
+given_up_at (Came len answer found) = nothing_given_up
+given_up_at (Went len) = nothing_given_up
 
 -- each count is that of its events, as far as 64 bits hold it
 pub record IsTallyOf (events : List Event) (c : Counters) : Type 0 where
@@ -74,3 +87,6 @@ pub record IsTallyOf (events : List Event) (c : Counters) : Type 0 where
   pub queue : c.lacks.queue ≡ held (count_by (is_dropped_at Queue) events)
   pub reassembly : c.lacks.reassembly ≡ held (count_by (is_dropped_at Reassembly) events)
   pub route : c.lacks.route ≡ held (count_by (is_dropped_at Route) events)
+  pub replies_given_up : c.given_up.replies ≡ held (sum_by (λ e. (given_up_at e).replies) events)
+  pub resets_given_up : c.given_up.resets ≡ held (sum_by (λ e. (given_up_at e).resets) events)
+  pub datagrams_given_up : c.given_up.datagrams ≡ held (sum_by (λ e. (given_up_at e).datagrams) events)

@@ -1,16 +1,19 @@
-//! The counters, and the two calls that count.
+//! The counters, and the three calls that count.
 
 ghost use Rattle.std.specs.Prelude.{◌≡◌, ◌≤◌, length, IfSome};
 ghost use Rattle.host.specs.Arrival.{IsDelivered};
 ghost use Rattle.host.specs.Emission.{emission_len, after_emission, emission_front};
+ghost use Rattle.host.specs.GivenUp.{gives_up};
 ghost use Rattle.host.specs.Lack.{lack};
-ghost use Rattle.counters.specs.Counting.{Came, after_event, after_going, after_refusal, new_counters, raised};
+ghost use Rattle.host.specs.Ticks.{after_tick};
+ghost use Rattle.counters.specs.Counting.{Came, Ticked, after_event, after_going, after_refusal, new_counters, raised};
 
 use crate::drops::Drops;
+use crate::given_up;
 use crate::lacks::Lacks;
 use clock::Moment;
 use ether::FRAME_MAX;
-use host::{DropCause, Host};
+use host::{DropCause, GivenUp, Host};
 use tcp_segment::Seq;
 
 /// What came to a host and went out of it, since these counters were made. Each count holds still at 2^64 - 1.
@@ -28,6 +31,8 @@ pub struct Counters {
     pub drops: Drops,
     /// Frames that were dropped for want of room, NoRoom, by what there was none of.
     pub lacks: Lacks,
+    /// What ticks gave up for want of a hop.
+    pub given_up: GivenUp,
 }
 
 impl Counters {
@@ -42,6 +47,7 @@ impl Counters {
             octets_out: 0,
             drops: Drops::new(),
             lacks: Lacks::new(),
+            given_up: given_up::NONE,
         }
     }
 
@@ -83,6 +89,15 @@ impl Counters {
         raise(&mut self.frames_out, 1);
         raise(&mut self.octets_out, len as u64);
         Some(len)
+    }
+
+    /// `Host::tick`, counted: what it gives up for want of a hop, as `Host::gives_up` tells.
+    pub fn tick(&mut self, host: &mut Host, now: Moment)
+        ensures after { host.new ≡ after_tick host.old now }
+        ensures counted { self.new ≡ after_event self.old (Ticked (gives_up host.old now)) }
+    {
+        given_up::count(&mut self.given_up, host.gives_up(now));
+        host.tick(now);
     }
 
     /// Counts a frame that this host dropped for this cause. What it found no room at is asked for only where that is the cause.
