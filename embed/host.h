@@ -201,31 +201,34 @@ struct host_info {
 /* What was counted of a host since it was made. `size` is sizeof (struct host_counters); all others are the library's to write. A count holds still at
  * INT64_MAX. A later header may have more members behind these, which a library that doesn't know them leaves as they were. */
 struct host_counters {
-    size_t size;           /* octets of the struct, as the program knows it */
-    int64_t frames_in;     /* frames that host_deliver was given, dropped ones among them, */
-    int64_t octets_in;     /* and their octets */
-    int64_t frames_out;    /* frames that host_next_frame wrote, */
-    int64_t octets_out;    /* and their octets */
-    int64_t short_frame;   /* frames that were dropped, each by its HOST_DROP_: HOST_DROP_SHORT, */
-    int64_t other_mac;     /* HOST_DROP_OTHER_MAC, */
-    int64_t other_type;    /* HOST_DROP_OTHER_TYPE, */
-    int64_t ip_header;     /* HOST_DROP_IP_HEADER, */
-    int64_t ip_sum;        /* HOST_DROP_IP_SUM, */
-    int64_t other_address; /* HOST_DROP_OTHER_ADDRESS, */
-    int64_t upper_header;  /* HOST_DROP_UPPER_HEADER, */
-    int64_t upper_sum;     /* HOST_DROP_UPPER_SUM, */
-    int64_t fragment;      /* and HOST_DROP_FRAGMENT; those of HOST_DROP_NO_ROOM by what there was none of: */
-    int64_t backlog;       /* a place at the listener, whose backlog waits, */
-    int64_t table;         /* a place among HOST_ENTRIES, or an id, */
-    int64_t memory;        /* memory for a connection, */
-    int64_t replies;       /* a place among the 16 control replies, */
-    int64_t queue;         /* room in the queue of a UDP socket, */
-    int64_t reassembly;    /* a place for the datagram of a fragment, */
-    int64_t route;         /* and a route to the source of a SYN */
+    size_t size;                /* octets of the struct, as the program knows it */
+    int64_t frames_in;          /* frames that host_deliver was given, dropped ones among them, */
+    int64_t octets_in;          /* and their octets */
+    int64_t frames_out;         /* frames that host_next_frame wrote, */
+    int64_t octets_out;         /* and their octets */
+    int64_t short_frame;        /* frames that were dropped, each by its HOST_DROP_: HOST_DROP_SHORT, */
+    int64_t other_mac;          /* HOST_DROP_OTHER_MAC, */
+    int64_t other_type;         /* HOST_DROP_OTHER_TYPE, */
+    int64_t ip_header;          /* HOST_DROP_IP_HEADER, */
+    int64_t ip_sum;             /* HOST_DROP_IP_SUM, */
+    int64_t other_address;      /* HOST_DROP_OTHER_ADDRESS, */
+    int64_t upper_header;       /* HOST_DROP_UPPER_HEADER, */
+    int64_t upper_sum;          /* HOST_DROP_UPPER_SUM, */
+    int64_t fragment;           /* and HOST_DROP_FRAGMENT; those of HOST_DROP_NO_ROOM by what there was none of: */
+    int64_t backlog;            /* a place at the listener, whose backlog waits, */
+    int64_t table;              /* a place among HOST_ENTRIES, or an id, */
+    int64_t memory;             /* memory for a connection, */
+    int64_t replies;            /* a place among the 16 control replies, */
+    int64_t queue;              /* room in the queue of a UDP socket, */
+    int64_t reassembly;         /* a place for the datagram of a fragment, */
+    int64_t route;              /* and a route to the source of a SYN; */
+    int64_t replies_given_up;   /* what host_tick gave up, since for 3,000 ms the MAC of its next hop wasn't known: control replies, */
+    int64_t resets_given_up;    /* resets of aborted connections, */
+    int64_t datagrams_given_up; /* and datagrams */
 };
 
 /* So the library finds it. */
-typedef char host_counters_has_its_form[sizeof(struct host_counters) == 21 * 8 && offsetof(struct host_counters, frames_in) == 8 ? 1 : -1];
+typedef char host_counters_has_its_form[sizeof(struct host_counters) == 24 * 8 && offsetof(struct host_counters, frames_in) == 8 ? 1 : -1];
 
 /* So the library finds it. */
 typedef char host_info_has_its_form[sizeof(struct host_info) == 23 * 8 && offsetof(struct host_info, state) == 8 ? 1 : -1];

@@ -98,7 +98,8 @@ class Info:
 @dataclasses.dataclass(frozen=True)
 class Counters:
     """What was counted of a host since it was made: `host.h` has each field at length. The frames that were dropped stand by their cause, from
-    `short_frame` to `fragment`; those for want of room, Drop.NO_ROOM, by what there was none of, from `backlog` to `route`."""
+    `short_frame` to `fragment`; those for want of room, Drop.NO_ROOM, by what there was none of, from `backlog` to `route`. Then stands what `tick`
+    gave up for want of a hop."""
 
     frames_in: int
     octets_in: int
@@ -120,6 +121,9 @@ class Counters:
     queue: int
     reassembly: int
     route: int
+    replies_given_up: int
+    resets_given_up: int
+    datagrams_given_up: int
 
 
 # The system's number of each refusal, from number 1 on.

@@ -38,10 +38,14 @@ void print_counters(struct tap *tap)
         {"backlog", of.backlog}, {"table", of.table}, {"memory", of.memory}, {"replies", of.replies},
         {"queue", of.queue},     {"reassembly", of.reassembly}, {"route", of.route},
     };
+    const struct named given_up[] = {
+        {"replies", of.replies_given_up}, {"resets", of.resets_given_up}, {"datagrams", of.datagrams_given_up},
+    };
     fprintf(stderr, "tap: %" PRId64 " frames in, %" PRId64 " out; octets: %" PRId64 " in, %" PRId64 " out", of.frames_in, of.frames_out,
             of.octets_in, of.octets_out);
     print_named("dropped", drops, sizeof drops / sizeof *drops);
     print_named("no room", lacks, sizeof lacks / sizeof *lacks);
+    print_named("given up", given_up, sizeof given_up / sizeof *given_up);
     if (tap->options.openings != 0) {
         fprintf(stderr, "; put off: %" PRIu64, tap->put_off);
     }

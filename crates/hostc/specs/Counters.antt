@@ -5,10 +5,11 @@ use Rattle.frames.specs.declared.drop.DropCause.{DropCause}
 use Rattle.sockets.specs.declared.refusal.Refusal.{Refusal}
 use Rattle.sockets.specs.declared.refusal.Refusal.TheVariants.{EBADF}
 use Rattle.host.specs.Emission.{emission_len}
+use Rattle.host.specs.GivenUp.{gives_up}
 use Rattle.host.specs.HostView.{HostView}
 use Rattle.host.specs.Lack.{lack}
 use Rattle.counters.specs.declared.counters.Counters.{Counters}
-use Rattle.counters.specs.Counting.{Came, after_event, after_going, new_counters}
+use Rattle.counters.specs.Counting.{Came, Ticked, after_event, after_going, new_counters}
 use Rattle.hostc.specs.Numbers.{taken, told}
 
 -- of a host that is made nothing is counted yet, and where none is made all stays
@@ -26,6 +27,11 @@ abbrev pub counters_after_emission : Option HostView → Moment → Option Count
 counters_after_emission None now c = c
 counters_after_emission (Some h) now c = option_map (λ old. after_going old (emission_len h now)) c
 
+-- what a tick at a moment gives up is counted
+abbrev pub counters_after_tick : Option HostView → Moment → Option Counters → Option Counters
+counters_after_tick None now c = c
+counters_after_tick (Some h) now c = option_map (λ old. after_event old (Ticked (gives_up h now))) c
+
 -- 0; EBADF of a handle that holds no host
 abbrev pub counters_answer : Option Counters → Result ℕ Refusal
 counters_answer None = Err EBADF
@@ -40,4 +46,5 @@ counter_numbers c =
     ∷ told c.drops.upper_header ∷ told c.drops.upper_sum ∷ told c.drops.fragment
     ∷ told c.lacks.backlog ∷ told c.lacks.table ∷ told c.lacks.memory ∷ told c.lacks.replies
     ∷ told c.lacks.queue ∷ told c.lacks.reassembly ∷ told c.lacks.route
+    ∷ told c.given_up.replies ∷ told c.given_up.resets ∷ told c.given_up.datagrams
     ∷ []

@@ -3,8 +3,10 @@
 ghost use Rattle.std.specs.Prelude.{◌≡◌, ◌≤◌, length, IfSome};
 ghost use Rattle.host.specs.Arrival.{IsDelivered};
 ghost use Rattle.host.specs.Emission.{emission_len, emission_front, after_emission};
+ghost use Rattle.host.specs.GivenUp.{gives_up};
 ghost use Rattle.host.specs.Lack.{lack};
-ghost use Rattle.counters.specs.Counting.{Came, after_event, after_going, new_counters};
+ghost use Rattle.host.specs.Ticks.{after_tick};
+ghost use Rattle.counters.specs.Counting.{Came, Ticked, after_event, after_going, new_counters};
 
 use clock::Moment;
 use counters::Counters;
@@ -12,7 +14,7 @@ use ether::FRAME_MAX;
 use host::{DropCause, Host};
 use tcp_segment::Seq;
 
-/// A host, and what came to it and went out of it.
+/// A host, and what came to it, went out of it and was given up.
 #[derive(Drop)]
 pub(crate) struct Counted {
     pub(crate) host: Host,
@@ -48,5 +50,13 @@ impl Counted {
         ensures counted { self.new.counters ≡ after_going self.old.counters result }
     {
         self.counters.next_frame(&mut self.host, now, out)
+    }
+
+    /// `Counters::tick`.
+    pub(crate) fn tick(&mut self, now: Moment)
+        ensures after { self.new.host ≡ after_tick self.old.host now }
+        ensures counted { self.new.counters ≡ after_event self.old.counters (Ticked (gives_up self.old.host now)) }
+    {
+        self.counters.tick(&mut self.host, now);
     }
 }

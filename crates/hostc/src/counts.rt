@@ -14,7 +14,7 @@ use host::Refusal;
 use std::alloc::Global;
 
 /// How many numbers tell what is counted of a host.
-const COUNTS: usize = 20;
+const COUNTS: usize = 23;
 
 /// The counters of the host, as the numbers of `struct host_counters` behind its size, in their order. Answers 0, and the first of them stand at the
 /// front of `numbers` then, as many as it has places; what is behind them stays. EBADF where the handle holds no host.
@@ -37,7 +37,7 @@ pub extern "C" fn host_counters_into(alloc: Global, handle: &mut Handle, numbers
 fn counter_numbers(counters: &Counters) -> [i64; COUNTS]
     ensures { result ≡ counter_numbers counters.now }
 {
-    let (drops, lacks) = (&counters.drops, &counters.lacks);
+    let (drops, lacks, given_up) = (&counters.drops, &counters.lacks, &counters.given_up);
     [
         told(counters.frames_in),
         told(counters.octets_in),
@@ -59,5 +59,8 @@ fn counter_numbers(counters: &Counters) -> [i64; COUNTS]
         told(lacks.queue),
         told(lacks.reassembly),
         told(lacks.route),
+        told(given_up.replies),
+        told(given_up.resets),
+        told(given_up.datagrams),
     ]
 }

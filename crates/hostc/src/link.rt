@@ -4,7 +4,7 @@ ghost use Rattle.std.specs.Prelude.{◌≡◌, Ok, option_map, option_and_then};
 ghost use Rattle.host.specs.Emission.{emission_len, emission_front, after_emission};
 ghost use Rattle.host.specs.Ticks.{after_tick, least_deadline};
 ghost use Rattle.hostc.specs.Calls.{of_host, left_in, Delivery};
-ghost use Rattle.hostc.specs.Counters.{CountsFrame, counters_after_emission};
+ghost use Rattle.hostc.specs.Counters.{CountsFrame, counters_after_emission, counters_after_tick};
 ghost use Rattle.hostc.specs.Numbers.{answered, whether, length_or_none};
 ghost use Rattle.hostc.specs.Types.{moment_of, written};
 
@@ -19,16 +19,16 @@ use tcp_segment::Seq;
 /// What `host_deliver` answers where the handle holds no host: the number of no cause.
 pub const NO_HOST: i64 = -11;
 
-/// `Host::tick`. Does nothing where the handle holds no host.
+/// `Host::tick`, counted. Does nothing where the handle holds no host.
 #[unsafe(no_mangle)]
 pub extern "C" fn host_tick(alloc: Global, handle: &mut Handle, now: u64)
     ensures after { handle.new.host ≡ option_map (λ h. after_tick h (moment_of now)) handle.old.host }
-    ensures counters { handle.new.counters ≡ handle.old.counters }
+    ensures counters { handle.new.counters ≡ counters_after_tick handle.old.host (moment_of now) handle.old.counters }
 {
     let Some(mut kept) = handle.take(alloc) else {
         return;
     };
-    kept.host.tick(Moment(now));
+    kept.tick(Moment(now));
     handle.put(alloc, kept);
 }
 

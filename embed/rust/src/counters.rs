@@ -38,12 +38,18 @@ pub struct Counters {
     pub reassembly: u64,
     /// No route to the source of a SYN.
     pub route: u64,
+    /// Control replies that `tick` gave up, since for 3,000 ms the MAC of their next hop wasn't known.
+    pub replies_given_up: u64,
+    /// Resets of aborted connections that it gave up.
+    pub resets_given_up: u64,
+    /// Datagrams that it gave up.
+    pub datagrams_given_up: u64,
 }
 
 impl Host {
     /// What was counted of the host since it was made.
     pub fn counters(&mut self) -> Counters {
-        let mut told = [0; 20];
+        let mut told = [0; 23];
         // A host is held, so the call is not refused.
         unsafe { c::host_counters_into(&mut self.0, told.as_mut_ptr(), told.len()) };
         let count = |place: usize| u64::try_from(told[place]).unwrap_or(0);
@@ -68,6 +74,9 @@ impl Host {
             queue: count(17),
             reassembly: count(18),
             route: count(19),
+            replies_given_up: count(20),
+            resets_given_up: count(21),
+            datagrams_given_up: count(22),
         }
     }
 }

@@ -89,6 +89,18 @@ fn drops_have_their_causes() {
 }
 
 #[test]
+fn what_waits_in_vain_is_counted() {
+    let mut host = host();
+    let id = host.socket(Kind::Udp).unwrap();
+    assert_eq!(host.sendto(id, PEER, b"x"), Ok(1));
+    host.tick(2_999);
+    assert_eq!(host.counters().datagrams_given_up, 0);
+    host.tick(3_000);
+    let counted = host.counters();
+    assert_eq!((counted.replies_given_up, counted.resets_given_up, counted.datagrams_given_up), (0, 0, 1));
+}
+
+#[test]
 fn an_opening_is_foretold() {
     let mut host = host();
     let id = host.socket(Kind::Tcp).unwrap();
