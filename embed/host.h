@@ -54,8 +54,8 @@ extern "C" {
 
 /* The version of this header: as text, and as a number, 65,536 for the first part of it, 256 for the second and 1 for the third. host_version
  * answers the library's. */
-#define HOST_VERSION_STRING "0.2.0"
-#define HOST_VERSION 0x000200
+#define HOST_VERSION_STRING "0.3.0"
+#define HOST_VERSION 0x000300
 
 /* The most octets of a frame that goes out, and of one that arrives; those of one that goes out are 60 at least. */
 #define HOST_FRAME_SIZE 1514

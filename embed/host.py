@@ -27,7 +27,7 @@ from typing import Any, Iterator, Mapping, NoReturn, Optional, Tuple, Union
 
 __all__ = ["Counters", "Drop", "Host", "Info", "Kind", "Ready", "State"]
 
-VERSION = "0.2.0"
+VERSION = "0.3.0"
 FRAME_SIZE = 1514
 DATAGRAM_SIZE = 65507
 

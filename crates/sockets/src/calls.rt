@@ -446,6 +446,10 @@ fn may_open(role: &Role) -> Result<Option<Endpoint>, Refusal>
 pub(crate) fn new_buffers(alloc: Global, manner: Manner) -> Result<Buffers, AllocError>
     ensures { IfOk result (λ buffers. buffers ≡ room_of manner) }
 {
-    let capacity = if manner.scales { LARGEST_CAPACITY } else { CAPACITY };
+    let capacity = if manner.scales {
+        LARGEST_CAPACITY
+    } else {
+        CAPACITY
+    };
     Buffers::new(alloc, capacity, manner)
 }
