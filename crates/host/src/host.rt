@@ -72,8 +72,8 @@ impl Host {
         requires { IfOk interface (λ frames. IfOk sockets (λ table. IfOk pool (λ places. HasRun (record { interface = frames; sockets = table; pool = places })))) }
         ensures { MatchResult interface
             (λ frames. MatchResult sockets
-                (λ table. MatchResult pool (λ places. result ≡ Ok (record { interface = frames; sockets = table; pool = places })) (λ refused. result ≡ Err Refusal.ENOMEM))
-                (λ refused. result ≡ Err Refusal.ENOMEM))
+            (λ table. MatchResult pool (λ places. result ≡ Ok (record { interface = frames; sockets = table; pool = places })) (λ refused. result ≡ Err Refusal.ENOMEM))
+            (λ refused. result ≡ Err Refusal.ENOMEM))
             (λ refused. result ≡ Err Refusal.ENOMEM) }
     {
         match (interface, sockets, pool) {
