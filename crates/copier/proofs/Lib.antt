@@ -2,3 +2,4 @@ pub mod Passing
 pub mod Moving
 pub mod Feeding
 pub mod Turning
+pub mod Failing

@@ -1,5 +1,8 @@
-use Rattle.std.proofs.Common.{Ok, Err, Some, rules}
+use Rattle.std.proofs.Common.{ℕ, Option, Ok, Err, Some, rules, sym, ◌∙◌, ap}
+use Rattle.std.proofs.lemmas.Result.{err_from_is_err_and}
+use Rattle.devices.specs.Streams.{counted}
 use Rattle.copier.specs.declared.fault.CopyFault.TheVariants.{Stalled}
+use Rattle.copier.proofs.Failing.{same_read, same_write, same_link}
 use Rattle.copier.proofs.Turning.{left_err, left-unmoved, under-at, under-left, turned, going_next, any_fault}
 use Rattle.copier.proofs.turns.copy.Goals as goal
 
@@ -44,3 +47,27 @@ returns-in-Some-clause-leads g c = g.met.L.Link.leads_on _ _ _ c.loop.invariant.
 
 pub returns-in_err-count-clause-leads : goal.returns-in_err-count-clause-leads
 returns-in_err-count-clause-leads g c = g.met.L.Link.leads_on c.args.link.now c.loop.link c.turn.new.link c.loop.invariant.leads c.turn.ensures.leads
+
+-- what failed in the turn failed in the copy
+pub returns-in_err-count-clause-read : goal.returns-in_err-count-clause-read
+returns-in_err-count-clause-read g c =
+    let p = err_from_is_err_and c.from_residual-in_err-count.result c.from_residual-in_err-count.ensures.1 in
+    rw (p.1, p.2) (c.in_err-count.ensures.read ∙ ap (λ failed. counted failed (g.R.Source.failures c.loop.src)) (same_read (Option ℕ) ℕ c.in_err-count.field-0.0)
+    ∙ ap (counted _) c.loop.invariant.read)
+
+pub returns-in_err-count-clause-written : goal.returns-in_err-count-clause-written
+returns-in_err-count-clause-written g c =
+    let p = err_from_is_err_and c.from_residual-in_err-count.result c.from_residual-in_err-count.ensures.1 in
+    rw (p.1, p.2) (c.in_err-count.ensures.written ∙ ap (λ failed. counted failed (g.W.Sink.failures c.loop.dst)) (same_write (Option ℕ) ℕ c.in_err-count.field-0.0)
+    ∙ ap (counted _) c.loop.invariant.written)
+
+pub returns-in_err-count-clause-carried : goal.returns-in_err-count-clause-carried
+returns-in_err-count-clause-carried g c =
+    let p = err_from_is_err_and c.from_residual-in_err-count.result c.from_residual-in_err-count.ensures.1 in
+    rw (p.1, p.2) (c.in_err-count.ensures.carried ∙ ap (λ failed. counted failed (g.L.Link.failures c.loop.link)) (same_link (Option ℕ) ℕ c.in_err-count.field-0.0)
+    ∙ ap (counted _) c.loop.invariant.carried)
+
+pub returns-in_err-count-clause-memory : goal.returns-in_err-count-clause-memory
+returns-in_err-count-clause-memory g c =
+    let p = err_from_is_err_and c.from_residual-in_err-count.result c.from_residual-in_err-count.ensures.1 in
+    rw (p.1, p.2) (λ wants. absurd (c.in_err-count.ensures.memory wants))
