@@ -5,7 +5,7 @@ use super::stations::Side::B;
 use super::stations::{ONE, SERVER, THREE, config};
 use clock::Moment;
 use counters::Counters;
-use host::{DropCause, GivenUp, Host, Kind, Lack};
+use host::{DropCause, Host, Kind, Lack};
 use ipv4::{Addr, Endpoint};
 use std::alloc::Global;
 use std::process::Abort;
@@ -28,12 +28,6 @@ const WRONG_ACK: &[u8] = b"\x02\0\0\0\0\x02\x02\0\0\0\0\x01\x08\0\
     \x45\0\0\x28\0\0\x40\0\x40\x06\x26\xce\x0a\0\0\x01\x0a\0\0\x02\
     \xc0\0\0\x50\0\0\0\0\0\x01\x11\x70\x50\x10\0\x64\xc9\xac\0\0\
     \0\0\0\0\0\0";
-
-/// The neighbour that nobody has heard of.
-const SILENT: Endpoint = Endpoint {
-    addr: Addr([10, 0, 0, 9]),
-    port: 7,
-};
 
 /// The port that `HI` is for.
 const WAITING: Endpoint = Endpoint {
@@ -70,11 +64,6 @@ impl Station {
     fn emit(&mut self) -> Option<usize> {
         self.counters
             .next_frame(&mut self.host, Moment(0), &mut [0; 1_514])
-    }
-
-    /// Time passes until this moment.
-    fn tick(&mut self, milliseconds: u64) {
-        self.counters.tick(&mut self.host, Moment(milliseconds));
     }
 
     /// It takes these octets, for which it needs nothing but memory.
@@ -167,27 +156,4 @@ fn a_count_holds_still_at_its_last_value(rt: HostRuntime) {
     station.counters.octets_in = u64::MAX - 12;
     assert!(rt; station.drops(&[0; 13], DropCause::Short));
     assert!(rt; station.counters.frames_in == u64::MAX && station.counters.octets_in == u64::MAX);
-}
-
-#[test]
-fn what_waits_for_silent_neighbours_is_given_up(rt: HostRuntime) {
-    let mut station = Station::new(&rt, rt.alloc(), 1);
-    assert!(rt; station.takes(SYN, Some(Lack::Memory)));
-    assert!(rt; station.host.close(ONE) == Ok(()));
-    assert!(rt; station.takes(ECHO, None) && station.takes(ECHO, None));
-    assert!(rt; station.host.socket(Kind::Udp) == Ok(THREE));
-    for _ in 0..3 {
-        assert!(rt; station.host.sendto(THREE, SILENT, b"hi") == Ok(2));
-    }
-    station.tick(2_999);
-    assert!(rt; station.counters.given_up == GivenUp::default());
-    station.tick(3_000);
-    let given_up = GivenUp {
-        replies: 2,
-        resets: 1,
-        datagrams: 3,
-    };
-    assert!(rt; station.counters.given_up == given_up);
-    station.tick(9_000);
-    assert!(rt; station.counters.given_up == given_up);
 }
