@@ -285,6 +285,9 @@ impl UdpSocket {
         requires { F.IsAlwaysCallable lost.now }
         ensures { (test : Addr → Bool) → ((addr : Addr) (answer : Bool) → F.post lost.now addr answer → answer ≡ test addr) → result ≡ deadline test self.now }
     {
+        if self.tags.is_empty() {
+            return None;
+        }
         self.tags
             .iter()
             .fold(None, |least, tag| sooner(least, tag.deadline(lost)))
@@ -295,6 +298,9 @@ impl UdpSocket {
         requires { F.IsAlwaysCallable lost.now }
         ensures { (test : Addr → Bool) → ((addr : Addr) (answer : Bool) → F.post lost.now addr answer → answer ≡ test addr) → result ≡ list_any (is_given_up test now) self.now.outbox }
     {
+        if self.tags.is_empty() {
+            return false;
+        }
         self.tags.iter().any(|tag| tag.is_given_up(now, lost))
     }
 
