@@ -4,7 +4,7 @@ use Rattle.tcp_segment.specs.Segment.{FieldsFit}
 use Rattle.tcp_segment.specs.Sent.{CanBeSent, sent_segment, sent_offset}
 use Rattle.tcp_segment.proofs.Sending.{most_offset}
 use Rattle.tcp_state.specs.declared.emission.Due.{Due}
-use Rattle.tcp_state.specs.declared.emission.Due.TheVariants.{Rst, Syn, Text, Probe, Ack}
+use Rattle.tcp_state.specs.declared.emission.Due.TheVariants.{Rst, Syn, Text, Probe, Ack, KeepAlive}
 use Rattle.tcp_state.specs.declared.emission.Stretch.{Stretch}
 use Rattle.tcp_state.specs.View.{View, IsSound}
 use Rattle.tcp_state.specs.Due.{MayGoOut, IsHeld, probe_stretch, head_of, octets_of, octets_of_stretch, number_of, flags_of}
@@ -18,6 +18,7 @@ number_fits v Syn sound = sound.una
 number_fits v (Text stretch) sound = omega arith
 number_fits v Probe sound = sound.una
 number_fits v Ack sound = ack_fits v sound
+number_fits v KeepAlive sound = omega arith
 
 acknowledgement_fits : (b : Bool) (n : ℕ) → n < 2 ^ 32 → (if b then n else 0) < 2 ^ 32
 acknowledgement_fits true n fits = fits
@@ -33,6 +34,7 @@ text_fits v Syn may = omega arith
 text_fits v (Text stretch) may = stretch_fits v stretch may
 text_fits v Probe may = stretch_fits v (probe_stretch v) may
 text_fits v Ack may = omega arith
+text_fits v KeepAlive may = omega arith
 
 fields_fit : (v : View) (due : Due) → IsSoundConnection v → FieldsFit (sent_segment (head_of v due) (octets_of v due))
 fields_fit v due k = record {
@@ -65,3 +67,4 @@ due-fits c Syn may = syn-fits c.scales
 due-fits c (Text stretch) may = omega (arith, text_fits c (Text stretch) may)
 due-fits c Probe may = omega (arith, text_fits c Probe may)
 due-fits c Ack may = omega arith
+due-fits c KeepAlive may = omega arith

@@ -10,7 +10,7 @@ use Rattle.clock.specs.Moments.{sooner}
 use Rattle.tcp_segment.specs.Segment.{span_of}
 use Rattle.tcp_halves.specs.Stream.{outstanding}
 use Rattle.tcp_state.specs.declared.emission.Due.{Due}
-use Rattle.tcp_state.specs.declared.emission.Due.TheVariants.{Rst, Syn, Text, Probe, Ack}
+use Rattle.tcp_state.specs.declared.emission.Due.TheVariants.{Rst, Syn, Text, Probe, Ack, KeepAlive}
 use Rattle.tcp_state.specs.declared.emission.Stretch.{Stretch}
 use Rattle.tcp_state.specs.Congestion.{KeepsCongestion}
 use Rattle.tcp_state.specs.Due.{MayGoOut, IsHeld as IsHeldStretch, first_due, octets_of_stretch, probe_stretch}
@@ -19,6 +19,7 @@ use Rattle.tcp_state.specs.Positions.{HasToSend, takes_numbers}
 use Rattle.tcp_state.specs.Said.{segment_of}
 use Rattle.tcp_state.specs.Timing.{KeepsTime, deadline, probes, retransmits}
 use Rattle.tcp_state.specs.View.{View, IsSound, ends_at, reset_since}
+use Rattle.tcp_state.specs.Alive.{alive_at}
 use Rattle.tcp_state.proofs.GoesOut.{due-may}
 use Rattle.tcp_state.proofs.Hopless.{stands_where_due}
 use Rattle.tcp_state.proofs.Waiting.{goes_out as timed_or_due}
@@ -58,6 +59,7 @@ spans v Syn may takes = omega arith
 spans v (Text stretch) may takes = stretch-spans v stretch may
 spans v Probe may takes = stretch-spans v (probe_stretch v) may
 spans v Ack may takes = cc
+spans v KeepAlive may takes = cc
 
 -- Where none of its timers runs, it waits for its hop.
 
@@ -89,7 +91,8 @@ waits-first c sound keeps network has none =
     let t = c.timers in
     let sending : Option Moment = sooner t.retransmission t.probe in
     let receiving : Option Moment = sooner t.delayed_ack t.overriding in
-    let ends = neither (sooner sending receiving) (ends_at c) none in
+    let all = neither (sooner (sooner sending receiving) (ends_at c)) (alive_at c) none in
+    let ends = neither (sooner sending receiving) (ends_at c) all.0 in
     let pairs = neither sending receiving ends.0 in
     let still = neither t.retransmission t.probe pairs.0 in
     let unsent : retransmits c ≡ false = sym keeps.retransmission ∙ ap (λ (o : Option Moment). is_some o) still.0 in

@@ -37,7 +37,7 @@ use Rattle.sockets.specs.Offered.{IsReached}
 use Rattle.sockets.specs.Lost.{after_giving_up}
 use Rattle.sockets.specs.Order.{IsOrdered, IsAllowed}
 use Rattle.sockets.specs.Sound.{IsSoundTable, NoneIsOver}
-use Rattle.sockets.specs.Timing.{EachKeepsTime, AreNear}
+use Rattle.sockets.specs.Timing.{EachKeepsTime, AreNear, NoneAsks}
 use Rattle.sockets.specs.Timing as timing
 use Rattle.sockets.specs.Leaving.{EachLeavesAWindow}
 use Rattle.sockets.specs.Leaving as leaving
@@ -45,7 +45,7 @@ use Rattle.sockets.specs.SocketsView.{SocketsView, later_moment, new_sockets, ro
 use Rattle.sockets.specs.Ticks.{least_deadline}
 use Rattle.sockets.proofs.Leaving.{each_leaves, fresh_leaves}
 use Rattle.sockets.proofs.Led.{led_nowhere, led_by, led_on, further, reached_by, reached_ordered, reached_over}
-use Rattle.sockets.proofs.Near.{each_near, fresh_near, deadline_near}
+use Rattle.sockets.proofs.Near.{each_near, fresh_near, deadline_near, deadline_in_a_day}
 use Rattle.sockets.proofs.Numbered.{address_stays, manner_stays, never_back}
 use Rattle.sockets.proofs.SoundTicks.{tick_sound}
 use Rattle.sockets.proofs.Steps.{later_up_to}
@@ -291,8 +291,11 @@ run-leaves c _ _ (GoesOn before event old new ran sound small makes) sized =
     let parts = all-split IsSized before event sized in
     event-leaves event old new sound small parts.1 makes (run-leaves c before old ran parts.0)
 
-pub run-deadline : (c : ConfigView) (events : List Event) (h : HostView) (latest moment : Moment) → Runs c events h → AllByRecursion (IsUpTo latest) events → least_deadline h.sockets ≡ Some moment → moment.0 ≤ latest.0 + 240000
-run-deadline c events h latest moment ran up is = deadline_near h.sockets latest moment (run-near c events h latest ran up) is
+pub run-deadline : (c : ConfigView) (events : List Event) (h : HostView) (latest moment : Moment) → Runs c events h → AllByRecursion (IsUpTo latest) events → NoneAsks h.sockets → least_deadline h.sockets ≡ Some moment → moment.0 ≤ latest.0 + 240000
+run-deadline c events h latest moment ran up none is = deadline_near h.sockets latest moment (run-near c events h latest ran up) none is
+
+pub run-deadline-asking : (c : ConfigView) (events : List Event) (h : HostView) (latest moment : Moment) → Runs c events h → AllByRecursion (IsUpTo latest) events → least_deadline h.sockets ≡ Some moment → moment.0 ≤ latest.0 + 86400000
+run-deadline-asking c events h latest moment ran up is = deadline_in_a_day h.sockets latest moment (run-near c events h latest ran up) is
 
 -- a list that leads on ..
 

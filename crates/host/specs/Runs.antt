@@ -77,6 +77,7 @@ IsCall routes (table.Sends id octets) = Unit {0}
 IsCall routes (table.Receives id len) = Unit {0}
 IsCall routes (table.Shuts id) = Unit {0}
 IsCall routes (table.SetsNoDelay id on) = Unit {0}
+IsCall routes (table.SetsKeepAlive id every) = Unit {0}
 IsCall routes (table.Leaves how id) = Unit {0}
 IsCall routes (table.SendsTo id peer octets routed) = routed ≡ is_some (next_hop routes peer.addr)
 IsCall routes (table.ReceivesFrom id len) = Unit {0}

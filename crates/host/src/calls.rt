@@ -13,7 +13,7 @@ use tcp_state::Received;
 
 impl Host {
     ghost use Rattle.host.specs.HostView.{with_sockets};
-    ghost use Rattle.sockets.specs.Calls.{is_table_full, IsMade, bind_refusal, after_bind, listen_refusal, after_listen, accept_answer, after_accept, connect_refusal, after_connect, pair_connected, send_answer, after_send, recv_answer, recv_front, after_recv, shutdown_refusal, after_shutdown, nodelay_refusal, after_nodelay, close_refusal, after_close, after_abort, state_answer, sockname_answer, peername_answer};
+    ghost use Rattle.sockets.specs.Calls.{is_table_full, IsMade, bind_refusal, after_bind, listen_refusal, after_listen, accept_answer, after_accept, connect_refusal, after_connect, pair_connected, send_answer, after_send, recv_answer, recv_front, after_recv, shutdown_refusal, after_shutdown, nodelay_refusal, after_nodelay, keepalive_refusal, after_keepalive, close_refusal, after_close, after_abort, state_answer, sockname_answer, peername_answer};
     ghost use Rattle.sockets.specs.Datagrams.{sendto_answer, after_sendto, recvfrom_answer, recvfrom_front, after_recvfrom};
 
     /// Makes a socket of this kind. EMFILE, ENOMEM. See `Sockets::socket`.
@@ -129,6 +129,17 @@ impl Host {
     {
         self.sound();
         self.layers.sockets.set_nodelay(id, on)
+    }
+
+    /// Whether a silent peer of a connection is asked whether it is there, after so many milliseconds each. EBADF, EINVAL, EOPNOTSUPP, ENOTCONN. See
+    /// `Sockets::set_keepalive`.
+    pub fn set_keepalive(&mut self, id: SocketId, every: Option<u64>) -> Result<(), Refusal>
+        ensures refused { result_err result ≡ keepalive_refusal self.old.sockets id every }
+        ensures ok { OnOk result (self.new ≡ with_sockets self.old (after_keepalive self.old.sockets id every)) }
+        ensures err { OnErr result (self.new ≡ self.old) }
+    {
+        self.sound();
+        self.layers.sockets.set_keepalive(id, every)
     }
 
     /// Gives a UDP datagram for `peer` to a socket, where one of the host's routes leads to it (RFC 1122 section 3.3.1.1). EBADF, EOPNOTSUPP,

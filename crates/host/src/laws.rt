@@ -52,7 +52,7 @@ ghost use Rattle.sockets.specs.Offered.{IsReached};
 ghost use Rattle.sockets.specs.Order.{IsOrdered};
 ghost use Rattle.sockets.specs.Sound.{NoneIsOver};
 ghost use Rattle.sockets.specs.Steps.{connected};
-ghost use Rattle.sockets.specs.Timing.{EachKeepsTime, AreNear};
+ghost use Rattle.sockets.specs.Timing.{EachKeepsTime, AreNear, NoneAsks};
 ghost use Rattle.sockets.specs.Leaving.{EachLeavesAWindow};
 ghost use Rattle.sockets.specs.SocketsView.{later_moment, role_of};
 ghost use Rattle.sockets.specs.Ticks.{least_deadline as timer_deadline};
@@ -237,13 +237,14 @@ pub fn tables_are_reached()
 {}
 
 /// No timer of a connection of a host runs until later than a minute past the latest moment that the host was told of, and no wait is counted from a later one: nothing happened to a new host, each event
-/// keeps it, and so it is over every list of events. So none of the deadlines that they give lies more than 240,000 ms past it, the time that TIME-WAIT lasts (RFC 9293 section 3.4.2). Where no event names a
+/// keeps it, and so it is over every list of events. So none of the deadlines that they give lies more than a day past it, and none more than 240,000 ms, the time that TIME-WAIT lasts (RFC 9293 section 3.4.2), where no silent peer is asked. Where no event names a
 /// moment but one that the host keeps by then, since a tick told it, that latest moment is the one that it keeps.
 pub fn timers_lie_near()
     ensures fresh { (c : ConfigView) (latest : Moment) → let h = new_host c in AreNear latest h.sockets }
     ensures event { (event : Event) (old new : HostView) (latest : Moment) → IsSoundHost old → IsNumbered event → IsUpTo latest event → Makes event old new → AreNear latest old.sockets → AreNear latest new.sockets }
     ensures over { (c : ConfigView) (events : List Event) (h : HostView) (latest : Moment) → Runs c events h → AllByRecursion (IsUpTo latest) events → AreNear latest h.sockets }
-    ensures deadline { (c : ConfigView) (events : List Event) (h : HostView) (latest moment : Moment) → Runs c events h → AllByRecursion (IsUpTo latest) events → timer_deadline h.sockets ≡ Some moment → moment.0 ≤ latest.0 + 240000 }
+    ensures deadline { (c : ConfigView) (events : List Event) (h : HostView) (latest moment : Moment) → Runs c events h → AllByRecursion (IsUpTo latest) events → NoneAsks h.sockets → timer_deadline h.sockets ≡ Some moment → moment.0 ≤ latest.0 + 240000 }
+    ensures asking { (c : ConfigView) (events : List Event) (h : HostView) (latest moment : Moment) → Runs c events h → AllByRecursion (IsUpTo latest) events → timer_deadline h.sockets ≡ Some moment → moment.0 ≤ latest.0 + 86400000 }
 {}
 
 /// An open connection of a host of which nothing is due, and that has nothing to be read, leaves its peer a window of a segment at least, whether it has spoken or not (`sockets::laws::quiet_readers_leave_a_window`): so it is in a new host, over each event, and over every

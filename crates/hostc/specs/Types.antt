@@ -24,6 +24,10 @@ hop_of gateway = if gateway == 0 then Direct else Gateway (addr_of gateway)
 abbrev pub moment_of : ℕ → Moment
 moment_of now = record { 0 = now }
 
+-- after how many milliseconds each a silent peer is asked; 0 says that it isn't
+abbrev pub every_of : ℕ → Option ℕ
+every_of milliseconds = if milliseconds == 0 then None else Some milliseconds
+
 abbrev pub socket_of : ℕ → SocketId
 socket_of id = record { 0 = id }
 

@@ -3,10 +3,10 @@
 ghost use Rattle.std.specs.Prelude.{◌≡◌, ◌==◌, not, length, option_map, Option, Result};
 ghost use Rattle.std.specs.Result.{result_ok, result_err};
 ghost use Rattle.interface.specs.Ways.{is_routed};
-ghost use Rattle.sockets.specs.Calls.{bind_refusal, after_bind, listen_refusal, after_listen, accept_answer, after_accept, connect_refusal, after_connect, send_answer, after_send, recv_answer, recv_front, after_recv, shutdown_refusal, after_shutdown, nodelay_refusal, after_nodelay, close_refusal, after_close, after_abort};
+ghost use Rattle.sockets.specs.Calls.{bind_refusal, after_bind, listen_refusal, after_listen, accept_answer, after_accept, connect_refusal, after_connect, send_answer, after_send, recv_answer, recv_front, after_recv, shutdown_refusal, after_shutdown, nodelay_refusal, after_nodelay, keepalive_refusal, after_keepalive, close_refusal, after_close, after_abort};
 ghost use Rattle.hostc.specs.Calls.{of_host, left_in, after_call, SocketCall};
 ghost use Rattle.hostc.specs.Numbers.{answered, done, numbered, received_count, kind_of};
-ghost use Rattle.hostc.specs.Types.{addr_of, endpoint_of, socket_of, end_of, written};
+ghost use Rattle.hostc.specs.Types.{addr_of, endpoint_of, every_of, socket_of, end_of, written};
 
 use crate::convert::{counted, done, end_of, endpoint_of, kind_of, received, refused, told};
 use crate::handle::Handle;
@@ -147,6 +147,23 @@ pub extern "C" fn host_set_nodelay(alloc: Global, handle: &mut Handle, id: u64, 
 {
     let is_on = on != 0;
     done(handle.ask(alloc, |host| host.set_nodelay(SocketId(id), is_on)))
+}
+
+/// `Host::set_keepalive`: a silent peer is asked after so many milliseconds each, and no more where that is 0. Answers 0. EBADF where the handle holds
+/// no host; else as `Host::set_keepalive`.
+#[unsafe(no_mangle)]
+pub extern "C" fn host_set_keepalive(
+    alloc: Global,
+    handle: &mut Handle,
+    id: u64,
+    milliseconds: u64,
+) -> i64
+    ensures answer { result ≡ answered (of_host (λ h. done (keepalive_refusal h.sockets (socket_of id) (every_of milliseconds))) handle.old.host) }
+    ensures after { handle.new.host ≡ option_map (λ h. after_call (keepalive_refusal h.sockets (socket_of id) (every_of milliseconds)) h (after_keepalive h.sockets (socket_of id) (every_of milliseconds))) handle.old.host }
+    ensures counters { handle.new.counters ≡ handle.old.counters }
+{
+    let every = (milliseconds != 0).then_some(milliseconds);
+    done(handle.ask(alloc, |host| host.set_keepalive(SocketId(id), every)))
 }
 
 /// `Host::close`. Answers 0. EBADF where the handle holds no host; else as `Host::close`.

@@ -10,6 +10,7 @@ use Rattle.tcp_halves.specs.Stream.{outstanding}
 use Rattle.tcp_state.specs.View.{View, is_closed}
 use Rattle.tcp_state.specs.Timing.{after_tick as after_tick_of}
 use Rattle.tcp_state.specs.Edges.{Event}
+use Rattle.tcp_state.specs.Alive.{IsPatient}
 use Rattle.tcp_state.proofs.Minute.{leaves_streams}
 use Rattle.tcp_state.proofs.Resting.{rests_on}
 use Rattle.sockets.specs.declared.entry.SocketId.{SocketId}
@@ -29,15 +30,15 @@ use Rattle.round_law.proofs.Says.{own_sound}
 abbrev pub SameStreams : View → View → Type 0
 SameStreams v w = (w.sending ≡ v.sending) × (w.receiving ≡ v.receiving) × (w.state ≡ v.state)
 
-pub minute_rests : (h : HostView) (id : SocketId) (v : View) (mac : Mac) → IsQuiet h id v mac → Sends v.state → v.sending.held ≡ [] → SameStreams v (after_tick_of v (minute_past h.sockets.kept))
-minute_rests h id v mac quiet state empty =
-    rests_on v (minute_past h.sockets.kept) (own_sound h id v quiet.kept (alone_there h id v mac quiet)) (own_time h id v quiet.kept (alone_there h id v mac quiet)).0 state.past state.goes_on state.unshut empty (alone_there h id v mac quiet).called
+pub minute_rests : (h : HostView) (id : SocketId) (v : View) (mac : Mac) → IsQuiet h id v mac → Sends v.state → IsPatient v → v.sending.held ≡ [] → SameStreams v (after_tick_of v (minute_past h.sockets.kept))
+minute_rests h id v mac quiet state patient empty =
+    rests_on v (minute_past h.sockets.kept) (own_sound h id v quiet.kept (alone_there h id v mac quiet)) (own_time h id v quiet.kept (alone_there h id v mac quiet)).0 state.past state.goes_on state.unshut empty (alone_there h id v mac quiet).called patient
 
-pub minute_leaves : (h : HostView) (id : SocketId) (v : View) (mac : Mac) → IsQuiet h id v mac → Sends v.state → v.resend.expiries < 12 → SameStreams v (after_tick_of v (minute_past h.sockets.kept))
-minute_leaves h id v mac quiet state few = by_held v.sending.held refl
+pub minute_leaves : (h : HostView) (id : SocketId) (v : View) (mac : Mac) → IsQuiet h id v mac → Sends v.state → IsPatient v → v.resend.expiries < 12 → SameStreams v (after_tick_of v (minute_past h.sockets.kept))
+minute_leaves h id v mac quiet state patient few = by_held v.sending.held refl
   where
     by_held : (xs : List ℕ) → v.sending.held ≡ xs → SameStreams v (after_tick_of v (minute_past h.sockets.kept))
-    by_held [] empty = minute_rests h id v mac quiet state empty
+    by_held [] empty = minute_rests h id v mac quiet state patient empty
     by_held (x ∷ xs) some = let long : length v.sending.held ≡ length (x ∷ xs) = ap length some in leaves_streams v (minute_past h.sockets.kept) (own_sound h id v quiet.kept (alone_there h id v mac quiet)) (omega (arith, long)) few
 
 pub meet_later : (v d w e : View) → Meet v d → w.sending ≡ v.sending → w.receiving ≡ v.receiving → e.sending ≡ d.sending → e.receiving ≡ d.receiving → Meet w e

@@ -9,13 +9,13 @@ use Rattle.tcp_halves.specs.Stream.{receive_window}
 use Rattle.tcp_halves.specs.Windows.{receive_room, has_grown, whole_units, syn_window}
 use Rattle.tcp_halves.proofs.Choices.{either}
 use Rattle.tcp_state.specs.declared.emission.Due.{Due}
-use Rattle.tcp_state.specs.declared.emission.Due.TheVariants.{Rst, Syn, Text, Probe, Ack}
+use Rattle.tcp_state.specs.declared.emission.Due.TheVariants.{Rst, Syn, Text, Probe, Ack, KeepAlive}
 use Rattle.tcp_state.specs.View.{View, is_syn_received}
 use Rattle.tcp_state.specs.Arrival.{is_receiving, after_ack, after_window, after_text, after_heard}
 use Rattle.tcp_state.specs.Due.{first_due, after_ack_paid, after_syn_ack_paid, after_syn_out, after_stretch, after_probe, after_emitted}
 use Rattle.tcp_state.specs.Edges.{after_first, after_event}
 use Rattle.tcp_state.specs.Edges as edge
-use Rattle.tcp_state.proofs.Clocked.{timers_keep, syn_out}
+use Rattle.tcp_state.proofs.Clocked.{ticks_keep, syn_out}
 use Rattle.tcp_state.proofs.Emissions.{numbers_receive, stretch_receives, probe_receives}
 use Rattle.tcp_state.proofs.Events.{by_event}
 use Rattle.tcp_state.proofs.Segments.{by_ack, by_fin, by_hearing}
@@ -78,6 +78,7 @@ went_out v Syn now small =
 went_out v (Text stretch) now small = paid v (after_stretch v stretch now) (stretch_receives v stretch now) small
 went_out v Probe now small = paid v (after_probe v) (probe_receives v) small
 went_out v Ack now small = paid v v refl small
+went_out v KeepAlive now small = paid v v refl small
 
 emitted : (v : View) (o : Option Due) (now : Moment) → Keeps v (after_first v o now)
 emitted v None now small = small
@@ -86,10 +87,11 @@ emitted v (Some due) now small = went_out v due now small
 edge_kept : (v : View) (e : edge.Event) → Keeps v (after_event v e)
 edge_kept v e = by_event (λ e w. Keeps v w) v (record {
   same = λ e small. small;
+  asks = λ e alive small. small;
   heard = λ s now lives. heard v s;
   over = λ now ends small. small;
   given_up = λ now waits expired small. small;
-  acts = λ now small. subst (λ (w : View). w.receiving.edge < 2 ^ 32) (sym (timers_keep v now)) small;
+  acts = λ now small. subst (λ (w : View). w.receiving.edge < 2 ^ 32) (sym (ticks_keep v now)) small;
   emits = λ now. emitted v (first_due v) now;
   sends = λ octets taken now opened small. small;
   reads = λ len small. small;

@@ -75,10 +75,10 @@ module _ (old new : Hosts) (writer_id reader_id : SocketId) (v d : View) (may : 
   at_rest = record { past = receives.past; unshut = receives.unshut; goes_on = receives.goes_on }
 
   writer : Begins old.writer writer_id v mac_of_reader
-  writer = begins old.writer writer_id v mac_of_reader may.writer (minute_leaves old.writer writer_id v mac_of_reader may.writer sends may.few)
+  writer = begins old.writer writer_id v mac_of_reader may.writer (minute_leaves old.writer writer_id v mac_of_reader may.writer sends may.patient.0 may.few)
 
   reader : Begins old.reader reader_id d mac_of_writer
-  reader = begins old.reader reader_id d mac_of_writer may.reader (minute_rests old.reader reader_id d mac_of_writer may.reader at_rest may.meet.held)
+  reader = begins old.reader reader_id d mac_of_writer may.reader (minute_rests old.reader reader_id d mac_of_writer may.reader at_rest may.patient.1 may.meet.held)
 
   meet : Meet w e
   meet = meet_later v d w e may.meet writer.streams.0 writer.streams.1 reader.streams.0 reader.streams.1

@@ -8,7 +8,7 @@ use Rattle.tcp_halves.specs.Halves.{Sending}
 use Rattle.tcp_halves.specs.Stream.{outstanding, after_sent}
 use Rattle.tcp_halves.proofs.Choices.{either, clash}
 use Rattle.tcp_state.specs.declared.emission.Due.{Due}
-use Rattle.tcp_state.specs.declared.emission.Due.TheVariants.{Rst, Syn, Text, Probe, Ack}
+use Rattle.tcp_state.specs.declared.emission.Due.TheVariants.{Rst, Syn, Text, Probe, Ack, KeepAlive}
 use Rattle.tcp_state.specs.View.{View, IsSound, is_opening, is_syn_received, is_closed, awaits_fin_ack}
 use Rattle.tcp_state.specs.Due.{MayGoOut, probe_stretch, end_of, first_due, after_syn_ack_paid, after_syn_out, after_emitted}
 use Rattle.tcp_state.specs.Edges.{Event, after_first, after_event}
@@ -37,6 +37,7 @@ may_say v (Text stretch) sound lives past open_ may = record { ordinary = record
 may_say v Probe sound lives past open_ may =
     record { ordinary = record { ack = refl; no_rst = refl; no_syn = refl }; no_fin = no_fin_of (let t = probe_stretch v in t.fin) (awaits_fin_ack v.state) (λ fin. (may.fin fin).0) open_; acknowledgement = refl; source = refl; destination = refl }
 may_say v Ack sound lives past open_ may = record { ordinary = record { ack = refl; no_rst = refl; no_syn = refl }; no_fin = refl; acknowledgement = refl; source = refl; destination = refl }
+may_say v KeepAlive sound lives past open_ may = record { ordinary = record { ack = refl; no_rst = refl; no_syn = refl }; no_fin = refl; acknowledgement = refl; source = refl; destination = refl }
 
 pub says_plainly : (v : View) (due : Due) → IsSound v → is_closed v.state ≡ false → is_opening v.state ≡ false → awaits_fin_ack v.state ≡ false → first_due v ≡ Some due → IsPlain v (segment_of v due)
 says_plainly v due sound lives past open_ first = may_say v due sound lives past open_ (due-may v due sound first)
@@ -58,6 +59,7 @@ emitted_grows v Syn now = either View (λ w. outstanding v.sending ≤ outstandi
 emitted_grows v (Text stretch) now = grows_by v.sending (after_emitted v (Text stretch) now).sending (end_of stretch) (stretch_sends v stretch now)
 emitted_grows v Probe now = grows_by v.sending (after_emitted v Probe now).sending (end_of (probe_stretch v)) (probe_sends v)
 emitted_grows v Ack now = omega arith
+emitted_grows v KeepAlive now = omega arith
 
 pub out_grows : (v : View) (due : Due) (now : Moment) → first_due v ≡ Some due → outstanding v.sending ≤ outstanding (after_event v (Event.Emits now)).sending
 out_grows v due now first = let same : outstanding (after_event v (Event.Emits now)).sending ≡ outstanding (after_emitted v due now).sending = ap (λ o. outstanding (after_first v o now).sending) first in omega (arith, same, emitted_grows v due now)

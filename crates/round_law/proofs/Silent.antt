@@ -12,7 +12,8 @@ use Rattle.tcp_state.specs.declared.state.State.{State}
 use Rattle.tcp_state.specs.declared.state.State.TheVariants.{Closed}
 use Rattle.tcp_state.specs.declared.emission.Due.{Due}
 use Rattle.tcp_state.specs.View.{View, IsSound, is_opening, is_syn_sent, is_closed, is_write_finished, awaits_fin_ack, end_of_wait, is_at_end}
-use Rattle.tcp_state.specs.Timing.{KeepsTime, probes, expires, gives_up, after_tick, tick_fate}
+use Rattle.tcp_state.specs.Alive.{may_rest, end_of_silence, is_silent, unanswered_again, after_silence}
+use Rattle.tcp_state.specs.Timing.{KeepsTime, probes, clocked, expires, is_silent_for_good, gives_up, after_timers, after_tick, tick_fate}
 use Rattle.tcp_state.specs.New.{sends_new, sends_fin, waits_no_longer}
 use Rattle.tcp_state.specs.Hop.{unheard_until, end_of_hop_wait, hop_wait, after_hopless}
 use Rattle.tcp_state.specs.Due.{first_due}
@@ -79,11 +80,17 @@ module _ (c : View) (now : Moment) (sound : IsSound c) (keeps : KeepsTime c) (cl
   no_end : is_at_end c now ≡ false
   no_end = ap (λ (t : State). has_come (end_of_wait t c.released c.since) now) is
 
+  unasked : is_silent c now ≡ false
+  unasked = ap (λ (t : State). has_come (if may_rest t && (length c.sending.held == 0) then end_of_silence c.alive.every c.alive else None) now) is
+
   goes_on : gives_up c now ≡ false
-  goes_on = neither_both (expires c now) _ none_expires
+  goes_on = ap (λ b. b || is_silent_for_good c now) (neither_both (expires c now) _ none_expires) ∙ neither_both (is_silent c now) _ unasked
 
   pub closed_still : after_tick c now ≡ c
-  closed_still = rw (no_end, goes_on, none_comes) refl
+  closed_still =
+      rw (no_end, goes_on)
+      (ap (λ b. if b then clocked false (after_timers (after_silence c now) now) now else after_silence c now) none_comes
+      ∙ ap (λ b. record c { alive = if b then unanswered_again c.alive c.resend.timeout.rto now else c.alive }) unasked)
 
   pub closed_stays : is_kept (tick_fate c now) ≡ true
   closed_stays = rw (no_end, goes_on) refl

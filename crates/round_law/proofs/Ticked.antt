@@ -2,16 +2,14 @@
 use Rattle.std.proofs.Common.{◌≡◌, not, nat_lt, Bool, true, false, List, ◌∷◌, ◌++◌, Some, None, refl, ◌∙◌, ap, subst}
 use Rattle.std.specs.List.{AllByRecursion, retain_mut}
 use Rattle.clock.specs.declared.moment.Moment.{Moment}
-use Rattle.clock.specs.Moments.{has_come}
 use Rattle.ipv4.specs.declared.addr.Addr.{Addr}
 use Rattle.ipv4.specs.declared.addr.Endpoint.{Endpoint}
 use Rattle.interface.specs.Ways.{knows_hop}
-use Rattle.retransmit.specs.Deadlines.{next_of}
 use Rattle.tcp_halves.proofs.Choices.{either, by}
 use Rattle.tcp_state.specs.declared.calls.Refusal.TheVariants.{ETIMEDOUT}
 use Rattle.tcp_state.specs.View.{View, is_closed, is_at_end, after_stop, after_reset}
-use Rattle.tcp_state.specs.Timing.{clocked, gives_up, after_timers, after_tick as after_tick_of, tick_fate}
-use Rattle.tcp_state.proofs.Clocked.{timers_keep}
+use Rattle.tcp_state.specs.Timing.{gives_up, after_tick as after_tick_of, tick_fate}
+use Rattle.tcp_state.proofs.Clocked.{expiries_keep}
 use Rattle.tcp_state.proofs.ResetAges.{live}
 use Rattle.sockets.specs.declared.entry.Entry.{Entry}
 use Rattle.sockets.specs.declared.entry.SocketId.{SocketId}
@@ -75,11 +73,10 @@ module _ (lost : Addr → Bool) (m n : Moment) where
 live_keeps : (c : View) (now : Moment) → is_closed (after_tick_of c now).state ≡ false → ((after_tick_of c now).peer ≡ c.peer) × ((after_tick_of c now).owes_reset ≡ c.owes_reset) × ((after_tick_of c now).released ≡ c.released)
 live_keeps c now lives =
     let P : View → Type 0 = λ w. is_closed w.state ≡ false → (w.peer ≡ c.peer) × (w.owes_reset ≡ c.owes_reset) × (w.released ≡ c.released) in
-    let same = timers_keep c now in
+    let same = expiries_keep c now in
     either View P (is_at_end c now) (after_stop c) _ (λ ends alive. cc)
     (λ waits. either View P (gives_up c now) (after_reset c (Some ETIMEDOUT)) _ (λ over alive. cc)
-    (λ goes_on. either View P (has_come (next_of c.timers) now) (clocked false (after_timers c now) now) c
-    (λ comes alive. (ap (λ (w : View). w.peer) same, ap (λ (w : View). w.owes_reset) same, ap (λ (w : View). w.released) same)) (λ early alive. (refl, refl, refl)))) lives
+    (λ goes_on alive. (ap (λ (w : View). w.peer) same, ap (λ (w : View). w.owes_reset) same, ap (λ (w : View). w.released) same))) lives
 
 pub ticked_alone : (h : HostView) (id : SocketId) (c : View) (now : Moment) → IsKept h → IsAlone h id c → knows_hop h.interface (later_moment h.sockets now) c.peer.addr ≡ true
     → is_closed (after_tick_of c (later_moment h.sockets now)).state ≡ false → IsAlone (after_tick h now) id (after_tick_of c (later_moment h.sockets now))

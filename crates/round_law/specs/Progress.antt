@@ -16,6 +16,7 @@ use Rattle.reassembly.specs.Places.{expired}
 use Rattle.tcp_halves.specs.Stream.{outstanding, receive_window}
 use Rattle.tcp_state.specs.declared.state.State.TheVariants.{Established, FinWait2, CloseWait}
 use Rattle.tcp_state.specs.View.{View, is_closed}
+use Rattle.tcp_state.specs.Alive.{IsPatient}
 use Rattle.sockets.specs.declared.entry.SocketId.{SocketId}
 use Rattle.sockets.specs.declared.entry.Entry.{Entry}
 use Rattle.sockets.specs.declared.role.Role.TheVariants.{Connected}
@@ -61,7 +62,7 @@ pub record Meet (v d : View) : Type 0 where
   pub answered : v.receiving.rnext ≡ d.sending.nxt
 
 -- What is asked of two hosts and of the connections of two of their sockets, the writer's and the reader's: their hosts are quiet but for them, and they are each other's ends. The one sends, the other receives, and they meet in both streams. The writer's
--- timers expired under 12 times since the last progress. There are octets to be read; or some are held yet, and the window that the reader told takes a segment (a reader that has read all leaves one, by
+-- timers expired under 12 times since the last progress, and where one asks a silent peer whether it is there, it did so under 12 times since that last said something. There are octets to be read; or some are held yet, and the window that the reader told takes a segment (a reader that has read all leaves one, by
 -- `quiet_readers_have_told_their_room` of `tcp_state`).
 pub record MayMove (p : Hosts) (writer_id reader_id : SocketId) (v d : View) : Type 0 where
   pub writer : IsQuiet p.writer writer_id v p.reader.interface.mac
@@ -72,6 +73,7 @@ pub record MayMove (p : Hosts) (writer_id reader_id : SocketId) (v d : View) : T
   pub receives : (d.state ≡ Established) ⊎ (d.state ≡ FinWait2)
   pub meet : Meet v d
   pub few : v.resend.expiries < 12
+  pub patient : IsPatient v × IsPatient d
   pub some : (0 < length d.receiving.readable) ⊎ ((0 < length v.sending.held) × (MSS ≤ receive_window d.receiving))
 
 -- What is promised: both sockets have their connections yet, in the states in which they were, so neither is CLOSED; and there are octets to be read, or fewer are held than before.

@@ -12,7 +12,7 @@ use Rattle.tcp_state.specs.Calls.{beyond_shutdown}
 use Rattle.tcp_state.specs.Due.{first_due}
 use Rattle.tcp_state.specs.Edges as edge
 use Rattle.tcp_state.specs.View.{View, is_opening, is_syn_sent, is_syn_received}
-use Rattle.tcp_state.proofs.Clocked.{timers_keep, emission_keeps}
+use Rattle.tcp_state.proofs.Clocked.{ticks_keep, emission_keeps}
 use Rattle.tcp_state.proofs.Edges.{and_left, and_right}
 use Rattle.tcp_state.proofs.Events.{by_event}
 use Rattle.tcp_state.proofs.Segments.{by_ack, by_fin, by_hearing}
@@ -89,10 +89,11 @@ event_past v =
     by_event (λ e w. Past v w) v
     (record {
       same = λ e. as_before v v refl refl;
+      asks = λ e alive. as_before v _ refl refl;
       heard = λ s now lives. let p = heard_past v s in record { passive = p.passive; past = p.past };
       over = λ now ends. record { passive = refl; past = λ past. refl };
       given_up = λ now waits gives. record { passive = refl; past = λ past. refl };
-      acts = λ now. as_before v _ (ap (λ (w : View). w.passive) (timers_keep v now)) (ap (λ (w : View). w.state) (timers_keep v now));
+      acts = λ now. as_before v _ (ap (λ (w : View). w.passive) (ticks_keep v now)) (ap (λ (w : View). w.state) (ticks_keep v now));
       emits = λ now. as_before v _ (ap (λ (w : View). w.passive) (emission_keeps v (first_due v) now)) (ap (λ (w : View). w.state) (emission_keeps v (first_due v) now));
       sends = λ octets taken now open_. record { passive = refl; past = λ past. past };
       reads = λ len. record { passive = refl; past = λ past. past };

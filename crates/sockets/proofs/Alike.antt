@@ -3,13 +3,13 @@ use Rattle.std.proofs.Common.{◌≡◌, if◌then◌else◌, Bool, true, false,
 use Rattle.tcp_segment.specs.Segment.{Segment}
 use Rattle.clock.specs.declared.moment.Moment.{Moment}
 use Rattle.tcp_state.specs.declared.emission.Due.{Due}
-use Rattle.tcp_state.specs.declared.emission.Due.TheVariants.{Rst, Syn, Text, Probe, Ack}
+use Rattle.tcp_state.specs.declared.emission.Due.TheVariants.{Rst, Syn, Text, Probe, Ack, KeepAlive}
 use Rattle.tcp_state.specs.declared.emission.Stretch.{Stretch}
 use Rattle.tcp_state.specs.View.{View, is_at_end}
-use Rattle.tcp_state.specs.Timing.{clocked, gives_up, after_tick, after_timers}
+use Rattle.tcp_state.specs.Timing.{gives_up, after_tick}
 use Rattle.tcp_state.specs.Arrival.{before, timed_by}
 use Rattle.tcp_state.specs.Due.{after_emitted}
-use Rattle.tcp_state.proofs.Clocked.{timers_keep, emission}
+use Rattle.tcp_state.proofs.Clocked.{expiries_keep, emission}
 
 pub record IsAlike (v w : View) : Type 0 where
   pub local : w.local ≡ v.local
@@ -33,9 +33,7 @@ alike-timed v s w now = record { local = refl; peer = refl; state = refl; passiv
 -- a tick that ends nothing
 pub alike-tick : (v : View) (now : Moment) → is_at_end v now ≡ false → gives_up v now ≡ false → IsAlike v (after_tick v now)
 alike-tick v now waits lives =
-    rw (waits, lives) (alike-either v _ (clocked false (after_timers v now) now) v
-    (subst (λ (w : View). IsAlike v w) (sym (timers_keep v now)) (record { local = refl; peer = refl; state = refl; passive = refl; released = refl; owes = refl }))
-    (alike-same v))
+    rw (waits, lives) (subst (λ (w : View). IsAlike v w) (sym (expiries_keep v now)) (record { local = refl; peer = refl; state = refl; passive = refl; released = refl; owes = refl }))
 
 -- a segment goes out, but the reset of an abort
 alike-emitted : (v : View) (due : Due) (now : Moment) → (due ≡ Rst → ⊥) → IsAlike v (after_emitted v due now)
@@ -55,3 +53,6 @@ alike-probe v now = alike-emitted v Probe now (λ e. cc)
 
 pub alike-ack : (v : View) (now : Moment) → IsAlike v (after_emitted v Ack now)
 alike-ack v now = alike-emitted v Ack now (λ e. cc)
+
+pub alike-asks : (v : View) (now : Moment) → IsAlike v (after_emitted v KeepAlive now)
+alike-asks v now = alike-emitted v KeepAlive now (λ e. cc)

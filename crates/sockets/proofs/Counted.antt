@@ -1,5 +1,5 @@
 -- Which resets and datagrams are left by a tick: the timers, which act before any is given up, make and take none of them.
-use Rattle.std.proofs.Common.{◌≡◌, ℕ, ◌+◌, ◌==◌, ◌&&◌, ◌||◌, not, nat_lt, nat_le, Bool, true, false, cond, List, [], ◌∷◌, ◌++◌, Option, Some, None, is_some, refl, sym, ◌∙◌, ap, arith}
+use Rattle.std.proofs.Common.{◌≡◌, ℕ, ◌+◌, ◌==◌, ◌&&◌, ◌||◌, not, nat_lt, nat_le, if◌then◌else◌, Bool, true, false, cond, List, length, [], ◌∷◌, ◌++◌, Option, Some, None, is_some, refl, sym, ◌∙◌, ap, arith}
 use Rattle.std.proofs.lemmas.Grind.{common_steps}
 use Rattle.std.proofs.lemmas.List.Elements.{filter-append}
 use Rattle.std.proofs.lemmas.List.Sums.{sum_by-cons}
@@ -9,13 +9,13 @@ use Rattle.ipv4.specs.declared.addr.Endpoint.{Endpoint}
 use Rattle.clock.specs.declared.moment.Moment.{Moment}
 use Rattle.clock.specs.declared.moment.TheConstants.{HOP_WAIT}
 use Rattle.clock.specs.Moments.{after, has_come}
-use Rattle.retransmit.specs.Deadlines.{next_of}
 use Rattle.tcp_halves.proofs.Choices.{and_false}
 use Rattle.tcp_state.specs.declared.state.State.{State}
 use Rattle.tcp_state.specs.declared.state.State.TheVariants.{Closed}
 use Rattle.tcp_state.specs.View.{View, IsSound, is_opening, is_closed, awaits_fin_ack, end_of_wait, is_at_end}
-use Rattle.tcp_state.specs.Timing.{KeepsTime, probes, retransmits, gives_up, after_tick as view_after_tick}
-use Rattle.tcp_state.proofs.Clocked.{timers_keep}
+use Rattle.tcp_state.specs.Alive.{may_rest, end_of_silence, is_silent}
+use Rattle.tcp_state.specs.Timing.{KeepsTime, probes, retransmits, is_silent_for_good, gives_up}
+use Rattle.tcp_state.proofs.Clocked.{expiries_keep}
 use Rattle.tcp_state.proofs.Unchanged.{closed_plain, closed_holds}
 use Rattle.udp_socket.specs.SocketView.{Outgoing}
 use Rattle.udp_socket.specs.Waits as datagrams
@@ -42,6 +42,10 @@ none_come : (deadline : Option Moment) (now : Moment) → is_some deadline ≡ f
 none_come None now e = refl
 none_come (Some moment) now e = cc
 
+at_end_rests : (t : State) → is_closed t ≡ true → may_rest t ≡ false
+at_end_rests Closed closed = refl
+at_end_rests _ closed = cc
+
 lives_on : (v : View) (now : Moment) → IsSound v → KeepsTime v → is_closed v.state ≡ true → gives_up v now ≡ false
 lives_on v now sound keeps closed =
     let fin = closed_plain v.state closed in
@@ -49,8 +53,10 @@ lives_on v now sound keeps closed =
     let tested = not (is_opening v.state) && (v.sending.window == 0) in
     let silent : probes v ≡ false = ap (λ n. tested && (not (n == 0) || awaits_fin_ack v.state)) none.0 ∙ (ap (λ b. tested && b) fin.1 ∙ and_false tested) in
     let at_rest : retransmits v ≡ false = ap (λ n. nat_lt 0 n && not (probes v)) none.1 in
-    ap (λ b. (b || has_come v.timers.probe now) && nat_le 12 v.resend.expiries) (none_come v.timers.retransmission now (keeps.retransmission ∙ at_rest))
-    ∙ ap (λ b. b && nat_le 12 v.resend.expiries) (none_come v.timers.probe now (keeps.probe ∙ silent))
+    let unasked : is_silent v now ≡ false = ap (λ b. has_come (if b && (length v.sending.held == 0) then end_of_silence v.alive.every v.alive else None) now) (at_end_rests v.state closed) in
+    ap (λ b. ((b || has_come v.timers.probe now) && nat_le 12 v.resend.expiries) || is_silent_for_good v now) (none_come v.timers.retransmission now (keeps.retransmission ∙ at_rest))
+    ∙ ap (λ b. (b && nat_le 12 v.resend.expiries) || is_silent_for_good v now) (none_come v.timers.probe now (keeps.probe ∙ silent))
+    ∙ ap (λ b. b && nat_le 12 v.alive.unanswered) unasked
 
 closed_where_owed : (v : View) → IsSound v → v.owes_reset ≡ true → is_closed v.state ≡ true
 closed_where_owed v sound owes = grind (arith, common_steps, sound.reset)
@@ -64,9 +70,7 @@ still_owed now (Connected c l) =
     (λ ends. rw ends refl)
     (λ waits. by_test (gives_up c now)
     (λ over. rw (waits, over) refl)
-    (λ lives. by_test (has_come (next_of c.timers) now)
-    (λ comes. rw (waits, lives, comes) (ap owed (timers_keep c now)))
-    (λ early. rw (waits, lives, early) refl)))
+    (λ lives. rw (waits, lives) (ap owed (expiries_keep c now))))
 still_owed now (Datagrams bound socket) = refl
 still_owed now _ = refl
 

@@ -23,7 +23,7 @@ use Rattle.sockets.specs.Entries as role
 use Rattle.sockets.specs.SocketsView.{SocketsView}
 use Rattle.sockets.specs.Calls.{port_bound, after_bind, next_offered, is_next_at, port_connected, after_connect}
 use Rattle.sockets.specs.Datagrams.{end_sent_from, after_sendto, reception, after_reception}
-use Rattle.sockets.specs.Causes.{Event, Binds, Listens, Accepts, Connects, Sends, Receives, Shuts, SetsNoDelay, SendsTo, HearsDatagram, after_event, Follows}
+use Rattle.sockets.specs.Causes.{Event, Binds, Listens, Accepts, Connects, Sends, Receives, Shuts, SetsNoDelay, SetsKeepAlive, SendsTo, HearsDatagram, after_event, Follows}
 use Rattle.sockets.specs.Steps.{event_of, connected, closes_socket, may_change, remains, changes, opens, IsLeft, IsOneEvent}
 use Rattle.sockets.specs.Order.{IsOrdered}
 use Rattle.sockets.proofs.OfferCounts.{by_option}
@@ -153,6 +153,9 @@ module _ (h : SocketsView) (o : IsOrdered h) where
 
   pub delays_once : (id : SocketId) (on : Bool) → Follows (IsOneEvent h (SetsNoDelay id on)) IsNothing h.entries (let w = after_event h (SetsNoDelay id on) in w.entries)
   delays_once id on = calls_once h (SetsNoDelay id on) (λ x l. (refl, refl)) (λ x. refl) (edge.SetsNoDelay on h.kept) id _ (λ c. refl) (λ c. refl) (λ x other. rw other refl) (λ x named. rw named refl) o
+
+  pub asks_once : (id : SocketId) (every : Option ℕ) → Follows (IsOneEvent h (SetsKeepAlive id every)) IsNothing h.entries (let w = after_event h (SetsKeepAlive id every) in w.entries)
+  asks_once id every = calls_once h (SetsKeepAlive id every) (λ x l. (refl, refl)) (λ x. refl) (edge.SetsKeepAlive every h.kept) id _ (λ c. refl) (λ c. refl) (λ x other. rw other refl) (λ x named. rw named refl) o
 
   -- The next connection that a listener accepts is one entry.
   pub accepts_once : (id : SocketId) → Follows (IsOneEvent h (Accepts id)) IsNothing h.entries (let w = after_event h (Accepts id) in w.entries)

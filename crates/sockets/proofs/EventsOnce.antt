@@ -26,7 +26,7 @@ use Rattle.tcp_state.specs.Hop.{hopless_fate}
 use Rattle.sockets.specs.Lost.{is_given_up, is_hopless, give_up_fate_of, role_after_giving_up}
 use Rattle.sockets.specs.Calls.{after_socket_left, after_leaving}
 use Rattle.sockets.specs.Arrival.{local_end, peer_end, arrival_with_reply}
-use Rattle.sockets.specs.Causes.{Event, Makes, MakesDatagrams, Binds, Listens, Accepts, Connects, Sends, Receives, Shuts, SetsNoDelay, Leaves, Ticks, Hears, Emits, GivesUp, Unreachable, SendsTo, ReceivesFrom, HearsDatagram, after_arrival, after_event, is_next_out, IsAdded, Follows}
+use Rattle.sockets.specs.Causes.{Event, Makes, MakesDatagrams, Binds, Listens, Accepts, Connects, Sends, Receives, Shuts, SetsNoDelay, SetsKeepAlive, Leaves, Ticks, Hears, Emits, GivesUp, Unreachable, SendsTo, ReceivesFrom, HearsDatagram, after_arrival, after_event, is_next_out, IsAdded, Follows}
 use Rattle.sockets.specs.Steps.{connected, closes_socket, remains, changes, closes, IsLeft, IsOneEvent}
 use Rattle.sockets.specs.Order.{IsOrdered}
 use Rattle.sockets.proofs.Arrivals.{by_arrival, IsReply, refusing, to_stray, at_listener}
@@ -43,7 +43,7 @@ use Rattle.sockets.proofs.Followed.{IsNothing, by_test, joined_by, as_it_was, ea
 use Rattle.sockets.proofs.OneEvent.{untouched, joined_apart, changed_first, once_settled, ids_once, socket_once, readded, passed, passed_over, took, taken_out, settles_once, sockets_change}
 use Rattle.udp_socket.specs.SocketView.{after_read}
 use Rattle.udp_socket.specs.Emission.{after_part}
-use Rattle.sockets.proofs.EachOnce.{bound_once, listens, connected_once, queues_change, sent_once, received_once, sends_once, reads_once, shuts_once, delays_once, accepts_once}
+use Rattle.sockets.proofs.EachOnce.{bound_once, listens, connected_once, queues_change, sent_once, received_once, sends_once, reads_once, shuts_once, delays_once, asks_once, accepts_once}
 
 -- Leaving.
 
@@ -273,6 +273,7 @@ one_event h (Sends id octets) o = plain h (Sends id octets) refl (sends_once h o
 one_event h (Receives id len) o = plain h (Receives id len) refl (reads_once h o id len)
 one_event h (Shuts id) o = plain h (Shuts id) refl (shuts_once h o id)
 one_event h (SetsNoDelay id on) o = plain h (SetsNoDelay id on) refl (delays_once h o id on)
+one_event h (SetsKeepAlive id every) o = plain h (SetsKeepAlive id every) refl (asks_once h o id every)
 one_event h (Leaves how id) o = plain h (Leaves how id) refl (leaves_once h how id o)
 one_event h (Ticks now) o = plain h (Ticks now) refl (ticks_once h now)
 one_event h (Hears now isn source s) o = hears_once h now isn source s o

@@ -6,18 +6,16 @@ use Rattle.ipv4.specs.declared.addr.Addr.{Addr}
 use Rattle.ipv4.specs.declared.addr.Endpoint.{Endpoint}
 use Rattle.clock.specs.declared.moment.Moment.{Moment}
 use Rattle.clock.specs.Moments.{after, has_come}
-use Rattle.retransmit.specs.Deadlines.{next_of}
-use Rattle.tcp_halves.proofs.Choices.{either}
 use Rattle.tcp_state.specs.declared.calls.Refusal.TheVariants.{ETIMEDOUT}
 use Rattle.tcp_state.specs.declared.connection.Fate.TheVariants.{Stays, Removed}
 use Rattle.tcp_state.specs.declared.state.State.{State}
 use Rattle.tcp_state.specs.declared.state.State.TheVariants.{Closed, FinWait2, TimeWait}
 use Rattle.tcp_state.specs.Edges as edge
 use Rattle.tcp_state.specs.Said.{IsClosedBy}
-use Rattle.tcp_state.specs.Timing.{KeepsTime, awaits_first, gives_up, clocked, after_timers, after_tick, tick_fate}
+use Rattle.tcp_state.specs.Timing.{KeepsTime, awaits_first, gives_up, after_tick, tick_fate}
 use Rattle.tcp_state.specs.View.{View, IsSound, is_opening, is_syn_received, is_closed, is_write_finished, awaits_fin_ack, is_at_end, end_of_wait, after_reset}
 use Rattle.tcp_state.proofs.Awaited.{awaits_nothing}
-use Rattle.tcp_state.proofs.Clocked.{KeepsTo, timers_keep}
+use Rattle.tcp_state.proofs.Clocked.{KeepsTo, expiries_keep}
 use Rattle.sockets.specs.declared.entry.Entry.{Entry}
 use Rattle.sockets.specs.declared.entry.SocketId.{SocketId}
 use Rattle.sockets.specs.declared.role.Role.TheVariants.{Connected}
@@ -81,7 +79,7 @@ module _ (c : View) (since : Moment) (sound : IsSound c) (keeps : KeepsTime c) (
   ticked : (now : Moment) → gives_up c now ≡ false → KeepsTo c (after_tick c now) × (tick_fate c now ≡ Stays)
   ticked now lives =
       let on = lives_on now in (
-        rw (on, lives) (either View (KeepsTo c) (has_come (next_of c.timers) now) (clocked false (after_timers c now) now) c (λ comes. timers_keep c now) (λ later. refl)),
+        rw (on, lives) (expiries_keep c now),
         rw (on, lives) refl,
       )
 

@@ -13,6 +13,7 @@ use Rattle.tcp_state.specs.declared.state.State.{State}
 use Rattle.tcp_state.specs.View.{View, is_opening, awaits_fin_ack, is_at_end}
 use Rattle.tcp_state.specs.New.{passes_full}
 use Rattle.tcp_state.specs.Timing.{KeepsTime, awaits_first, waiting_since, gives_up, probes, retransmits, clocked, probe_expired, retransmission_expired, after_expiry, after_timers, after_tick}
+use Rattle.tcp_state.specs.Alive.{after_silence}
 use Rattle.tcp_state.proofs.Clocked.{by_others}
 
 -- whether a first segment waits, by what it hangs on
@@ -111,10 +112,11 @@ wait_goes_on v now since keeps is waits lives =
     let idle : (outstanding v.sending == 0) ≡ true = and_left _ _ first in
     let rests : retransmits v ≡ false = silent (outstanding v.sending) (probes v) idle in
     let early : has_come v.timers.retransmission now ≡ false = none_come v.timers.retransmission now (keeps.retransmission ∙ rests) in
-    let u = after_timers v now in
-    let acts : Acts v u = timers_act v now early in
-    let on : awaits_first u ≡ true = awaits_on v u acts first in
-    rw (waits, lives) (either View (λ w. w.unheard ≡ Some since) (has_come (next_of v.timers) now) (clocked false u now) v
+    let asked = after_silence v now in
+    let u = after_timers asked now in
+    let acts : Acts asked u = timers_act asked now early in
+    let on : awaits_first u ≡ true = awaits_on asked u acts first in
+    rw (waits, lives) (either View (λ w. w.unheard ≡ Some since) (has_come (next_of v.timers) now) (clocked false u now) asked
     (λ comes. ap (λ (b : Bool). if b then Some (waiting_since u.unheard now) else None) on ∙ ap (λ (o : Option Moment). Some (waiting_since o now)) (acts.unheard ∙ is))
     (λ later. is))
   where

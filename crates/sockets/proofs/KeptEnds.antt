@@ -6,13 +6,14 @@ use Rattle.tcp_state.specs.declared.state.State.{State}
 use Rattle.tcp_state.specs.declared.state.State.TheVariants.{Closed}
 use Rattle.tcp_state.specs.View.{View, is_closed}
 use Rattle.tcp_state.specs.Timing.{clocked, after_timers}
+use Rattle.tcp_state.specs.Alive.{after_silence}
 use Rattle.tcp_state.specs.Calls.{beyond_shutdown, after_shutdown}
 use Rattle.tcp_state.specs.declared.emission.Due.{Due}
 use Rattle.tcp_state.specs.Due.{first_due}
 use Rattle.tcp_state.specs.Edges as edge
 use Rattle.tcp_state.specs.Arrival.{after_ack, is_receiving, after_window, after_text, after_heard}
 use Rattle.tcp_halves.proofs.Choices.{either}
-use Rattle.tcp_state.proofs.Clocked.{timers_keep, emission_keeps}
+use Rattle.tcp_state.proofs.Clocked.{ticks_keep, emission_keeps}
 use Rattle.tcp_state.proofs.Events.{by_event}
 use Rattle.tcp_state.proofs.Segments.{by_ack, by_fin, by_hearing}
 
@@ -65,10 +66,11 @@ keeps-event v e =
     by_event (λ e w. KeepsEnds v w) v
     (record {
       same = λ e. keeps-nothing v;
+      asks = λ e alive. record { local = refl; peer = refl; live = λ lives. lives };
       heard = λ s now alive. let ends = heard-ends v s in record { local = ends.0; peer = ends.1; live = λ lives. alive };
       over = λ now ends. record { local = refl; peer = refl; live = λ lives. cc };
       given_up = λ now waits gives. record { local = refl; peer = refl; live = λ lives. cc };
-      acts = λ now. alike_kept v (clocked false (after_timers v now) now) (ap (λ (w : View). w.local) (timers_keep v now)) (ap (λ (w : View). w.peer) (timers_keep v now)) (ap (λ (w : View). w.state) (timers_keep v now));
+      acts = λ now. alike_kept v (clocked false (after_timers (after_silence v now) now) now) (ap (λ (w : View). w.local) (ticks_keep v now)) (ap (λ (w : View). w.peer) (ticks_keep v now)) (ap (λ (w : View). w.state) (ticks_keep v now));
       emits = λ now. keeps-first v (first_due v) now;
       sends = λ octets taken now alive. record { local = refl; peer = refl; live = λ lives. lives };
       reads = λ len. record { local = refl; peer = refl; live = λ lives. lives };

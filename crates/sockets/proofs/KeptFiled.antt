@@ -18,7 +18,7 @@ use Rattle.sockets.specs.declared.role.Leave.{Leave}
 use Rattle.sockets.specs.declared.role.Role.{Role}
 use Rattle.sockets.specs.declared.role.Role.TheVariants.{Idle, Connected, Datagrams}
 use Rattle.tcp_state.specs.Edges as edge
-use Rattle.sockets.specs.Entries.{on_connection, on_datagrams, has_socket, is_socket, waits_at, with_role, role_after_connect, role_after_bind, role_after_listen, role_after_accept, role_after_send, role_after_recv, role_after_shutdown, role_after_nodelay, role_after_sendto, role_after_recvfrom, role_after_reception, role_after_tick, role_after_segment, role_after_unreachable, leaving_event, role_after_leaving, role_after_listener_close, role_after_emission}
+use Rattle.sockets.specs.Entries.{on_connection, on_datagrams, has_socket, is_socket, waits_at, with_role, role_after_connect, role_after_bind, role_after_listen, role_after_accept, role_after_send, role_after_recv, role_after_shutdown, role_after_nodelay, role_after_keepalive, role_after_sendto, role_after_recvfrom, role_after_reception, role_after_tick, role_after_segment, role_after_unreachable, leaving_event, role_after_leaving, role_after_listener_close, role_after_emission}
 use Rattle.sockets.specs.Calls.{open_answer}
 use Rattle.sockets.specs.Index.{filed_at, filed_as, filed, inserted, index_of}
 use Rattle.sockets.proofs.Connected.{had_opens_none}
@@ -53,6 +53,9 @@ filed-shutdown now r = filed-changed _ (edge.Shuts now) (λ c. shut_either c now
 
 pub filed-nodelay : (on : Bool) (now : Moment) (r : Role) → IsFiledAs r (role_after_nodelay on now r)
 filed-nodelay on now r = filed-changed _ (edge.SetsNoDelay on now) (λ c. inr refl) r
+
+pub filed-keepalive : (every : Option ℕ) (now : Moment) (r : Role) → IsFiledAs r (role_after_keepalive every now r)
+filed-keepalive every now r = filed-changed _ (edge.SetsKeepAlive every now) (λ c. inr refl) r
 
 pub filed-tick : (now : Moment) (r : Role) → IsFiledAs r (role_after_tick now r)
 filed-tick now r = filed-changed _ (edge.Ticks now) (λ c. inr refl) r

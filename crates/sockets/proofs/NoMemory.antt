@@ -20,7 +20,7 @@ use Rattle.sockets.specs.declared.refusal.Refusal.{Refusal}
 use Rattle.sockets.specs.declared.refusal.Refusal.TheVariants.{EBADF, EINVAL, EADDRINUSE, EADDRNOTAVAIL, EALREADY, EISCONN, ENOTCONN, EAGAIN, ENETUNREACH, EDESTADDRREQ, ENOMEM}
 use Rattle.sockets.specs.declared.role.Role.{Role}
 use Rattle.sockets.specs.declared.role.Role.TheVariants.{Idle, Listener, Connected, Datagrams}
-use Rattle.sockets.specs.Calls.{of_socket, answer_at, any_addr, free_port, port_at, port_bound, bind_refusal, listen_refusal, own_end, sockname_answer, peername_answer, is_next_at, accept_answer, refusal_of, of_connection, role_send_answer, role_recv_answer, send_answer, recv_answer, role_shutdown_refusal, role_nodelay_refusal, shutdown_refusal, nodelay_refusal, close_refusal, state_answer, port_for, reach_refusal, had_connection, open_answer, port_connected, connect_refusal}
+use Rattle.sockets.specs.Calls.{of_socket, answer_at, any_addr, free_port, port_at, port_bound, bind_refusal, listen_refusal, own_end, sockname_answer, peername_answer, is_next_at, accept_answer, refusal_of, of_connection, role_send_answer, role_recv_answer, send_answer, recv_answer, role_shutdown_refusal, role_nodelay_refusal, shutdown_refusal, nodelay_refusal, keepalive_refusal, may_ask_after, close_refusal, state_answer, port_for, reach_refusal, had_connection, open_answer, port_connected, connect_refusal}
 use Rattle.sockets.specs.Datagrams.{datagrams_bound, sending_end, end_sent_from, sendto_answer, role_recvfrom_answer, recvfrom_answer}
 use Rattle.sockets.specs.Entries.{has_room_to_send, peer_of, shown_state}
 use Rattle.sockets.specs.Info.{role_info, info_answer}
@@ -195,6 +195,13 @@ role_nodelay (Datagrams bound socket) e = cc
 
 pub of_nodelay : (h : SocketsView) (id : SocketId) → TellsOf (nodelay_refusal h id)
 of_nodelay h id = refused_by_role (role_of h id) role_nodelay_refusal role_nodelay
+
+role_keepalive : (may : Bool) (role : Role) → TellsOf (if may then role_nodelay_refusal role else Some EINVAL)
+role_keepalive true role e = role_nodelay role e
+role_keepalive false role e = cc
+
+pub of_keepalive : (h : SocketsView) (id : SocketId) (every : Option ℕ) → TellsOf (keepalive_refusal h id every)
+of_keepalive h id every = refused_by_role (role_of h id) _ (role_keepalive (may_ask_after every))
 
 pub of_close : (h : SocketsView) (id : SocketId) → TellsOf (close_refusal h id)
 of_close h id = refused_by_role (role_of h id) (λ role. None) (λ role e. cc)

@@ -12,12 +12,12 @@ use Rattle.tcp_state.specs.declared.connection.Fate.TheVariants.{Stays, Removed}
 use Rattle.tcp_state.specs.declared.emission.Due.{Due}
 use Rattle.tcp_state.specs.declared.calls.Refusal.TheVariants.{ETIMEDOUT}
 use Rattle.tcp_state.specs.View.{View, is_syn_sent, is_syn_received, is_closed, is_over, is_at_end, end_of_wait, after_stop, after_reset}
-use Rattle.tcp_state.specs.Timing.{clocked, after_timers, gives_up, after_tick, tick_fate}
+use Rattle.tcp_state.specs.Timing.{gives_up, after_tick, tick_fate}
 use Rattle.tcp_state.specs.Due.{first_due, after_emitted}
 use Rattle.tcp_state.specs.Edges.{after_first}
 use Rattle.tcp_state.specs.Unreachable.{after_unreachable}
-use Rattle.tcp_halves.proofs.Choices.{either, and_left, and_right}
-use Rattle.tcp_state.proofs.Clocked.{timers_keep, emission}
+use Rattle.tcp_halves.proofs.Choices.{and_left, and_right}
+use Rattle.tcp_state.proofs.Clocked.{expiries_keep, emission}
 use Rattle.sockets.specs.declared.entry.SocketId.{SocketId}
 use Rattle.sockets.specs.declared.emission.Outgoing.{Outgoing}
 use Rattle.sockets.specs.declared.role.Role.{Role}
@@ -203,7 +203,7 @@ tick-kept now c kept p =
     (λ waits. by_test (gives_up c now)
     (λ given. rw (waits, given) (goes-on c (after_reset c (Some ETIMEDOUT)) (ended c) (λ left. refl) p, sym (tick-passed c now kept waits given p.passive)))
     (λ lives. rw (waits, lives)
-    (unmoved c _ (either View (IsUnmoved c) _ (clocked false (after_timers c now) now) c (λ comes. subst (IsUnmoved c) (sym (timers_keep c now)) (same c, refl)) (λ early. (same c, refl))) p)))
+    (unmoved c _ (subst (IsUnmoved c) (sym (expiries_keep c now)) (same c, refl)) p)))
 
 pub tick-stays : (now : Moment) (r : Role) → is_kept (tick_fate_of now r) ≡ true → IsPlain r → StaysReady r (role_after_tick now r)
 tick-stays now r kept p = stays-by (λ c. after_tick c now) r (λ c l is q. tick-kept now c (rw is at kept) q) p

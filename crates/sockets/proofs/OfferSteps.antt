@@ -29,7 +29,7 @@ use Rattle.sockets.specs.Calls.{is_table_full, port_bound, after_bind, next_offe
 use Rattle.sockets.specs.Datagrams.{end_sent_from, after_sendto, reception, after_reception}
 use Rattle.sockets.specs.Arrival.{room_for, local_end, peer_end, has_no_room, arrival_with_reply, offered_with, arrival, after_opening}
 use Rattle.sockets.specs.Lists.{change_first, remove_first}
-use Rattle.sockets.specs.Causes.{Event, Makes, MakesDatagrams, Binds, Listens, Accepts, Connects, Sends, Receives, Shuts, SetsNoDelay, Leaves, Ticks, Hears, Emits, GivesUp, Unreachable, SendsTo, ReceivesFrom, HearsDatagram, Follows, after_arrival, after_event}
+use Rattle.sockets.specs.Causes.{Event, Makes, MakesDatagrams, Binds, Listens, Accepts, Connects, Sends, Receives, Shuts, SetsNoDelay, SetsKeepAlive, Leaves, Ticks, Hears, Emits, GivesUp, Unreachable, SendsTo, ReceivesFrom, HearsDatagram, Follows, after_arrival, after_event}
 use Rattle.sockets.specs.Order.{IsAllowed}
 use Rattle.sockets.specs.Offered.{is_ready}
 use Rattle.sockets.proofs.Offered.{next-test, next-none}
@@ -336,6 +336,7 @@ outcome h (Sends id octets) allowed = called h id _
 outcome h (Receives id len) allowed = called h id _
 outcome h (Shuts id) allowed = called h id _
 outcome h (SetsNoDelay id on) allowed = called h id _
+outcome h (SetsKeepAlive id every) allowed = called h id _
 outcome h (Leaves how id) allowed = leaving-outcome h how id
 outcome h (Ticks now) allowed = let later = later_moment h now in still h _ refl refl (all-settled (tick_fate_of later) (role_after_tick later) h.entries (tick-stays later) (tick-gone later))
 outcome h (Hears now isn source s) allowed = segment-outcome h now isn source s

@@ -11,7 +11,7 @@ use Rattle.tcp_state.specs.Due.{first_due}
 use Rattle.tcp_state.specs.Edges as edge
 use Rattle.tcp_state.specs.declared.calls.Refusal.TheVariants.{ECONNREFUSED}
 use Rattle.tcp_state.proofs.Causes.{or_left, or_right}
-use Rattle.tcp_state.proofs.Clocked.{timers_keep}
+use Rattle.tcp_state.proofs.Clocked.{ticks_keep}
 use Rattle.tcp_state.proofs.Events.{by_event}
 use Rattle.sockets.specs.declared.entry.Entry.{Entry}
 use Rattle.sockets.specs.Entries.{is_kept}
@@ -50,10 +50,11 @@ event_left c e kept left =
     by_event (λ e w. is_kept (edge.fate_by c e) ≡ true → is_over w ≡ false) c
     (record {
       same = λ e kept. left;
+      asks = λ e alive kept. left;
       heard = λ s now live kept. heard_left c s live kept;
       over = λ now ends kept. let alone : c.released ≡ false = tick-alone c now kept (or_left _ _ ends) in rw alone;
       given_up = λ now waits gives kept. let alone : c.released ≡ false = tick-alone c now kept (or_right _ _ gives) in rw alone;
-      acts = λ now kept. ap is_over (timers_keep c now) ∙ left;
+      acts = λ now kept. ap is_over (ticks_keep c now) ∙ left;
       emits = λ now kept. unless_over (edge.after_first c (first_due c) now) kept;
       sends = λ octets taken now writes kept. left;
       reads = λ len kept. left;

@@ -1,5 +1,5 @@
 -- A call that is refused leaves the entry as it was.
-use Rattle.std.proofs.Common.{◌≡◌, ℕ, ◌||◌, if◌then◌else◌, Bool, List, Some, None, is_some, Result, Ok, Err, arith, refl, ap}
+use Rattle.std.proofs.Common.{◌≡◌, ℕ, ◌||◌, if◌then◌else◌, Bool, List, Option, Some, None, is_some, Result, Ok, Err, arith, refl, ap}
 use Rattle.std.proofs.lemmas.Grind.{common_steps}
 use Rattle.tcp_state.specs.declared.calls.Refusal.{Refusal as ConnectionRefusal}
 use Rattle.tcp_segment.specs.Segment.{Segment}
@@ -12,7 +12,7 @@ use Rattle.sockets.specs.declared.entry.Entry.{Entry}
 use Rattle.sockets.specs.declared.role.Role.{Role}
 use Rattle.sockets.specs.declared.role.Role.TheVariants.{Connected}
 use Rattle.sockets.specs.declared.refusal.Refusal.{Refusal}
-use Rattle.sockets.specs.Entries.{role_after_send, role_after_shutdown, role_after_nodelay, role_after_segment, fate_of, with_role}
+use Rattle.sockets.specs.Entries.{role_after_send, role_after_shutdown, role_after_nodelay, role_after_keepalive, role_after_segment, fate_of, with_role}
 use Rattle.sockets.specs.Calls.{role_send_answer, role_shutdown_refusal, role_nodelay_refusal, of_connection}
 
 -- what a connection takes is nothing where it refuses
@@ -40,6 +40,11 @@ shutdown-refused _ now e refused = refl
 pub nodelay-refused : (role : Role) (on : Bool) (now : Moment) (e : Refusal) → role_nodelay_refusal role ≡ Some e → role_after_nodelay on now role ≡ role
 nodelay-refused (Connected c listener) on now e refused = cc
 nodelay-refused _ on now e refused = refl
+
+-- .. nor the wish that a silent peer is asked
+pub keepalive-refused : (role : Role) (every : Option ℕ) (now : Moment) (e : Refusal) → role_nodelay_refusal role ≡ Some e → role_after_keepalive every now role ≡ role
+keepalive-refused (Connected c listener) every now e refused = cc
+keepalive-refused _ every now e refused = refl
 
 -- a segment that the connection refuses leaves the entry as it was
 pub entry_refused_segment : (e : Entry) (s : Segment) (now : Moment) → fate_of s e.role ≡ Rejected → with_role (role_after_segment now s) e ≡ e

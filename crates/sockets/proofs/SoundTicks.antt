@@ -8,14 +8,16 @@ use Rattle.clock.specs.declared.moment.Moment.{Moment}
 use Rattle.clock.specs.Moments.{has_come}
 use Rattle.retransmit.specs.Deadlines.{next_of}
 use Rattle.tcp_halves.specs.Stream.{outstanding}
-use Rattle.tcp_halves.proofs.Choices.{either}
+use Rattle.tcp_halves.proofs.Choices.{either, neither}
 use Rattle.tcp_state.specs.declared.calls.Refusal.{Refusal as Error}
 use Rattle.tcp_state.specs.declared.calls.Refusal.TheVariants.{ETIMEDOUT}
 use Rattle.tcp_state.specs.Resend.{IsSoundResend, mark_past}
 use Rattle.tcp_state.specs.View.{View, IsSound, is_syn_sent, is_closed, is_at_end, after_reset}
-use Rattle.tcp_state.specs.Timing.{probes, gives_up, clocked, retransmission_expired, probe_expired, after_expiry, delayed_ack_expired, override_expired, after_timers, after_tick}
+use Rattle.tcp_state.specs.Timing.{probes, expires_for_good, is_silent_for_good, gives_up, clocked, retransmission_expired, probe_expired, after_expiry, delayed_ack_expired, override_expired, after_timers, after_tick}
 use Rattle.tcp_state.specs.Edges as edge
 use Rattle.tcp_state.proofs.Clocked.{KeepsTo, timers_keep}
+use Rattle.tcp_state.proofs.Asked.{asked_sound}
+use Rattle.tcp_state.specs.Alive.{alive_after, after_silence}
 use Rattle.sockets.specs.declared.entry.Entry.{Entry}
 use Rattle.sockets.specs.declared.role.Role.{Role}
 use Rattle.sockets.specs.declared.role.Role.TheVariants.{Idle, Listener, Connected, Datagrams}
@@ -76,7 +78,7 @@ record Fits (v w : View) : Type 0 where
 first_mark : (out : ℕ) → ForSome (mark_past 0 out) (λ distance. distance < out)
 first_mark out distance is = by_test (nat_lt 0 out) (λ some. let zero_so : ◌≡◌ {A = Option ℕ} (Some 0) (Some distance) = rw some at is in grind (arith, nat_tests)) (λ none. let bad : ◌≡◌ {A = Option ℕ} None (Some distance) = rw none at is in cc)
 
-expiry_fits : (v : View) (now : Moment) → IsSound v → gives_up v now ≡ false → Fits v (after_expiry v now)
+expiry_fits : (v : View) (now : Moment) → IsSound v → expires_for_good v now ≡ false → Fits v (after_expiry v now)
 expiry_fits v now sound lives =
     either View (Fits v) (has_come v.timers.retransmission now) (retransmission_expired v) _
     (λ comes. let few : v.resend.expiries < 12 = grind (arith, nat_tests, common_steps) in record {
@@ -135,7 +137,7 @@ override_fits v w now f =
     })
     (λ early. f)
 
-acted_fits : (v : View) (now : Moment) → IsSound v → gives_up v now ≡ false → Fits v (clocked false (after_timers v now) now)
+acted_fits : (v : View) (now : Moment) → IsSound v → expires_for_good v now ≡ false → Fits v (clocked false (after_timers v now) now)
 acted_fits v now sound lives =
     let first = after_expiry v now in
     let second = delayed_ack_expired first now in
@@ -194,8 +196,12 @@ ticked_sound v now sound =
     (λ ends. rw ends (ended_sound v v.pending_error sound))
     (λ waits. by_test (gives_up v now)
     (λ over. rw (waits, over) (ended_sound v (Some ETIMEDOUT) sound))
-    (λ lives. rw (waits, lives) (either View IsSound (has_come (next_of v.timers) now) (clocked false (after_timers v now) now) v
-    (λ comes. acted_sound v (clocked false (after_timers v now) now) sound (timers_keep v now) (acted_fits v now sound lives)) (λ early. sound))))
+    (λ lives.
+    let asked = after_silence v now in
+    let still = asked_sound v (alive_after v now) sound in
+    let goes = (neither (expires_for_good v now) (is_silent_for_good v now) lives).0 in
+    rw (waits, lives) (either View IsSound (has_come (next_of v.timers) now) (clocked false (after_timers asked now) now) asked
+    (λ comes. acted_sound asked (clocked false (after_timers asked now) now) still (timers_keep asked now) (acted_fits asked now still goes)) (λ early. still))))
 
 role_sound : (now : Moment) (role : Role) → IsSoundRole role → IsSoundRole (role_after_tick now role)
 role_sound now (Connected c l) sound = let ends = keeps-event c (edge.Ticks now) in record {

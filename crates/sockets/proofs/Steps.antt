@@ -38,7 +38,7 @@ use Rattle.sockets.specs.Unreachable.{after_unreachable}
 use Rattle.sockets.specs.Calls.{port_bound, after_bind, is_next_at, port_connected, after_connect, after_socket_left, after_leaving}
 use Rattle.sockets.specs.Datagrams.{end_sent_from, after_sendto, reception, after_reception}
 use Rattle.sockets.specs.Arrival.{room_for, local_end, peer_end, arrival_with_reply}
-use Rattle.sockets.specs.Causes.{Event, Makes, MakesDatagrams, Binds, Listens, Accepts, Connects, Sends, Receives, Shuts, SetsNoDelay, Leaves, Ticks, Hears, Emits, GivesUp, Unreachable, SendsTo, ReceivesFrom, HearsDatagram, after_arrival, after_event, IsAdded, Follows}
+use Rattle.sockets.specs.Causes.{Event, Makes, MakesDatagrams, Binds, Listens, Accepts, Connects, Sends, Receives, Shuts, SetsNoDelay, SetsKeepAlive, Leaves, Ticks, Hears, Emits, GivesUp, Unreachable, SendsTo, ReceivesFrom, HearsDatagram, after_arrival, after_event, IsAdded, Follows}
 use Rattle.sockets.specs.Timing.{IsUpTo}
 use Rattle.sockets.specs.Traffic.{datagrams_taken}
 use Rattle.sockets.proofs.Arrivals.{IsCalled, by_arrival}
@@ -54,6 +54,7 @@ pub data IsEventOf (h : SocketsView) (x : Entry) : Event → edge.Event → Type
   reads_it : (id : SocketId) (len : ℕ) → is_socket id x ≡ true → IsEventOf h x (Receives id len) (edge.Receives len)
   shuts_it : (id : SocketId) → is_socket id x ≡ true → IsEventOf h x (Shuts id) (edge.Shuts h.kept)
   delays_it : (id : SocketId) (on : Bool) → is_socket id x ≡ true → IsEventOf h x (SetsNoDelay id on) (edge.SetsNoDelay on h.kept)
+  asks_it : (id : SocketId) (every : Option ℕ) → is_socket id x ≡ true → IsEventOf h x (SetsKeepAlive id every) (edge.SetsKeepAlive every h.kept)
   closes_it : (how : Leave) (id : SocketId) → is_socket id x ≡ true → in_connection true (is_closed_by how) x.role ≡ true → IsEventOf h x (Leaves how id) (edge.Closes h.kept)
   resets_it : (how : Leave) (id : SocketId) → is_socket id x ≡ true → in_connection true (is_closed_by how) x.role ≡ false → IsEventOf h x (Leaves how id) (edge.Aborts h.kept)
   aborts_it : (how : Leave) (id : SocketId) → is_waiting_at id x ≡ true → IsEventOf h x (Leaves how id) (edge.Aborts h.kept)
@@ -473,6 +474,7 @@ stepped h (Sends id octets) = calls h (Sends id octets) id _ (edge.Sends octets 
 stepped h (Receives id len) = calls h (Receives id len) id _ (edge.Receives len) refl (λ c. read_either c len) (λ x named. reads_it id len named) staying
 stepped h (Shuts id) = calls h (Shuts id) id _ (edge.Shuts h.kept) refl (λ c. shut_either c h.kept) (λ x named. shuts_it id named) staying
 stepped h (SetsNoDelay id on) = calls h (SetsNoDelay id on) id _ (edge.SetsNoDelay on h.kept) refl (λ c. inr refl) (λ x named. delays_it id on named) staying
+stepped h (SetsKeepAlive id every) = calls h (SetsKeepAlive id every) id _ (edge.SetsKeepAlive every h.kept) refl (λ c. inr refl) (λ x named. asks_it id every named) staying
 stepped h (Leaves how id) = leaving_stepped h how id
 stepped h (Ticks now) = tick_stepped h now
 stepped h (Hears now isn source s) = segment_stepped h now isn source s

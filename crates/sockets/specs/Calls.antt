@@ -1,5 +1,5 @@
 -- The call table: for each socket call its refusal, by the tests in their order, and what it makes of the table.
-use Rattle.std.specs.Prelude.{ℕ, ◌+◌, ◌^◌, ◌≡◌, Bool, false, ◌==◌, ◌&&◌, ◌||◌, not, nat_lt, if◌then◌else◌, List, [], ◌∷◌, ◌++◌, length, take, drop, filter, Option, Some, None, find, Result, Ok, Err, is_some, option_map, option_and_then}
+use Rattle.std.specs.Prelude.{ℕ, ◌+◌, ◌^◌, ◌≡◌, Bool, true, false, ◌==◌, ◌&&◌, ◌||◌, not, nat_lt, nat_le, if◌then◌else◌, List, [], ◌∷◌, ◌++◌, length, take, drop, filter, Option, Some, None, find, Result, Ok, Err, is_some, option_map, option_and_then}
 use Rattle.std.specs.List.{list_any}
 use Rattle.std.specs.Option.{ok_or, unwrap_or}
 use Rattle.std.specs.Result.{result_ok, result_err}
@@ -15,7 +15,8 @@ use Rattle.tcp_state.specs.declared.calls.Refusal.TheVariants as connection_vari
 use Rattle.tcp_state.specs.Calls as connection_calls
 use Rattle.tcp_state.specs.View.{is_opening}
 use Rattle.sockets.specs.declared.table.TheConstants.{ENTRIES}
-use Rattle.sockets.specs.declared.calls.TheConstants.{MOST_BACKLOG}
+use Rattle.sockets.specs.declared.calls.TheConstants.{MOST_BACKLOG, LEAST_KEEPALIVE}
+use Rattle.tcp_state.specs.declared.alive.TheConstants.{MOST_KEEPALIVE}
 use Rattle.sockets.specs.declared.entry.SocketId.{SocketId}
 use Rattle.sockets.specs.declared.entry.Kind.{Kind}
 use Rattle.sockets.specs.declared.entry.Kind.TheVariants.{Tcp, Udp}
@@ -28,7 +29,7 @@ use Rattle.sockets.specs.declared.role.Role.TheVariants.{Idle, Listener, Connect
 use Rattle.sockets.specs.declared.refusal.Refusal.{Refusal}
 use Rattle.sockets.specs.declared.refusal.Refusal.TheVariants.{EBADF, EINVAL, EADDRINUSE, EADDRNOTAVAIL, EISCONN, ENOTCONN, EALREADY, EAGAIN, ENETUNREACH, EOPNOTSUPP, ECONNREFUSED, ECONNRESET, ETIMEDOUT, EPIPE, EDESTADDRREQ}
 use Rattle.sockets.specs.Ports.{first_port, is_free_port, is_unused_port, is_free_datagram_port}
-use Rattle.sockets.specs.Entries.{is_socket, is_between, is_waiting_as, is_waiting_id, peer_of, shown_state, new_socket, new_datagram_socket, role_after_bind, role_after_listen, role_after_connect, role_after_accept, role_after_send, role_after_recv, role_after_shutdown, role_after_nodelay, role_after_leaving, leaving_fate_of, role_after_listener_close, listener_close_fate_of, entries_after_step, entries_after_steps, with_role}
+use Rattle.sockets.specs.Entries.{is_socket, is_between, is_waiting_as, is_waiting_id, peer_of, shown_state, new_socket, new_datagram_socket, role_after_bind, role_after_listen, role_after_connect, role_after_accept, role_after_send, role_after_recv, role_after_shutdown, role_after_nodelay, role_after_keepalive, role_after_leaving, leaving_fate_of, role_after_listener_close, listener_close_fate_of, entries_after_step, entries_after_steps, with_role}
 use Rattle.sockets.specs.SocketsView.{SocketsView, role_of, with_socket, room_of}
 use Rattle.sockets.specs.Lists.{change_first, remove_first}
 
@@ -263,6 +264,18 @@ nodelay_refusal h id = refusal_at h id role_nodelay_refusal
 
 abbrev pub after_nodelay : SocketsView → SocketId → Bool → SocketsView
 after_nodelay h id on = with_socket h id (role_after_nodelay on h.kept)
+
+-- a peer may be asked whether it is there after so long: ten seconds at least, a day at most
+abbrev pub may_ask_after : Option ℕ → Bool
+may_ask_after None = true
+may_ask_after (Some every) = nat_le LEAST_KEEPALIVE every && nat_le every MOST_KEEPALIVE
+
+-- what the wish that a silent peer is asked is refused for: another time than may be, and then what that for no delay is
+abbrev pub keepalive_refusal : SocketsView → SocketId → Option ℕ → Option Refusal
+keepalive_refusal h id every = refusal_at h id (λ role. if may_ask_after every then role_nodelay_refusal role else Some EINVAL)
+
+abbrev pub after_keepalive : SocketsView → SocketId → Option ℕ → SocketsView
+after_keepalive h id every = with_socket h id (role_after_keepalive every h.kept)
 
 -- close and abort are refused only where the id names no socket
 abbrev pub close_refusal : SocketsView → SocketId → Option Refusal

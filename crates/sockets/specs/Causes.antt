@@ -23,7 +23,7 @@ use Rattle.sockets.specs.Ticks.{after_tick}
 use Rattle.sockets.specs.Lost.{is_given_up, loses_hop, after_giving_up}
 use Rattle.sockets.specs.Emission.{after_segment_sent}
 use Rattle.sockets.specs.Unreachable.{after_unreachable}
-use Rattle.sockets.specs.Calls.{after_socket, after_datagram_socket, after_bind, after_listen, after_accept, after_connect, after_send, after_recv, after_shutdown, after_nodelay, after_leaving}
+use Rattle.sockets.specs.Calls.{after_socket, after_datagram_socket, after_bind, after_listen, after_accept, after_connect, after_send, after_recv, after_shutdown, after_nodelay, after_keepalive, after_leaving}
 use Rattle.sockets.specs.Datagrams.{after_sendto, after_recvfrom, after_reception}
 use Rattle.sockets.specs.Arrival.{Arrival, Becomes, Opens, NoRoom, Answers, local_end, peer_end, is_opening, arrival}
 
@@ -40,6 +40,7 @@ pub data Event : Type 0 where
   Receives : SocketId → ℕ → Event
   Shuts : SocketId → Event
   SetsNoDelay : SocketId → Bool → Event
+  SetsKeepAlive : SocketId → Option ℕ → Event
   Leaves : Leave → SocketId → Event
   Ticks : Moment → Event
   Hears : Moment → ℕ → Addr → Segment → Event
@@ -68,6 +69,7 @@ after_event h (Sends id octets) = after_send h id octets
 after_event h (Receives id len) = after_recv h id len
 after_event h (Shuts id) = after_shutdown h id
 after_event h (SetsNoDelay id on) = after_nodelay h id on
+after_event h (SetsKeepAlive id every) = after_keepalive h id every
 after_event h (Leaves how id) = after_leaving h how id
 after_event h (Ticks now) = after_tick h now
 after_event h (Hears now isn source s) = after_arrival h (arrival h now isn source s)

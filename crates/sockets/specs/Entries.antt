@@ -12,6 +12,7 @@ use Rattle.tcp_segment.specs.Segment.{Segment}
 use Rattle.tcp_state.specs.declared.connection.Fate.{Fate}
 use Rattle.tcp_state.specs.declared.connection.Fate.TheVariants.{Stays, Removed, Rejected}
 use Rattle.tcp_state.specs.Arrival.{after_segment_at, fate}
+use Rattle.tcp_state.specs.Alive.{after_set_keepalive}
 use Rattle.tcp_state.specs.Calls.{after_send, after_recv, after_shutdown, after_set_nodelay, after_abort, abort_fate}
 use Rattle.tcp_state.specs.Unreachable.{after_unreachable, unreachable_fate}
 use Rattle.tcp_state.specs.declared.emission.Due.{Due}
@@ -270,6 +271,10 @@ role_after_send now octets role = on_connection (λ c. after_send c octets now) 
 -- small segments of the connection wait for what is outstanding from this moment on, or don't
 abbrev pub role_after_nodelay : Bool → Moment → Role → Role
 role_after_nodelay on now role = on_connection (λ c. after_set_nodelay c on now) role
+
+-- the connection's peer is asked whether it is there from this moment on, or no more
+abbrev pub role_after_keepalive : Option ℕ → Moment → Role → Role
+role_after_keepalive every now role = on_connection (λ c. after_set_keepalive c every now) role
 
 -- our side of the connection is closed at a moment, where it is past its opening and told no error
 abbrev pub role_after_shutdown : Moment → Role → Role

@@ -11,9 +11,9 @@ use Rattle.sockets.specs.Entries.{is_between, is_datagrams_at}
 use Rattle.sockets.specs.Ids.{AreAscending}
 use Rattle.sockets.specs.SocketsView.{SocketsView}
 use Rattle.sockets.specs.Ports.{IsDynamic}
-use Rattle.sockets.specs.Calls.{is_table_full, bind_refusal, listen_refusal, accept_answer, connect_refusal, send_answer, recv_answer, shutdown_refusal, nodelay_refusal, close_refusal}
+use Rattle.sockets.specs.Calls.{is_table_full, bind_refusal, listen_refusal, accept_answer, connect_refusal, send_answer, recv_answer, shutdown_refusal, nodelay_refusal, keepalive_refusal, close_refusal}
 use Rattle.sockets.specs.Datagrams.{sendto_answer, recvfrom_answer}
-use Rattle.sockets.specs.Causes.{Event, Makes, MakesDatagrams, Binds, Listens, Accepts, Connects, Sends, Receives, Shuts, SetsNoDelay, Leaves, Ticks, Hears, Emits, GivesUp, Unreachable, SendsTo, ReceivesFrom, HearsDatagram}
+use Rattle.sockets.specs.Causes.{Event, Makes, MakesDatagrams, Binds, Listens, Accepts, Connects, Sends, Receives, Shuts, SetsNoDelay, SetsKeepAlive, Leaves, Ticks, Hears, Emits, GivesUp, Unreachable, SendsTo, ReceivesFrom, HearsDatagram}
 
 -- bound to the port over TCP without a connection, or a listener at it
 abbrev pub has_for_itself : ℕ → Role → Bool
@@ -56,6 +56,7 @@ IsAllowed h (Sends id octets) = is_ok (send_answer h id octets) ≡ true
 IsAllowed h (Receives id len) = is_ok (recv_answer h id len) ≡ true
 IsAllowed h (Shuts id) = shutdown_refusal h id ≡ None
 IsAllowed h (SetsNoDelay id on) = nodelay_refusal h id ≡ None
+IsAllowed h (SetsKeepAlive id every) = keepalive_refusal h id every ≡ None
 IsAllowed h (Leaves how id) = close_refusal h id ≡ None
 IsAllowed h (Ticks now) = Unit {0}
 IsAllowed h (Hears now isn source s) = same_addr source h.addr ≡ false

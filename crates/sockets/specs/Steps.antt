@@ -14,7 +14,7 @@ use Rattle.sockets.specs.SocketsView.{SocketsView, later_moment}
 use Rattle.sockets.specs.Lost.{is_given_up, loses_hop}
 use Rattle.sockets.specs.Calls.{is_next_at, port_connected}
 use Rattle.sockets.specs.Arrival.{local_end, peer_end}
-use Rattle.sockets.specs.Causes.{Event, Binds, Listens, Accepts, Connects, Sends, Receives, Shuts, SetsNoDelay, Leaves, Ticks, Hears, Emits, GivesUp, Unreachable, SendsTo, ReceivesFrom, HearsDatagram, is_next_out}
+use Rattle.sockets.specs.Causes.{Event, Binds, Listens, Accepts, Connects, Sends, Receives, Shuts, SetsNoDelay, SetsKeepAlive, Leaves, Ticks, Hears, Emits, GivesUp, Unreachable, SendsTo, ReceivesFrom, HearsDatagram, is_next_out}
 use Rattle.sockets.specs.Traffic.{is_stream}
 
 -- Which event of an entry's connection an event of the table is, if any: a call of its socket, but for a read into an empty buffer; the close or the abort of its
@@ -25,6 +25,7 @@ event_of h (Sends id octets) x = if is_socket id x then Some (edge.Sends octets 
 event_of h (Receives id len) x = if len == 0 then None else if is_socket id x then Some (edge.Receives len) else None
 event_of h (Shuts id) x = if is_socket id x then Some (edge.Shuts h.kept) else None
 event_of h (SetsNoDelay id on) x = if is_socket id x then Some (edge.SetsNoDelay on h.kept) else None
+event_of h (SetsKeepAlive id every) x = if is_socket id x then Some (edge.SetsKeepAlive every h.kept) else None
 event_of h (Leaves how id) x = if is_socket id x then Some (in_connection (edge.Closes h.kept) (leaving_event how h.kept) x.role) else if is_waiting_at id x then Some (edge.Aborts h.kept) else None
 event_of h (Ticks now) x = Some (edge.Ticks (later_moment h now))
 event_of h (Hears now isn source s) x = if is_between (local_end h s) (peer_end source s) x then Some (edge.Hears s (later_moment h now)) else None

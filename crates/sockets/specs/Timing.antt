@@ -1,5 +1,5 @@
 -- What every connection of the table keeps of its timers and of its congestion window, and how far its timers may lie ahead.
-use Rattle.std.specs.Prelude.{◌≡◌, ◌+◌, ◌≤◌, ◌<◌, ◌^◌, List, [], ◌∷◌, Some}
+use Rattle.std.specs.Prelude.{◌≡◌, ◌+◌, ◌≤◌, ◌<◌, ◌^◌, List, [], ◌∷◌, Some, None}
 use Rattle.std.specs.List.{AllByRecursion}
 use Rattle.clock.specs.declared.moment.Moment.{Moment}
 use Rattle.retransmit.specs.declared.timers.TimerKind.{TimerKind}
@@ -36,11 +36,12 @@ abbrev pub AreSound : SocketsView → List Event → Type 0
 AreSound h [] = Unit {0}
 AreSound h (e ∷ rest) = IsSoundTable h × IsNumbered e × AreSound (after_event h e) rest
 
--- a connection counts its wait, and that for its hop, from this moment at the latest, and each of its timers runs until a minute past it at the latest
+-- a connection counts its wait, that for its hop and that for a silent peer from this moment at the latest, and each of its timers runs until a minute past it at the latest
 pub record IsNear (latest : Moment) (c : View) : Type 0 where
   pub since : c.since.0 ≤ latest.0
   pub unheard : (since : Moment) → c.unheard ≡ Some since → since.0 ≤ latest.0
   pub timers : (kind : TimerKind) (deadline : Moment) → deadline_of c.timers kind ≡ Some deadline → deadline.0 ≤ latest.0 + 60000
+  pub asked : c.alive.since.0 ≤ latest.0
 
 abbrev pub IsNearIn : Moment → Role → Type 0
 IsNearIn latest (Connected c listener) = IsNear latest c
@@ -52,6 +53,16 @@ IsNearIn latest (Datagrams bound socket) = Unit {0}
 pub record AreNear (latest : Moment) (h : SocketsView) : Type 0 where
   pub kept : h.kept.0 ≤ latest.0
   pub each : AllByRecursion (λ (e : Entry). IsNearIn latest e.role) h.entries
+
+-- no connection of the table asks a silent peer whether it is there
+abbrev pub AsksNone : Role → Type 0
+AsksNone (Connected c listener) = c.alive.every ≡ None
+AsksNone (Listener local backlog) = Unit {0}
+AsksNone (Idle buffers bound) = Unit {0}
+AsksNone (Datagrams bound socket) = Unit {0}
+
+abbrev pub NoneAsks : SocketsView → Type 0
+NoneAsks h = AllByRecursion (λ (e : Entry). AsksNone e.role) h.entries
 
 -- an event names this moment at the latest, where it names one
 abbrev pub IsUpTo : Moment → Event → Type 0

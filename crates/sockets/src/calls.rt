@@ -4,7 +4,7 @@ ghost use Rattle.std.specs.Prelude.{◌≡◌, ◌^◌, ◌<◌, ◌≤◌, ◌�
 ghost use Rattle.tcp_halves.specs.declared.buffers.Buffers.{Buffers};
 ghost use Rattle.std.specs.Result.{result_err};
 ghost use Rattle.std.specs.Option.{ok_or};
-ghost use Rattle.sockets.specs.Calls.{open_answer};
+ghost use Rattle.sockets.specs.Calls.{open_answer, may_ask_after};
 ghost use Rattle.sockets.specs.SocketsView.{room_of};
 
 use crate::entry::{Entry, Kind, SocketId};
@@ -17,7 +17,7 @@ use crate::{index, ports};
 use ipv4::{Addr, Endpoint, Pair};
 use std::alloc::{AllocError, Global};
 use tcp_segment::Seq;
-use tcp_state::{Buffers, CAPACITY, LARGEST_CAPACITY, Manner, Received, State};
+use tcp_state::{Buffers, CAPACITY, LARGEST_CAPACITY, MOST_KEEPALIVE, Manner, Received, State};
 use udp_socket::UdpSocket;
 
 /// The address that stands for every address of ours.
@@ -26,6 +26,9 @@ const ANY: Addr = Addr([0; 4]);
 /// How many connections may wait at a listener at most.
 pub const MOST_BACKLOG: usize = 8;
 
+/// The least time, in milliseconds, after which a silent peer may be asked whether it is there: ten seconds.
+pub const LEAST_KEEPALIVE: u64 = 10_000;
+
 #[tactic(auto, using(crate::proofs::Firsts::firsts))]
 impl Sockets {
     ghost use Rattle.sockets.specs.SocketsView.{SocketsView, later_moment};
@@ -33,7 +36,7 @@ impl Sockets {
     ghost use Rattle.sockets.specs.Index.{filed};
     ghost use Rattle.sockets.specs.Ports.{is_bindable};
     ghost use Rattle.udp_socket.specs.SocketView.{new_socket as new_udp_socket};
-    ghost use Rattle.sockets.specs.Calls.{after_socket, after_datagram_socket, bind_refusal, after_bind, port_at, port_bound, last_port_bound, sockname_answer, peername_answer, listen_refusal, after_listen, state_answer, is_table_full, IsMade, is_next_at, accept_answer, after_accept, send_answer, after_send, recv_answer, recv_front, after_recv, connect_refusal, after_connect, reach_refusal, port_for, last_port_after, pair_connected, shutdown_refusal, after_shutdown, nodelay_refusal, after_nodelay};
+    ghost use Rattle.sockets.specs.Calls.{after_socket, after_datagram_socket, bind_refusal, after_bind, port_at, port_bound, last_port_bound, sockname_answer, peername_answer, listen_refusal, after_listen, state_answer, is_table_full, IsMade, is_next_at, accept_answer, after_accept, send_answer, after_send, recv_answer, recv_front, after_recv, connect_refusal, after_connect, reach_refusal, port_for, last_port_after, pair_connected, shutdown_refusal, after_shutdown, nodelay_refusal, after_nodelay, keepalive_refusal, after_keepalive};
 
     /// Makes a socket, with the room for one connection, or with the two queues of a UDP socket. EMFILE where the table is full or the last id
     /// is given, ENOMEM.
@@ -410,6 +413,26 @@ impl Sockets {
         self.entries[place].role.set_nodelay(kept, on)
     }
 
+    /// Whether the peer of a connection is asked whether it is there, from now on: after so many milliseconds each without a segment of it, while
+    /// nothing of ours waits for it (SO_KEEPALIVE, RFC 9293 section 3.8.4, RFC 1122 section 4.2.3.6). At first it isn't. A peer that doesn't answer
+    /// is asked again after the retransmission timeout, and then each time after twice as long, a minute at most; the thirteenth time ends the
+    /// connection, and every call reports ETIMEDOUT.
+    ///
+    /// EBADF; EINVAL of less than `LEAST_KEEPALIVE` or more than `MOST_KEEPALIVE`; EOPNOTSUPP of a UDP socket and where the socket listens;
+    /// ENOTCONN where it has had no connection.
+    pub fn set_keepalive(&mut self, id: SocketId, every: Option<u64>) -> Result<(), Refusal>
+        ensures refused { result_err result ≡ keepalive_refusal self.old id every }
+        ensures ok { OnOk result (self.new ≡ after_keepalive self.old id every) }
+        ensures err { OnErr result (self.new ≡ self.old) }
+    {
+        let place = self.socket_place(id)?;
+        if !may_ask_after(every) {
+            return Err(Refusal::EINVAL);
+        }
+        let kept = self.kept;
+        self.entries[place].role.set_keepalive(kept, every)
+    }
+
     /// The state of a socket (RFC 9293 section 3.3.2), CLOSED where it has had no connection, or that it is a UDP socket. EBADF.
     pub fn state(&self, id: SocketId) -> Result<SocketState, Refusal>
         ensures { result ≡ state_answer self.now id }
@@ -452,4 +475,14 @@ pub(crate) fn new_buffers(alloc: Global, manner: Manner) -> Result<Buffers, Allo
         CAPACITY
     };
     Buffers::new(alloc, capacity, manner)
+}
+
+/// Whether a silent peer may be asked after so many milliseconds, or not at all.
+fn may_ask_after(every: Option<u64>) -> bool
+    ensures { result ≡ may_ask_after every }
+{
+    match every {
+        None => true,
+        Some(every) => LEAST_KEEPALIVE <= every && every <= MOST_KEEPALIVE,
+    }
 }

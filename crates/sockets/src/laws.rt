@@ -33,7 +33,7 @@ ghost use Rattle.sockets.specs.Datagrams.{sendto_answer, after_sendto, sending_e
 ghost use Rattle.sockets.specs.Calls.{refusal_of, connect_refusal, after_connect, send_answer, recv_answer, shutdown_refusal, pair_connected};
 ghost use Rattle.sockets.specs.Pairs.{socket_pair};
 ghost use Rattle.sockets.specs.Sound.{IsSoundTable, NoneIsOver};
-ghost use Rattle.sockets.specs.Timing.{EachKeepsTime, IsNumbered, AreSound, IsNear, AreNear, IsUpTo};
+ghost use Rattle.sockets.specs.Timing.{EachKeepsTime, IsNumbered, AreSound, IsNear, AreNear, NoneAsks, IsUpTo};
 ghost use Rattle.sockets.specs.Leaving.{EachLeavesAWindow, IsSized};
 ghost use Rattle.sockets.specs.Ports.{first_port, IsDynamic, IsFirstBehind};
 ghost use Rattle.sockets.specs.declared.calls.TheConstants.{MOST_BACKLOG};
@@ -109,7 +109,7 @@ pub fn ticks_leave_tables_sound()
 {}
 
 /// No timer of a connection runs until later than a minute past the latest moment that the table was told of, and no wait is counted from a later one: in a new table, over each event, and over a list
-/// of them. So no deadline lies more than 240,000 ms past it, the time that TIME-WAIT lasts (RFC 9293 section 3.4.2), and no wait for a hop ends more than 483,000 ms past it. A segment, an emission and what is given up are taken at a moment that the table
+/// of them. So no deadline lies more than a day past it, and none more than 240,000 ms, the time that TIME-WAIT lasts (RFC 9293 section 3.4.2), where no silent peer is asked; and no wait for a hop ends more than 483,000 ms past it. A segment, an emission and what is given up are taken at a moment that the table
 /// doesn't keep; where each names none but what the table keeps, since a tick told it, all this is said of the kept moment.
 pub fn timers_lie_near()
     ensures fresh { (addr : Addr) (manner : Manner) (latest : Moment) → AreNear latest (new_sockets addr manner) }
@@ -117,7 +117,8 @@ pub fn timers_lie_near()
     ensures over { (h : SocketsView) (events : List Event) (latest : Moment) → AreSound h events → AllByRecursion (IsUpTo latest) events → AreNear latest h → AreNear latest (after_events h events) }
     ensures kept { (h : SocketsView) (e : Event) → IsSoundTable h → let after = after_event h e in IsUpTo after.kept e → AreNear h.kept h → AreNear after.kept after }
     ensures hop { (c : View) (latest until : Moment) → IsNear latest c → unheard_until c ≡ Some until → until.0 ≤ latest.0 + 483000 }
-    ensures deadline { (h : SocketsView) (latest moment : Moment) → AreNear latest h → least_deadline h ≡ Some moment → moment.0 ≤ latest.0 + 240000 }
+    ensures deadline { (h : SocketsView) (latest moment : Moment) → AreNear latest h → NoneAsks h → least_deadline h ≡ Some moment → moment.0 ≤ latest.0 + 240000 }
+    ensures asking { (h : SocketsView) (latest moment : Moment) → AreNear latest h → least_deadline h ≡ Some moment → moment.0 ≤ latest.0 + 86400000 }
 {}
 
 /// An open connection of which nothing is due, and that has nothing to be read, leaves its peer a window of a segment at least, whether it has spoken or not: so it is in a new table, and over each event that makes no socket of less room

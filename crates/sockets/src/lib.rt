@@ -29,7 +29,7 @@ mod table;
 mod taken;
 mod unreachable;
 
-pub use calls::MOST_BACKLOG;
+pub use calls::{LEAST_KEEPALIVE, MOST_BACKLOG};
 pub use datagrams::Reception;
 pub use emission::{Emitted, Outgoing};
 pub use entry::{Entry, Kind, SocketId};

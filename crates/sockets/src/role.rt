@@ -384,7 +384,7 @@ impl Role {
 /// What the calls, a segment, an error, the clock and an emission make of a role. Each names the role that it is for, and leaves any other.
 impl Role {
     ghost use Rattle.sockets.specs.Index.{filed_as};
-    ghost use Rattle.sockets.specs.Entries.{role_after_bind, role_after_listen, role_after_connect, role_after_accept, role_after_send, role_after_recv, role_after_shutdown, role_after_nodelay, role_after_segment, fate_of, role_after_unreachable, unreachable_fate_of, role_after_tick, tick_fate_of, role_after_emission, emission_fate_of, due_emitted, due_front, has_room_to_send, role_after_sendto, role_after_recvfrom, has_room_to_receive, role_after_reception, role_after_leaving, leaving_fate_of, role_after_abort, abort_fate_of, role_after_listener_close, listener_close_fate_of};
+    ghost use Rattle.sockets.specs.Entries.{role_after_bind, role_after_listen, role_after_connect, role_after_accept, role_after_send, role_after_recv, role_after_shutdown, role_after_nodelay, role_after_keepalive, role_after_segment, fate_of, role_after_unreachable, unreachable_fate_of, role_after_tick, tick_fate_of, role_after_emission, emission_fate_of, due_emitted, due_front, has_room_to_send, role_after_sendto, role_after_recvfrom, has_room_to_receive, role_after_reception, role_after_leaving, leaving_fate_of, role_after_abort, abort_fate_of, role_after_listener_close, listener_close_fate_of};
     ghost use Rattle.sockets.specs.Calls.{role_send_answer, role_recv_answer, role_shutdown_refusal, role_nodelay_refusal, read_front};
     ghost use Rattle.sockets.specs.Datagrams.{role_recvfrom_answer, datagram_front};
     ghost use Rattle.sockets.specs.Lost.{give_up_fate_of, role_after_giving_up};
@@ -494,6 +494,21 @@ impl Role {
             Role::Listener { .. } | Role::Datagrams { .. } => Err(Refusal::EOPNOTSUPP),
             Role::Connected { connection, .. } => {
                 connection.set_nodelay(now, on);
+                Ok(())
+            }
+        }
+    }
+
+    /// Whether the peer is asked whether it is there, from this moment on, after so many milliseconds each without a segment of it.
+    pub(crate) fn set_keepalive(&mut self, now: Moment, every: Option<u64>) -> Result<(), Refusal>
+        ensures refused { result_err result ≡ role_nodelay_refusal self.old }
+        ensures after { self.new ≡ role_after_keepalive every now self.old }
+    {
+        match self {
+            Role::Idle { .. } => Err(Refusal::ENOTCONN),
+            Role::Listener { .. } | Role::Datagrams { .. } => Err(Refusal::EOPNOTSUPP),
+            Role::Connected { connection, .. } => {
+                connection.set_keepalive(now, every);
                 Ok(())
             }
         }

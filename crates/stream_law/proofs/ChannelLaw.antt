@@ -1,9 +1,9 @@
 -- Every channel that runs is lawful.
 use Rattle.std.proofs.Common.{ℕ, ◌+◌, ◌≤◌, ◌^◌, ◌++◌, sym, ◌∙◌, ap, append_assoc, append-nil}
 use Rattle.stream_law.specs.Channel.{Channel}
-use Rattle.stream_law.specs.ChannelSteps.{Step, opens, writes, closes, emits_syn, emits_text, emits_bare, synchronises, delivers, emits_ack, acknowledges, reads, reads_end, sending_stops, receiving_stops, Runs, starts, steps, IsLawful}
+use Rattle.stream_law.specs.ChannelSteps.{Step, opens, writes, closes, emits_syn, emits_text, emits_bare, emits_before, synchronises, delivers, emits_ack, acknowledges, reads, reads_end, sending_stops, receiving_stops, Runs, starts, steps, IsLawful}
 use Rattle.stream_law.proofs.Invariant.{Holds}
-use Rattle.stream_law.proofs.Keeping.{holds-fresh, keeps-opens, keeps-writes, keeps-closes, keeps-emits_syn, keeps-emits_bare}
+use Rattle.stream_law.proofs.Keeping.{holds-fresh, keeps-opens, keeps-writes, keeps-closes, keeps-emits_syn, keeps-emits_bare, keeps-emits_before}
 use Rattle.stream_law.proofs.KeepingText.{keeps-emits_text}
 use Rattle.stream_law.proofs.KeepingArrival.{keeps-synchronises, keeps-emits_ack, keeps-reads, keeps-reads_end, keeps-sending_stops, keeps-receiving_stops}
 use Rattle.stream_law.proofs.KeepingOctets.{Near, keeps-delivers, keeps-acknowledges}
@@ -16,6 +16,7 @@ keeps-step cap limit small _ _ (emits_syn c s is unacked) h = keeps-emits_syn ca
 keeps-step cap limit small _ _ (emits_text c s before octets after fin is acked unfinished held last) h =
     keeps-emits_text cap small.buffer c s before octets after fin is acked unfinished held last h
 keeps-step cap limit small _ _ (emits_bare c s is) h = keeps-emits_bare cap c s is h
+keeps-step cap limit small _ _ (emits_before c s is acked) h = keeps-emits_before cap c s is acked h
 keeps-step cap limit small _ _ (synchronises c f is among syn) h = keeps-synchronises cap c f is among syn h
 keeps-step cap limit small _ _ (delivers c y f gained kept fin is among recent gains keeps ends) h =
     keeps-delivers cap limit small c y f gained kept fin is among recent gains keeps ends h

@@ -5,6 +5,7 @@ use Rattle.clock.specs.Moments.{has_come}
 use Rattle.tcp_segment.specs.Segment.{Segment}
 use Rattle.tcp_state.specs.View.{View}
 use Rattle.tcp_state.specs.Timing.{clocked, retransmission_expired, probe_expired, after_expiry, delayed_ack_expired, override_expired, after_timers}
+use Rattle.tcp_state.specs.Alive.{after_silence}
 use Rattle.tcp_state.specs.Arrival.{before, timed_by}
 use Rattle.stream_law.specs.ChannelViews.{SameStream}
 use Rattle.stream_law.proofs.ConnectionArrival.{either}
@@ -39,7 +40,11 @@ same-timers v now =
         (λ comes. record { state = h.state; held = h.held; una = h.una; nxt = h.nxt; readable = h.readable; kept = h.kept; rnext = h.rnext; pending_error = h.pending_error; released = h.released })
         (λ waits. h)
 
+-- nor does it matter whether a silent peer is asked
+same-asked : (v w : View) (now : Moment) → SameStream (after_silence v now) w → SameStream v w
+same-asked v w now h = record { state = h.state; held = h.held; una = h.una; nxt = h.nxt; readable = h.readable; kept = h.kept; rnext = h.rnext; pending_error = h.pending_error; released = h.released }
+
 -- a tick changes no stream, whether the moment of a timer has come or not
-pub same-acted : (v : View) (come : Bool) (now : Moment) → SameStream v (if come then clocked false (after_timers v now) now else v)
-same-acted v true now = same-clocked v (after_timers v now) false now (same-timers v now)
-same-acted v false now = same-view v
+pub same-acted : (v : View) (come : Bool) (now : Moment) → SameStream v (if come then clocked false (after_timers (after_silence v now) now) now else after_silence v now)
+same-acted v true now = let asked = after_silence v now in same-asked v (clocked false (after_timers asked now) now) now (same-clocked asked (after_timers asked now) false now (same-timers asked now))
+same-acted v false now = let asked = after_silence v now in same-asked v asked now (same-view asked)

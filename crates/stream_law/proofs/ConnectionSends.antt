@@ -1,12 +1,11 @@
 -- What a connection takes from its caller, and what it sends, is a step of each of its two channels.
-use Rattle.std.proofs.Common.{◌≡◌, ℕ, ◌+◌, ◌-◌, ◌<◌, ◌≤◌, ◌^◌, ◌%◌, ◌||◌, ◌==◌, min, nat_le, if◌then◌else◌, not, inl, inr, Bool, true, false, List, [], ◌∷◌, ◌++◌, length, take, drop, is_some, arith, refl, sym, ◌∙◌, ap, subst, append-nil, append_assoc, length-append, length-drop}
+use Rattle.std.proofs.Common.{◌≡◌, ℕ, ◌+◌, ◌-◌, ◌<◌, ◌≤◌, ◌^◌, ◌%◌, ◌||◌, ◌==◌, min, if◌then◌else◌, not, Bool, true, false, List, [], ◌∷◌, ◌++◌, length, take, drop, is_some, arith, refl, sym, ◌∙◌, ap, subst, append-nil, append_assoc, length-append, length-drop}
 use Rattle.std.proofs.lemmas.Bool.{eqb-true}
-use Rattle.std.proofs.lemmas.Bool.Decides.{leb_tells}
 use Rattle.std.proofs.lemmas.List.{length-take, take-append-drop}
 use Rattle.tcp_segment.specs.Wire.{past}
 use Rattle.tcp_segment.specs.Sent.{sent_segment}
 use Rattle.clock.specs.declared.moment.Moment.{Moment}
-use Rattle.tcp_state.specs.declared.emission.Due.TheVariants.{Syn, Text, Probe, Ack as AckAlone}
+use Rattle.tcp_state.specs.declared.emission.Due.TheVariants.{Syn, Text, Probe, Ack as AckAlone, KeepAlive}
 use Rattle.tcp_state.specs.declared.emission.Stretch.{Stretch}
 use Rattle.tcp_state.specs.declared.state.State.{State}
 use Rattle.tcp_state.specs.declared.state.State.TheVariants.{FinWait1, Closing, LastAck}
@@ -19,7 +18,7 @@ use Rattle.tcp_state.specs.Timing.{clocked}
 use Rattle.tcp_state.specs.Calls.{send_count, with_octets, after_send}
 use Rattle.tcp_state.specs.Due.{IsHeld, probe_stretch, end_of, octets_of_stretch, head_of, octets_of}
 use Rattle.stream_law.specs.Channel.{Open, Waiting, Synchronised, Channel, number_of}
-use Rattle.stream_law.specs.ChannelSteps.{Step, writes, emits_syn, emits_text, emits_bare, emits_ack, span}
+use Rattle.stream_law.specs.ChannelSteps.{Step, writes, emits_syn, emits_text, emits_bare, emits_before, emits_ack, span}
 use Rattle.stream_law.specs.ChannelViews.{sender_of, receiver_of, SendsInto, ReceivesFrom, frame_of}
 use Rattle.stream_law.proofs.KeepingText.{chosen}
 use Rattle.stream_law.proofs.Sizes.{finished-holds-nothing}
@@ -216,3 +215,13 @@ pub emits-ack : (cap limit : ℕ) (v : View) (d : Channel) → is_syn_sent v.sta
     → Step cap limit d (record d { acks = record { number = v.receiving.rnext; written_at = length d.written } ∷ d.acks })
 emits-ack cap limit v d synchronised shows =
     emits_ack d (receiver_of v.receiving) (shows.receiving ∙ ap (λ b. if b then Waiting else Synchronised (receiver_of v.receiving)) synchronised)
+
+-- the probe of a silent peer has the number before SND.NXT
+pub emits-asks : (cap limit : ℕ) (v : View) (c : Channel) → is_opening v.state ≡ false → SendsInto v c
+    → Step cap limit c (record c {
+      sending = Open (sender_of v);
+      frames = frame_of (sent_segment (head_of v KeepAlive) (octets_of v KeepAlive)) (length c.written) ∷ c.frames;
+    })
+emits-asks cap limit v c opened shows =
+    subst (λ x. Step cap limit c (record c { sending = x; frames = frame_of (sent_segment (head_of v KeepAlive) (octets_of v KeepAlive)) (length c.written) ∷ c.frames })) shows.sending
+    (emits_before c (sender_of v) shows.sending (ap not opened))

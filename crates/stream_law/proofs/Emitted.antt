@@ -1,7 +1,7 @@
 -- What goes out moves SND.NXT at most, and of the rest of both streams it changes nothing.
-use Rattle.std.proofs.Common.{◌≡◌, ℕ, ◌+◌, ◌%◌, ◌^◌, if◌then◌else◌, not, Bool, true, false, nat_lt, nat_le, refl, sym, ◌∙◌, ap₂}
+use Rattle.std.proofs.Common.{◌≡◌, ℕ, ◌+◌, if◌then◌else◌, not, Bool, true, false, nat_lt, nat_le, refl, sym, ◌∙◌, ap₂}
 use Rattle.clock.specs.declared.moment.Moment.{Moment}
-use Rattle.tcp_state.specs.declared.emission.Due.TheVariants.{Syn, Text, Probe, Ack}
+use Rattle.tcp_state.specs.declared.emission.Due.TheVariants.{Syn, Text, Probe, Ack, KeepAlive}
 use Rattle.tcp_state.specs.declared.emission.Stretch.{Stretch}
 use Rattle.tcp_state.specs.declared.state.State.{State}
 use Rattle.tcp_state.specs.View.{View, is_opening, is_syn_sent, is_syn_received, is_write_finished}
@@ -92,6 +92,11 @@ probe-out v now =
 
 pub ack-out : (v : View) (now : Moment) → GoesOut v (after_emitted v Ack now) v.sending
 ack-out v now = timed v (after_going_out v Ack now) v.sending now (paid v v v.sending true (record { state = refl; sending = refl; receiver = refl; readable = refl }))
+
+pub asks-out : (v : View) (now : Moment) → GoesOut v (after_emitted v KeepAlive now) v.sending
+asks-out v now =
+    let same = same_receiver v.receiving (has_grown v.receiving) _ in
+    timed v (after_going_out v KeepAlive now) v.sending now (record { state = refl; sending = refl; receiver = same.0; readable = same.1 })
 
 -- what the channels see of it
 pub sender-out : (v w : View) (half : SendingHalf) → GoesOut v w half

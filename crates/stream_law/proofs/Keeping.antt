@@ -1,5 +1,6 @@
 -- Each step keeps the invariant: what a caller does, what a half does, and what goes out.
-use Rattle.std.proofs.Common.{◌≡◌, ℕ, ◌+◌, ◌<◌, ◌≤◌, ◌^◌, ◌%◌, Bool, true, false, List, [], ◌∷◌, ◌++◌, length, arith, refl, sym, ◌∙◌, ap, subst, append_assoc, length-append}
+use Rattle.std.proofs.Common.{◌≡◌, ℕ, ◌+◌, ◌-◌, ◌<◌, ◌≤◌, ◌^◌, ◌%◌, Bool, true, false, List, [], ◌∷◌, ◌++◌, length, arith, refl, sym, ◌∙◌, ap, subst, append_assoc, length-append}
+use Rattle.tcp_segment.specs.Wire.{wire}
 use Rattle.stream_law.specs.Channel.{Frame, Sender, Sending, Unopened, Open, Stopped, Receiving, Waiting, Synchronised, Gone, Channel, IsAmong, here, there, number_of}
 use Rattle.stream_law.specs.ChannelSteps.{fresh, sender_from}
 use Rattle.stream_law.proofs.Invariant.{StandsAt, Text, SenderFits, SendingFits, ReceivingFits, FrameFits, Holds}
@@ -247,11 +248,12 @@ keeps-emits_syn cap c s is unacked h =
       acks = h.acks;
     }
 
-pub keeps-emits_bare : (cap : ℕ) (c : Channel) (s : Sender) → c.sending ≡ Open s → Holds cap c
-    → Holds cap (record c { frames = record { number = s.nxt; octets = []; syn = false; fin = false; written_at = length c.written } ∷ c.frames })
-keeps-emits_bare cap c s is h =
+-- a segment without octets, SYN or FIN, at a position of which all that was written is near
+keeps-bare : (cap : ℕ) (c : Channel) (s : Sender) (number at : ℕ) → c.sending ≡ Open s → (h : Holds cap c) → number ≡ wire h.isn at → length c.written ≤ at + cap → at ≤ h.n
+    → Holds cap (record c { frames = record { number = number; octets = []; syn = false; fin = false; written_at = length c.written } ∷ c.frames })
+keeps-bare cap c s number at is h numbered near sent =
     let k : SenderFits cap h.isn c.written c.closed s h.u h.n = subst (λ v. SendingFits cap h.isn c.written c.closed c.frames v h.u h.n) is h.sending in
-    let o = h.order in
+    let f : Frame = record { number = number; octets = []; syn = false; fin = false; written_at = length c.written } in
     record {
       isn = h.isn;
       u = h.u;
@@ -259,17 +261,26 @@ keeps-emits_bare cap c s is h =
       n = h.n;
       order = h.order;
       text = h.text;
-      sending = subst (λ v. SendingFits cap h.isn c.written c.closed (record { number = s.nxt; octets = []; syn = false; fin = false; written_at = length c.written } ∷ c.frames) v h.u h.n) (sym is) k;
+      sending = subst (λ v. SendingFits cap h.isn c.written c.closed (f ∷ c.frames) v h.u h.n) (sym is) k;
       receiving = h.receiving;
-      frames = frames_more (FrameFits cap h.isn c.written c.closed h.n) (record { number = s.nxt; octets = []; syn = false; fin = false; written_at = length c.written }) c.frames
-          (record {
-            at = h.n;
-            number = k.nxt;
-            text = λ j o e. cc;
-            syn = λ e. cc;
-            fin = λ e. cc;
-            within = omega (arith, o.within, o.received, o.sent);
-            sent = omega arith;
-          }) h.frames;
+      frames = frames_more (FrameFits cap h.isn c.written c.closed h.n) f c.frames
+          (record { at = at; number = numbered; text = λ j o e. cc; syn = λ e. cc; fin = λ e. cc; within = near; sent = omega (arith, sent) }) h.frames;
       acks = h.acks;
     }
+
+pub keeps-emits_bare : (cap : ℕ) (c : Channel) (s : Sender) → c.sending ≡ Open s → Holds cap c
+    → Holds cap (record c { frames = record { number = s.nxt; octets = []; syn = false; fin = false; written_at = length c.written } ∷ c.frames })
+keeps-emits_bare cap c s is h =
+    let k : SenderFits cap h.isn c.written c.closed s h.u h.n = subst (λ v. SendingFits cap h.isn c.written c.closed c.frames v h.u h.n) is h.sending in
+    let o = h.order in
+    keeps-bare cap c s s.nxt h.n is h k.nxt (omega (arith, o.within, o.received, o.sent)) (omega arith)
+
+pub keeps-emits_before : (cap : ℕ) (c : Channel) (s : Sender) → c.sending ≡ Open s → s.syn_acked ≡ true → Holds cap c
+    → Holds cap (record c { frames = record { number = (s.nxt + (2 ^ 32 - 1)) % 2 ^ 32; octets = []; syn = false; fin = false; written_at = length c.written } ∷ c.frames })
+keeps-emits_before cap c s is acked h =
+    let k : SenderFits cap h.isn c.written c.closed s h.u h.n = subst (λ v. SendingFits cap h.isn c.written c.closed c.frames v h.u h.n) is h.sending in
+    let o = h.order in
+    let one : number_of s.syn_acked ≡ 1 = ap number_of acked in
+    let text : length c.written ≡ length k.taken + length s.held = ap length k.text ∙ length-append k.taken s.held in
+    let some : 1 ≤ h.n = omega (arith, one, k.position, o.received, o.sent) in
+    keeps-bare cap c s ((s.nxt + (2 ^ 32 - 1)) % 2 ^ 32) (h.n - 1) is h (omega (arith, k.nxt, some)) (omega (arith, one, text, k.room, k.position, o.received, o.sent)) (omega arith)

@@ -3,22 +3,23 @@ use Rattle.std.proofs.Common.{◌≡◌, ℕ, ◌+◌, ◌<◌, ◌≤◌, ◌||
 use Rattle.tcp_segment.specs.Segment.{Segment}
 use Rattle.tcp_segment.specs.Sent.{sent_segment}
 use Rattle.tcp_state.specs.declared.emission.Due.{Due}
-use Rattle.tcp_state.specs.declared.emission.Due.TheVariants.{Rst, Syn, Text, Probe, Ack as AckAlone}
+use Rattle.tcp_state.specs.declared.emission.Due.TheVariants.{Rst, Syn, Text, Probe, Ack as AckAlone, KeepAlive}
 use Rattle.tcp_state.specs.declared.emission.Stretch.{Stretch}
 use Rattle.clock.specs.declared.moment.Moment.{Moment}
 use Rattle.tcp_state.specs.declared.state.State.{State}
-use Rattle.tcp_state.specs.declared.state.State.TheVariants.{Closed, SynSent, SynReceived, FinWait1, Closing, LastAck}
+use Rattle.tcp_state.specs.declared.state.State.TheVariants.{Closed, SynSent, SynReceived, Established, FinWait1, FinWait2, CloseWait, Closing, LastAck}
 use Rattle.tcp_state.specs.View.{View, IsSound, is_opening, is_syn_sent, is_syn_received, is_closed, is_listening, is_write_closed, is_read_closed, is_write_finished, awaits_fin_ack}
 use Rattle.tcp_halves.specs.Halves.{Sending as SendingHalf}
 use Rattle.tcp_halves.specs.Stream.{outstanding, after_sent}
+use Rattle.tcp_state.specs.Alive.{may_rest}
 use Rattle.tcp_state.specs.Due.{MayGoOut, IsHeld, probe_stretch, end_of, flags_of, head_of, octets_of, after_emitted}
 use Rattle.stream_law.specs.Channel.{Channel, Ack, Open, IsAmong, here, there}
 use Rattle.stream_law.specs.ChannelSteps.{Step, steps}
 use Rattle.stream_law.specs.ChannelViews.{Leads, stays, goes, sender_of, receiving_of, SendsInto, ReceivesFrom, IsOfWidth, frame_of, ack_of}
 use Rattle.stream_law.specs.Pairing.{Present, Emission, Pairing, with_connection}
 use Rattle.stream_law.proofs.Sizes.{opening-holds-nothing, finished-holds-nothing}
-use Rattle.stream_law.proofs.ConnectionSends.{emits-syn, emits-stretch, emits-probe, emits-alone, emits-ack}
-use Rattle.stream_law.proofs.Emitted.{GoesOut, syn-out, stretch-out, probe-out, ack-out, sender-out, receiving-out}
+use Rattle.stream_law.proofs.ConnectionSends.{emits-syn, emits-stretch, emits-probe, emits-alone, emits-asks, emits-ack}
+use Rattle.stream_law.proofs.Emitted.{GoesOut, syn-out, stretch-out, probe-out, ack-out, asks-out, sender-out, receiving-out}
 use Rattle.stream_law.proofs.PairingInvariant.{Shown, runs_on, other_stays, connected, living, receives}
 
 -- the acknowledgement that a segment carries joins those of the channel from which the end receives
@@ -178,6 +179,19 @@ went-ack cap limit v into now sound past shows =
     (emits-alone cap limit v into sound shows)
     (λ e. (past, refl))
 
+resting_open : (t : State) → may_rest t ≡ true → (is_opening t ≡ false) × (is_closed t ≡ false)
+resting_open Established e = (refl, refl)
+resting_open CloseWait e = (refl, refl)
+resting_open FinWait2 e = (refl, refl)
+resting_open _ e = cc
+
+went-asks : (cap limit : ℕ) (v : View) (into : Channel) (now : Moment) → is_opening v.state ≡ false → SendsInto v into
+    → Went cap limit v (after_emitted v KeepAlive now) into (sent_segment (head_of v KeepAlive) (octets_of v KeepAlive))
+went-asks cap limit v into now opened shows =
+    went-out cap limit v (after_emitted v KeepAlive now) into (sent_segment (head_of v KeepAlive) (octets_of v KeepAlive)) v.sending (asks-out v now)
+    (emits-asks cap limit v into opened shows)
+    (λ e. (opened_past v.state opened, refl))
+
 neither : (a b : Bool) → (a || b) ≡ false → (a ≡ false) × (b ≡ false)
 neither true b e = cc
 neither false b e = (refl, e)
@@ -197,6 +211,7 @@ unclosed_goes v Syn sound may unreset = opening_unclosed v.state may
 unclosed_goes v (Text stretch) sound may unreset = unfinished_unclosed v.state (unfinished v stretch sound may)
 unclosed_goes v Probe sound may unreset = unfinished_unclosed v.state (unfinished v (probe_stretch v) sound may)
 unclosed_goes v AckAlone sound may unreset = (neither (is_syn_sent v.state) (is_closed v.state) may).1
+unclosed_goes v KeepAlive sound may unreset = (resting_open v.state may).1
 
 pub moves-emits : (cap limit : ℕ) (p : Pairing) (v : View) (due : Due) (now : Moment) → p.own.connection ≡ Present v → IsSound v → MayGoOut v due
     → (let f = flags_of v due in f.rst) ≡ false → IsOfWidth (sent_segment (head_of v due) (octets_of v due)) → Shown cap limit p
@@ -214,3 +229,4 @@ moves-emits cap limit p v due now is sound may unreset width h =
     went (Text stretch) may reset shows = went-text cap limit v h.into stretch now sound may shows
     went Probe may reset shows = went-probe cap limit v h.into now sound may shows
     went AckAlone may reset shows = went-ack cap limit v h.into now sound (neither (is_syn_sent v.state) (is_closed v.state) may).0 shows
+    went KeepAlive may reset shows = went-asks cap limit v h.into now (resting_open v.state may).0 shows

@@ -1,7 +1,7 @@
 -- Where a SYN is acknowledged, octets may be written while something is under way: else no acknowledgement is in time.
 use Rattle.std.proofs.Common.{◌≡◌, ◌⊎◌, inl, inr, ℕ, zero, suc, ◌+◌, ◌<◌, ◌≤◌, true, false, List, ◌∷◌, ◌++◌, length, length-append, arith, refl, sym, ◌∙◌, ap}
 use Rattle.stream_law.specs.Channel.{Ack, Sender, Open, Channel, IsAmong, here, there}
-use Rattle.stream_law.specs.ChannelSteps.{Step, opens, writes, closes, emits_syn, emits_text, emits_bare, synchronises, delivers, emits_ack, acknowledges, reads, reads_end, sending_stops, receiving_stops, sender_from, Runs, starts, steps}
+use Rattle.stream_law.specs.ChannelSteps.{Step, opens, writes, closes, emits_syn, emits_text, emits_bare, emits_before, synchronises, delivers, emits_ack, acknowledges, reads, reads_end, sending_stops, receiving_stops, sender_from, Runs, starts, steps}
 
 -- of a channel without a limit: no acknowledgement went out later than all that is written, and no SYN is acknowledged
 record Unheard (c : Channel) : Type 0 where
@@ -29,6 +29,7 @@ unheard-step cap _ _ (closes c) h = record { acks = h.acks; unacked = h.unacked 
 unheard-step cap _ d (emits_syn c s is unacked) h = record { acks = h.acks; unacked = still-unacked c d s _ h is refl refl }
 unheard-step cap _ d (emits_text c s before octets after fin is acked unfinished held last) h = record { acks = h.acks; unacked = still-unacked c d s _ h is refl refl }
 unheard-step cap _ _ (emits_bare c s is) h = record { acks = h.acks; unacked = h.unacked }
+unheard-step cap _ _ (emits_before c s is acked) h = record { acks = h.acks; unacked = h.unacked }
 unheard-step cap _ _ (synchronises c f is among syn) h = record { acks = h.acks; unacked = h.unacked }
 unheard-step cap _ _ (delivers c y f gained kept fin is among recent gains keeps ends) h = record { acks = h.acks; unacked = h.unacked }
 unheard-step cap _ _ (emits_ack c y is) h = record {

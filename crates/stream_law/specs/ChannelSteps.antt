@@ -70,6 +70,9 @@ pub data Step (cap limit : ℕ) : Channel → Channel → Type 0 where
   -- a segment without octets, SYN or FIN goes out at SND.NXT
   emits_bare : (c : Channel) (s : Sender) → c.sending ≡ Open s
       → Step cap limit c (record c { frames = record { number = s.nxt; octets = []; syn = false; fin = false; written_at = length c.written } ∷ c.frames })
+  -- .. or once the SYN is acknowledged at the number before that
+  emits_before : (c : Channel) (s : Sender) → c.sending ≡ Open s → s.syn_acked ≡ true
+      → Step cap limit c (record c { frames = record { number = (s.nxt + (2 ^ 32 - 1)) % 2 ^ 32; octets = []; syn = false; fin = false; written_at = length c.written } ∷ c.frames })
   -- a SYN arrives where y waits for it
   synchronises : (c : Channel) (f : Frame) → c.receiving ≡ Waiting → IsAmong f c.frames → f.syn ≡ true
       → Step cap limit c (record c { receiving = Synchronised (record { rnext = (f.number + 1) % 2 ^ 32; kept = nothing_kept }) })

@@ -65,7 +65,7 @@ again_ends v mark sound within =
 pub ends_sent : (v : View) (stretch : Stretch) → IsSound v → first_due v ≡ Some (Text stretch) → stretch.offset < outstanding v.sending
     → (stretch.count ≤ v.sending.smss) × (end_of stretch ≤ outstanding v.sending) × ((end_of stretch ≡ outstanding v.sending) ⊎ (stretch.count ≡ v.sending.smss))
 ends_sent v stretch sound first = by_due (λ o. (t : Stretch) → o ≡ Some (Text t) → EndsSent v t) v (record {
-  nothing = λ quiet t e. cc;
+  nothing = λ quiet heard t e. cc;
   rst = λ owes t e. cc;
   syn = λ opening goes t e. cc;
   once_more = λ opened mark is goes t e. let same : again v mark ≡ t = cc in subst (EndsSent v) same (again_ends v mark sound);
@@ -73,6 +73,7 @@ ends_sent v stretch sound first = by_due (λ o. (t : Stretch) → o ≡ Some (Te
   fin = λ opened sends t e. let same : fin_alone v ≡ t = cc in subst (EndsSent v) same (λ before. absurd (omega (arith, before)));
   probe = λ opened owes goes t e. cc;
   ack = λ owes t e. cc;
+  asks = λ quiet owes t e. cc;
 }) stretch first
 
 -- SND.NXT stays
@@ -104,7 +105,7 @@ again_within v mark goes before = elim (or_else (mark == 0) (nat_lt mark (open_w
 pub keeps_within : (v : View) (stretch : Stretch) → first_due v ≡ Some (Text stretch) → stretch.offset < outstanding v.sending
     → (stretch.offset ≡ 0) ⊎ ((stretch.offset < v.sending.window) × (stretch.offset < v.congestion.cwnd))
 keeps_within v stretch first = by_due (λ o. (t : Stretch) → o ≡ Some (Text t) → Within v t) v (record {
-  nothing = λ quiet t e. cc;
+  nothing = λ quiet heard t e. cc;
   rst = λ owes t e. cc;
   syn = λ opening goes t e. cc;
   once_more = λ opened mark is goes t e. let same : again v mark ≡ t = cc in subst (Within v) same (again_within v mark goes);
@@ -112,6 +113,7 @@ keeps_within v stretch first = by_due (λ o. (t : Stretch) → o ≡ Some (Text 
   fin = λ opened sends t e. let same : fin_alone v ≡ t = cc in subst (Within v) same (λ before. absurd (omega (arith, before)));
   probe = λ opened owes goes t e. cc;
   ack = λ owes t e. cc;
+  asks = λ quiet owes t e. cc;
 }) stretch first
 
 -- The mark moves on, and is gone where all that is outstanding went out again.

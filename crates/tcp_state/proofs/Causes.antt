@@ -10,6 +10,7 @@ use Rattle.tcp_state.specs.declared.state.State.TheVariants.{Closed, Established
 use Rattle.tcp_halves.specs.Numbers.{is_before}
 use Rattle.tcp_halves.specs.Stream.{is_new_ack}
 use Rattle.tcp_state.specs.View.{View, is_syn_sent, is_syn_received, is_closed, is_over, awaits_fin_ack, is_at_end, after_reset}
+use Rattle.tcp_state.specs.Alive.{after_silence}
 use Rattle.tcp_state.specs.Timing.{gives_up}
 use Rattle.tcp_state.specs.Calls.{beyond_shutdown, is_removed_by_close, is_aborted_by_close}
 use Rattle.tcp_state.specs.Arrival.{is_receiving, beyond_fin, beyond_end, is_of_fin, after_ack, is_read, after_window, after_text, after_fin, ends_by_syn, ends_by_reset, ends_opening, is_acting_reset, after_segment, is_lost, after_lost, after_heard, is_rejected}
@@ -17,7 +18,7 @@ use Rattle.tcp_state.specs.Due.{first_due}
 use Rattle.tcp_state.specs.Unreachable.{is_unreachable, after_unreachable}
 use Rattle.clock.specs.Moments.{has_come}
 use Rattle.tcp_state.specs.Hop.{unheard_until}
-use Rattle.tcp_state.specs.Edges.{Event, Hears, Ticks, Emits, Sends, Receives, Shuts, SetsNoDelay, Closes, Aborts, Unreachable, LosesHop, after_first, after_event, fate_by, is_removed, is_reset_by, is_last_ack, ends_by_ack, is_cause, ends_by}
+use Rattle.tcp_state.specs.Edges.{Event, Hears, Ticks, Emits, Sends, Receives, Shuts, SetsNoDelay, SetsKeepAlive, Closes, Aborts, Unreachable, LosesHop, after_first, after_event, fate_by, is_removed, is_reset_by, is_last_ack, ends_by_ack, is_cause, ends_by}
 use Rattle.tcp_state.proofs.Clocked.{timers_keep, emission_keeps}
 pub use Rattle.tcp_halves.proofs.Choices.{both, or_left, or_right, or_else, not_true, of_false}
 use Rattle.tcp_halves.proofs.Choices.{either, by, clash, and_left, and_right, else_chosen}
@@ -205,15 +206,17 @@ removal_caused v (Sends octets now) lives e = cc
 removal_caused v (Receives len) lives e = cc
 removal_caused v (Shuts now) lives e = cc
 removal_caused v (SetsNoDelay on now) lives e = cc
+removal_caused v (SetsKeepAlive every now) lives e = cc
 
 -- .. and so has what becomes CLOSED
 closing_caused : (v : View) (e : Event) → is_closed v.state ≡ false → is_closed (after_event v e).state ≡ true → is_cause v e ≡ true
 closing_caused v e lives = by_event (λ e w. is_closed w.state ≡ true → is_cause v e ≡ true) v (record {
   same = λ e closed. clash (is_closed v.state) closed lives;
+  asks = λ e alive closed. clash (is_closed v.state) closed lives;
   heard = λ s now comes. heard_caused v s now lives;
   over = λ now ends closed. or_left (is_at_end v now) (gives_up v now) ends;
   given_up = λ now waits expired closed. or_right (is_at_end v now) (gives_up v now) expired;
-  acts = λ now closed. clash (is_closed v.state) (sym (ap (λ (w : View). is_closed w.state) (timers_keep v now)) ∙ closed) lives;
+  acts = λ now closed. clash (is_closed v.state) (sym (ap (λ (w : View). is_closed w.state) (timers_keep (after_silence v now) now)) ∙ closed) lives;
   emits = λ now closed. clash (is_closed v.state) (sym (ap is_closed (emitted-state v (first_due v) now)) ∙ closed) lives;
   sends = λ octets taken now opened closed. clash (is_closed v.state) closed lives;
   reads = λ len closed. clash (is_closed v.state) closed lives;

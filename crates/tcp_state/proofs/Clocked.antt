@@ -2,6 +2,9 @@
 use Rattle.std.proofs.Common.{◌≡◌, ℕ, ◌-◌, ◌==◌, ◌&&◌, ◌||◌, ◌⊎◌, not, nat_lt, Bool, true, false, if◌then◌else◌, Option, Some, None, is_some, length, inl, inr, refl, sym, ◌∙◌, ap, subst}
 use Rattle.std.proofs.lemmas.Bool.Decides.{eqb_tells}
 use Rattle.clock.specs.declared.moment.Moment.{Moment}
+use Rattle.tcp_state.specs.declared.alive.KeepAlive.{KeepAlive}
+use Rattle.retransmit.specs.Deadlines.{next_of}
+use Rattle.tcp_state.specs.Alive.{heard_now, after_silence}
 use Rattle.tcp_segment.specs.Segment.{Segment}
 use Rattle.tcp_state.specs.declared.state.State.{State}
 use Rattle.tcp_state.specs.declared.state.State.TheVariants.{FinWait2, TimeWait}
@@ -9,12 +12,12 @@ use Rattle.tcp_state.specs.declared.timing.TheConstants.{OVERRIDE_WAIT}
 use Rattle.clock.specs.Moments.{has_come}
 use Rattle.tcp_state.specs.declared.arrival.Before.{Before}
 use Rattle.tcp_state.specs.declared.emission.Due.{Due}
-use Rattle.tcp_state.specs.declared.emission.Due.TheVariants.{Rst, Syn, Text, Probe, Ack}
+use Rattle.tcp_state.specs.declared.emission.Due.TheVariants.{Rst, Syn, Text, Probe, Ack, KeepAlive as Asks}
 use Rattle.tcp_state.specs.declared.emission.Stretch.{Stretch}
 use Rattle.tcp_halves.specs.Stream.{outstanding, after_sent}
 use Rattle.tcp_state.specs.View.{View, is_opening, is_syn_received, is_closed}
 use Rattle.tcp_state.specs.Resend.{Resend, resend_probed, resend_acknowledged, resend_lost}
-use Rattle.tcp_state.specs.Timing.{KeepsTime, probes, retransmits, awaits_more, running, retransmission_timer, probe_timer, delayed_ack_timer, override_timer, interval_of, awaits_first, unheard_since, clocked, retransmission_expired, probe_expired, after_expiry, delayed_ack_expired, override_expired, after_timers}
+use Rattle.tcp_state.specs.Timing.{KeepsTime, probes, retransmits, awaits_more, running, retransmission_timer, probe_timer, delayed_ack_timer, override_timer, interval_of, awaits_first, unheard_since, clocked, retransmission_expired, probe_expired, after_expiry, delayed_ack_expired, override_expired, after_timers, after_expiries}
 use Rattle.tcp_state.specs.Arrival.{after_heard, is_rejected, begins_wait, answers_probe, is_duplicate, before, since_after, is_moved, resend_heard, resend_after, congestion_event_of, reveals_loss, congestion_after, timed_by, after_segment_at}
 use Rattle.tcp_state.specs.Due.{probe_stretch, end_of, after_syn_ack_paid, after_resent, after_first_sent, after_numbers, after_new_octets, after_new_text, brings_new_octets, after_syn_again, after_syn_out, after_stretch, after_probe, after_going_out, after_emitted}
 use Rattle.tcp_state.specs.Edges.{after_first}
@@ -28,12 +31,12 @@ use Rattle.tcp_state.proofs.Awaited.{waits_on}
 
 -- Timers.
 
--- nothing changed but what is owed, the retransmission state, the timers, the congestion window, and since when a first segment waits
+-- nothing changed but what is owed, the retransmission state, the timers, the congestion window, since when a first segment waits, and what is known of a silent peer
 abbrev pub KeepsTo : View → View → Type 0
-KeepsTo v w = w ≡ record v { owes_ack = w.owes_ack; resend = w.resend; timers = w.timers; congestion = w.congestion; unheard = w.unheard }
+KeepsTo v w = w ≡ record v { owes_ack = w.owes_ack; resend = w.resend; timers = w.timers; congestion = w.congestion; unheard = w.unheard; alive = w.alive }
 
 keeps_on : (v w x : View) → KeepsTo v w → KeepsTo w x → KeepsTo v x
-keeps_on v w x first then_kept = then_kept ∙ ap (λ (u : View). record u { owes_ack = x.owes_ack; resend = x.resend; timers = x.timers; congestion = x.congestion; unheard = x.unheard }) first
+keeps_on v w x first then_kept = then_kept ∙ ap (λ (u : View). record u { owes_ack = x.owes_ack; resend = x.resend; timers = x.timers; congestion = x.congestion; unheard = x.unheard; alive = x.alive }) first
 
 expiry_keeps : (v : View) (now : Moment) → KeepsTo v (after_expiry v now)
 expiry_keeps v now =
@@ -55,6 +58,14 @@ timers_keep v now =
     let third = override_expired second now in
     keeps_on v third (clocked false third now) (keeps_on v second third (keeps_on v first second (expiry_keeps v now) (delayed_ack_keeps first now)) (override_keeps second now)) refl
 
+-- .. once a silent peer is asked
+pub ticks_keep : (v : View) (now : Moment) → KeepsTo v (clocked false (after_timers (after_silence v now) now) now)
+ticks_keep v now = let asked = after_silence v now in keeps_on v asked (clocked false (after_timers asked now) now) refl (timers_keep asked now)
+
+-- a tick that ends nothing
+pub expiries_keep : (v : View) (now : Moment) → KeepsTo v (after_expiries (after_silence v now) now)
+expiries_keep v now = let asked = after_silence v now in either View (KeepsTo v) (has_come (next_of v.timers) now) (clocked false (after_timers asked now) now) asked (λ comes. ticks_keep v now) (λ early. refl)
+
 -- the other timers leave the retransmission state, but for the override, and the timers of an expiry
 pub by_others : (P : View → Type 0) (v : View) (now : Moment) → P (after_expiry v now) → ((w : View) (owes : Bool) → P w → P (record w { owes_ack = owes }))
     → ((w : View) → P w → P (record w { resend = record w.resend { overridden = true }; timers = record w.timers { overriding = None } })) → P (after_timers v now)
@@ -66,13 +77,13 @@ by_others P v now first acks over =
 
 -- What goes out.
 
--- nothing changed but the two halves, the acknowledgements that are owed, whether it has spoken, the retransmission state, the timers, and since when a first segment waits
+-- nothing changed but the two halves, the acknowledgements that are owed, whether it has spoken, the retransmission state, the timers, since when a first segment waits, and what is known of a silent peer
 abbrev pub Emitted : View → View → Type 0
-Emitted v w = w ≡ record v { sending = w.sending; receiving = w.receiving; owes_ack = w.owes_ack; delays_ack = w.delays_ack; spoke = w.spoke; resend = w.resend; timers = w.timers; unheard = w.unheard }
+Emitted v w = w ≡ record v { sending = w.sending; receiving = w.receiving; owes_ack = w.owes_ack; delays_ack = w.delays_ack; spoke = w.spoke; resend = w.resend; timers = w.timers; unheard = w.unheard; alive = w.alive }
 
 emits_on : (v w x : View) → Emitted v w → Emitted w x → Emitted v x
 emits_on v w x first then_kept =
-    then_kept ∙ ap (λ (u : View). record u { sending = x.sending; receiving = x.receiving; owes_ack = x.owes_ack; delays_ack = x.delays_ack; spoke = x.spoke; resend = x.resend; timers = x.timers; unheard = x.unheard }) first
+    then_kept ∙ ap (λ (u : View). record u { sending = x.sending; receiving = x.receiving; owes_ack = x.owes_ack; delays_ack = x.delays_ack; spoke = x.spoke; resend = x.resend; timers = x.timers; unheard = x.unheard; alive = x.alive }) first
 
 numbers_emitted : (v : View) (offset end : ℕ) (now : Moment) → Emitted v (after_numbers v offset end now)
 numbers_emitted v offset end now =
@@ -107,6 +118,7 @@ emission v Syn now = let sent = after_going_out v Syn now in inr (emits_on v sen
 emission v (Text stretch) now = let sent = after_stretch v stretch now in inr (emits_on v sent (after_emitted v (Text stretch) now) (stretch_emitted v stretch now) refl)
 emission v Probe now = let sent = after_probe v in inr (emits_on v sent (after_emitted v Probe now) (probe_emitted v) refl)
 emission v Ack now = inr refl
+emission v Asks now = inr refl
 
 -- what is due first goes out, if anything is
 pub emission_keeps : (v : View) (due : Option Due) (now : Moment) → Emitted (record v { owes_reset = (after_first v due now).owes_reset }) (after_first v due now)
@@ -141,7 +153,7 @@ owed_still true probing e = e refl
 owed_still false probing e = refl
 
 -- the parts of the retransmission state and the timers, one by one
-parts : (v : View) (owes : Bool) (since : Moment) (interval : ℕ) (probe : Bool) (resending probing ack overriding unheard : Option Moment) → interval ≡ v.resend.interval → probe ≡ v.resend.owes_probe
+parts : (v : View) (owes : Bool) (since : Moment) (alive : KeepAlive) (interval : ℕ) (probe : Bool) (resending probing ack overriding unheard : Option Moment) → interval ≡ v.resend.interval → probe ≡ v.resend.owes_probe
     → resending ≡ v.timers.retransmission → probing ≡ v.timers.probe → overriding ≡ v.timers.overriding → unheard ≡ v.unheard
     → record v {
       owes_ack = owes;
@@ -149,15 +161,16 @@ parts : (v : View) (owes : Bool) (since : Moment) (interval : ℕ) (probe : Bool
       resend = record v.resend { interval = interval; owes_probe = probe };
       timers = record { retransmission = resending; probe = probing; delayed_ack = ack; overriding = overriding };
       unheard = unheard;
-    } ≡ record v { owes_ack = owes; since = since; timers = record v.timers { delayed_ack = ack } }
-parts v owes since interval probe resending probing ack overriding unheard a b c d e f = rw a (rw b (rw c (rw d (rw e (rw f refl)))))
+      alive = alive;
+    } ≡ record v { owes_ack = owes; since = since; timers = record v.timers { delayed_ack = ack }; alive = alive }
+parts v owes since alive interval probe resending probing ack overriding unheard a b c d e f = rw a (rw b (rw c (rw d (rw e (rw f refl)))))
 
 -- an acknowledgement that is owed ends the wait of one that is delayed, and leaves the other timers as they run
-pub settles : (v : View) (owes : Bool) (since now : Moment) → KeepsTime v
-    → (let w = record v { owes_ack = owes; since = since } in clocked false w now ≡ record w { timers = record v.timers { delayed_ack = delayed_ack_timer w now } })
-settles v owes since now keeps =
-    let w = record v { owes_ack = owes; since = since } in
-    parts v owes since (interval_of v) (v.resend.owes_probe && probes v) (retransmission_timer v false now) (probe_timer v now) (delayed_ack_timer w now) (override_timer v now) (unheard_since v now)
+pub settles : (v : View) (owes : Bool) (since : Moment) (alive : KeepAlive) (now : Moment) → KeepsTime v
+    → (let w = record v { owes_ack = owes; since = since; alive = alive } in clocked false w now ≡ record w { timers = record v.timers { delayed_ack = delayed_ack_timer w now } })
+settles v owes since alive now keeps =
+    let w = record v { owes_ack = owes; since = since; alive = alive } in
+    parts v owes since alive (interval_of v) (v.resend.owes_probe && probes v) (retransmission_timer v false now) (probe_timer v now) (delayed_ack_timer w now) (override_timer v now) (unheard_since v now)
     (interval_stays (probes v) (is_some v.timers.probe) v.resend.interval v.resend.timeout.rto keeps.probe keeps.interval)
     (owed_still v.resend.owes_probe (probes v) keeps.owed)
     (runs_on (retransmits v) v.timers.retransmission now v.resend.timeout.rto keeps.retransmission)
@@ -237,9 +250,9 @@ probes_kept b w now =
 abbrev pub Owing : View → View → Type 0
 Owing v w = w ≡ record v { owes_ack = w.owes_ack }
 
--- .. and at its moment nothing but that, the acknowledgement that is delayed, and the moment from which a wait is counted
+-- .. and at its moment nothing but that, the acknowledgement that is delayed, the moment from which a wait is counted, and that its peer was heard
 abbrev pub OwingAt : View → View → Type 0
-OwingAt v w = w ≡ record v { owes_ack = w.owes_ack; since = w.since; timers = record v.timers { delayed_ack = w.timers.delayed_ack } }
+OwingAt v w = w ≡ record v { owes_ack = w.owes_ack; since = w.since; timers = record v.timers { delayed_ack = w.timers.delayed_ack }; alive = w.alive }
 
 -- no acknowledgement moved SND.UNA
 pub unmoved : (v : View) → not (v.sending.una == v.sending.una) ≡ false
@@ -247,23 +260,24 @@ unmoved v = ap not (equal v.sending.una)
 
 -- a segment that acknowledges nothing new, does not answer a probe, and is no duplicate ACK changes no timer by itself
 pub timed_unmoved : (b : Before) (w : View) (now : Moment) → is_moved b w ≡ false → b.answers_probe ≡ false → b.is_duplicate ≡ false
-    → timed_by b w now ≡ clocked false (record w { since = since_after b w now }) now
+    → timed_by b w now ≡ clocked false (record w { since = since_after b w now; alive = heard_now w.alive now }) now
 timed_unmoved b w now same quiet first =
     let since = since_after b w now in
+    let alive = heard_now w.alive now in
     let resend : resend_after b w now ≡ w.resend =
     resend_unlost b w now first
     ∙ (ap (λ t. if t then resend_acknowledged w.resend w.sending.una (is_opening b.state) now else if b.answers_probe then record w.resend { expiries = 0 } else w.resend) same
     ∙ ap (λ t. if t then record w.resend { expiries = 0 } else w.resend) quiet) in
     let congestion : congestion_after b w ≡ w.congestion = ap (λ e. after_signal w.congestion e w.sending.smss w.resend.syn_resent) (event_none b w same first) in
-    ap (λ t. clocked t (record w { since = since; resend = resend_after b w now; congestion = congestion_after b w }) now) same
-    ∙ (ap (λ (p : Resend). clocked false (record w { since = since; resend = p; congestion = congestion_after b w }) now) resend
-    ∙ ap (λ (c : Window). clocked false (record w { since = since; congestion = c }) now) congestion)
+    ap (λ t. clocked t (record w { since = since; resend = resend_after b w now; congestion = congestion_after b w; alive = alive }) now) same
+    ∙ (ap (λ (p : Resend). clocked false (record w { since = since; resend = p; congestion = congestion_after b w; alive = alive }) now) resend
+    ∙ ap (λ (c : Window). clocked false (record w { since = since; congestion = c; alive = alive }) now) congestion)
 
 timed_owing : (v : View) (s : Segment) (owes : Bool) (now : Moment) → KeepsTime v → answers_probe v s ≡ false → is_duplicate v s ≡ false
     → OwingAt v (timed_by (before v s) (record v { owes_ack = owes }) now)
 timed_owing v s owes now keeps quiet first =
     let w = record v { owes_ack = owes } in
-    subst (λ x. OwingAt v x) (sym (timed_unmoved (before v s) w now (unmoved v) quiet first)) (settles v owes (since_after (before v s) w now) now keeps)
+    subst (λ x. OwingAt v x) (sym (timed_unmoved (before v s) w now (unmoved v) quiet first)) (settles v owes (since_after (before v s) w now) (heard_now v.alive now) now keeps)
 
 -- a segment that draws an acknowledgement, or nothing
 pub owing_timed : (v : View) (s : Segment) (now : Moment) → KeepsTime v → answers_probe v s ≡ false → is_duplicate v s ≡ false → Owing v (after_heard v s) → OwingAt v (after_segment_at v s now)

@@ -13,7 +13,7 @@ use Rattle.congestion.specs.Events.Event.{NewAck, Expiry, Duplicate}
 use Rattle.tcp_state.specs.declared.arrival.Before.{Before}
 use Rattle.tcp_state.specs.declared.calls.Refusal.TheVariants.{ECONNREFUSED, ETIMEDOUT}
 use Rattle.tcp_state.specs.declared.emission.Due.{Due}
-use Rattle.tcp_state.specs.declared.emission.Due.TheVariants.{Rst, Syn, Text, Probe, Ack}
+use Rattle.tcp_state.specs.declared.emission.Due.TheVariants.{Rst, Syn, Text, Probe, Ack, KeepAlive}
 use Rattle.tcp_state.specs.declared.state.State.{State}
 use Rattle.tcp_state.specs.declared.state.State.TheVariants.{SynSent, SynReceived, Established, FinWait1, FinWait2, CloseWait}
 use Rattle.tcp_halves.specs.Halves.{Room, Sending}
@@ -23,16 +23,18 @@ use Rattle.tcp_state.specs.View.{View, IsSound, is_opening, is_syn_sent, is_syn_
 use Rattle.tcp_state.specs.Congestion.{Signal, after_signal, KeepsCongestion}
 use Rattle.tcp_state.specs.Congestion.Signal.{Begins, Counts, Nothing}
 use Rattle.tcp_state.specs.Timing.{clocked, gives_up, retransmission_expired, probe_expired, after_expiry, after_timers, after_tick}
+use Rattle.tcp_state.specs.Alive.{alive_after, after_silence}
 use Rattle.tcp_state.specs.Calls.{send_count, beyond_shutdown, shutdown_refusal, after_shutdown, aborted_at, after_release, is_removed_by_close, is_aborted_by_close}
 use Rattle.tcp_state.specs.Arrival.{opened_passively, is_receiving, beyond_fin, after_ack, after_window, after_text, after_fin, after_heard, is_rejected, before, is_moved, resend_heard, resend_after, congestion_event_of, congestion_after, timed_by, after_segment_at}
 use Rattle.tcp_state.specs.Due.{after_syn_ack_paid, after_syn_out, after_going_out, first_due}
 use Rattle.tcp_state.specs.Unreachable.{is_unreachable}
 use Rattle.tcp_state.specs.Hop.{unheard_until}
-use Rattle.tcp_state.specs.Edges.{Event, Hears, Ticks, Emits, Sends, Receives, Shuts, SetsNoDelay, Closes, Aborts, Unreachable, LosesHop, after_first, after_event, congestion_event_at, congestion_event_by}
+use Rattle.tcp_state.specs.Edges.{Event, Hears, Ticks, Emits, Sends, Receives, Shuts, SetsNoDelay, SetsKeepAlive, Closes, Aborts, Unreachable, LosesHop, after_first, after_event, congestion_event_at, congestion_event_by}
 use Rattle.tcp_state.proofs.Clocked.{by_others, emission_keeps, heard_paced, after_paced, signalled}
 use Rattle.tcp_halves.proofs.Choices.{either, by, clash, and_left, and_right, or_left, or_right}
 use Rattle.tcp_state.proofs.Segments.{by_fin, by_ack, by_hearing, by_clock}
 use Rattle.tcp_state.proofs.Deadlines.{none_comes}
+use Rattle.tcp_state.proofs.Asked.{asked_sound, asked_congestion}
 use Rattle.tcp_state.proofs.Emissions.{syn_sends, stretch_sends, probe_sends}
 use Rattle.tcp_state.proofs.Growth.{IsSize, IsWindow, holds_segment, first_sound, new_ack_sound, expiry_sound, duplicate_sound, duplicate_segment, new_ack_adds, duplicate_adds}
 
@@ -250,15 +252,19 @@ tick_moves v now = chosen (is_at_end v now) (gives_up v now)
     signal : Signal
     signal = if has_come v.timers.retransmission now then Counts (Expiry (outstanding v.sending)) else Nothing
 
+    asked : View
+    asked = after_silence v now
+
     acts : View
-    acts = if has_come (next_of v.timers) now then clocked false (after_timers v now) now else v
+    acts = if has_come (next_of v.timers) now then clocked false (after_timers asked now) now else asked
 
     chosen : (over gives : Bool) → Moves v (if over || gives then Nothing else signal) (if over then after_stop v else if gives then after_reset v (Some ETIMEDOUT) else acts)
     chosen true gives = still v (after_stop v) refl refl (λ begun. cc)
     chosen false true = still v (after_reset v (Some ETIMEDOUT)) refl refl (λ begun. cc)
     chosen false false =
-        either View (Moves v signal) (has_come (next_of v.timers) now) (clocked false (after_timers v now) now) v (λ comes. timers_move v now)
-        (λ early. subst (λ t. Moves v (if t then Counts (Expiry (outstanding v.sending)) else Nothing) v) (sym (none_comes v now early)) (still v v refl refl (λ begun. begun)))
+        either View (Moves v signal) (has_come (next_of v.timers) now) (clocked false (after_timers asked now) now) asked
+        (λ comes. let k = timers_move asked now in record { window = k.window; keeps = λ sound keeps. k.keeps (asked_sound v (alive_after v now) sound) (asked_congestion v (alive_after v now) keeps) })
+        (λ early. subst (λ t. Moves v (if t then Counts (Expiry (outstanding v.sending)) else Nothing) asked) (sym (none_comes v now early)) (still v asked refl refl (λ begun. begun)))
 
 -- what goes out keeps the size of a segment
 emission_segment : (v : View) (due : Due) (now : Moment) → (after_going_out v due now).sending.smss ≡ v.sending.smss
@@ -271,6 +277,7 @@ emission_segment v Syn now =
 emission_segment v (Text stretch) now = ap (λ (t : Sending). t.smss) (stretch_sends v stretch now)
 emission_segment v Probe now = ap (λ (t : Sending). t.smss) (probe_sends v)
 emission_segment v Ack now = refl
+emission_segment v KeepAlive now = refl
 
 emission_moves : (v : View) (due : Option Due) (now : Moment) → Moves v Nothing (after_first v due now)
 emission_moves v None now = still v v refl refl (λ begun. begun)
@@ -301,6 +308,7 @@ moves v (Receives len) =
 moves v (Shuts now) =
     either View (Moves v Nothing) (is_some (shutdown_refusal v)) v (after_shutdown v now) (λ refused. still v v refl refl (λ begun. begun)) (λ shuts. still v _ refl refl (shut_begun v.state))
 moves v (SetsNoDelay on now) = still v _ refl refl (λ begun. begun)
+moves v (SetsKeepAlive every now) = still v _ refl refl (λ begun. begun)
 moves v (Closes now) =
     either View (Moves v Nothing) (is_removed_by_close v) v _ (λ removed. still v v refl refl (λ begun. begun))
     (λ stays. either View (Moves v Nothing) (is_aborted_by_close v) (aborted_at v now) (after_release v now) (λ aborts. still v _ refl refl (λ begun. cc)) (λ leaves_it. still v _ refl refl (shut_begun v.state)))

@@ -6,6 +6,7 @@ use Rattle.tcp_state.specs.declared.emission.Due.{Due}
 use Rattle.tcp_state.specs.declared.state.State.{State}
 use Rattle.tcp_state.specs.declared.state.State.TheVariants.{Closed, Listen, SynSent, SynReceived, Established, FinWait1, FinWait2, CloseWait, Closing, LastAck}
 use Rattle.tcp_state.specs.View.{View, is_syn_sent, is_syn_received, awaits_fin_ack}
+use Rattle.tcp_state.specs.Alive.{after_silence}
 use Rattle.tcp_state.specs.Calls.{beyond_shutdown}
 use Rattle.tcp_state.specs.Arrival.{owing_ack, is_receiving, beyond_fin, beyond_end, after_new_ack, after_ack, after_window, after_text, after_fin, after_heard}
 use Rattle.tcp_state.specs.Due.{first_due}
@@ -113,10 +114,11 @@ left-edge v =
 event-edge : (v : View) (e : Event) → IsEdge v.state (after_event v e).state
 event-edge v = by_event (λ e w. IsEdge v.state w.state) v (record {
   same = λ e. inl refl;
+  asks = λ e alive. inl refl;
   heard = λ s now lives. heard-edge v s;
   over = λ now ends. closes v.state;
   given_up = λ now waits expired. closes v.state;
-  acts = λ now. inl (sym (ap (λ (w : View). w.state) (timers_keep v now)));
+  acts = λ now. inl (sym (ap (λ (w : View). w.state) (timers_keep (after_silence v now) now)));
   emits = λ now. inl (sym (emitted-state v (first_due v) now));
   sends = λ octets taken now opened. inl refl;
   reads = λ len. inl refl;

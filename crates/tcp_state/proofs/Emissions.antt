@@ -3,12 +3,13 @@ use Rattle.std.proofs.Common.{◌≡◌, ℕ, ◌==◌, ◌||◌, ◌&&◌, nat_
 use Rattle.std.specs.Option.{option_or}
 use Rattle.clock.specs.declared.moment.Moment.{Moment}
 use Rattle.tcp_state.specs.declared.emission.Due.{Due}
-use Rattle.tcp_state.specs.declared.emission.Due.TheVariants.{Rst, Syn, Text, Probe, Ack}
+use Rattle.tcp_state.specs.declared.emission.Due.TheVariants.{Rst, Syn, Text, Probe, Ack, KeepAlive}
 use Rattle.tcp_state.specs.declared.emission.Stretch.{Stretch}
 use Rattle.tcp_halves.specs.Stream.{outstanding, after_sent}
 use Rattle.tcp_state.specs.Resend.{resend_probed}
 use Rattle.tcp_state.specs.View.{View, is_opening}
 use Rattle.tcp_state.specs.Timing.{probes}
+use Rattle.tcp_state.specs.Alive.{is_alive_due}
 use Rattle.tcp_state.specs.New.{sends_new, sends_fin}
 pub use Rattle.tcp_state.specs.Due.{is_ack_due}
 use Rattle.tcp_state.specs.Due.{probe_stretch, end_of, after_resent, after_first_sent, after_numbers, after_new_octets, after_new_text, brings_new_octets, after_syn_out, after_stretch, after_probe, ack_due, again, goes_again, again_from, new_octets, fin_alone, new_due, first_due}
@@ -17,7 +18,7 @@ use Rattle.tcp_halves.proofs.Choices.{either, and_left, and_right}
 
 -- what may be due first
 pub record ByDue (P : Option Due → Type 0) (v : View) : Type 0 where
-  pub nothing : is_ack_due v ≡ false → P None
+  pub nothing : is_ack_due v ≡ false → is_alive_due v ≡ false → P None
   pub rst : v.owes_reset ≡ true → P (Some Rst)
   pub syn : is_opening v.state ≡ true → ((outstanding v.sending == 0) || is_some v.resend.mark) ≡ true → P (Some Syn)
   pub once_more : is_opening v.state ≡ false → (mark : ℕ) → v.resend.mark ≡ Some mark → goes_again v mark ≡ true → P (Some (Text (again v mark)))
@@ -25,9 +26,12 @@ pub record ByDue (P : Option Due → Type 0) (v : View) : Type 0 where
   pub fin : is_opening v.state ≡ false → sends_fin v ≡ true → P (Some (Text (fin_alone v)))
   pub probe : is_opening v.state ≡ false → v.resend.owes_probe ≡ true → probes v ≡ true → P (Some Probe)
   pub ack : is_ack_due v ≡ true → P (Some Ack)
+  pub asks : is_ack_due v ≡ false → is_alive_due v ≡ true → P (Some KeepAlive)
 
 by_ack_due : (P : Option Due → Type 0) (v : View) → ByDue P v → P (ack_due v)
-by_ack_due P v cases = either (Option Due) P (is_ack_due v) (Some Ack) None cases.ack cases.nothing
+by_ack_due P v cases =
+    either (Option Due) P (is_ack_due v) (Some Ack) _ cases.ack
+    (λ quiet. either (Option Due) P (is_alive_due v) (Some KeepAlive) None (cases.asks quiet) (cases.nothing quiet))
 
 by_new_due : (P : Option Due → Type 0) (v : View) → ByDue P v → is_opening v.state ≡ false → P (new_due v)
 by_new_due P v cases opened =

@@ -6,11 +6,12 @@ use Rattle.clock.specs.Moments.{has_come}
 use Rattle.tcp_state.specs.declared.calls.Refusal.{Refusal}
 use Rattle.tcp_state.specs.declared.calls.Refusal.TheVariants.{ECONNREFUSED, ECONNRESET, ETIMEDOUT}
 use Rattle.tcp_state.specs.declared.state.State.{State}
-use Rattle.tcp_state.specs.declared.state.State.TheVariants.{SynSent, SynReceived, Established, FinWait1, FinWait2, CloseWait}
+use Rattle.tcp_state.specs.declared.state.State.TheVariants.{Closed, SynSent, SynReceived, Established, FinWait1, FinWait2, CloseWait}
 use Rattle.tcp_state.specs.declared.resend.TheConstants.{MOST_EXPIRIES}
 use Rattle.tcp_halves.specs.Stream.{outstanding}
 use Rattle.tcp_state.specs.View.{View, IsSound, is_opening, is_syn_sent, is_closed, awaits_fin_ack, is_at_end}
-use Rattle.tcp_state.specs.Timing.{KeepsTime, probes, retransmits, gives_up}
+use Rattle.tcp_state.specs.Alive.{may_rest, after_silence}
+use Rattle.tcp_state.specs.Timing.{KeepsTime, probes, retransmits, is_silent_for_good, gives_up}
 use Rattle.tcp_state.specs.Arrival.{is_receiving, after_ack, after_window, after_text, ends_by_reset, reset_error, after_heard}
 use Rattle.tcp_state.specs.Due.{first_due}
 use Rattle.tcp_state.specs.Unreachable.{is_unreachable}
@@ -19,6 +20,7 @@ use Rattle.tcp_state.specs.Edges.{Event, Hears, after_event, is_reset_by, is_err
 use Rattle.tcp_state.proofs.Clocked.{timers_keep, emission_keeps}
 use Rattle.tcp_halves.proofs.Choices.{either, by, clash, and_left, and_false, both, of_false, and_not}
 use Rattle.tcp_state.proofs.Segments.{by_fin, by_ack, by_hearing}
+use Rattle.tcp_state.proofs.Deadlines.{busy}
 use Rattle.tcp_state.proofs.Events.{by_event}
 use Rattle.tcp_state.proofs.Unchanged.{closed_plain, closed_holds}
 use Rattle.tcp_state.proofs.Awaited.{awaits_nothing}
@@ -53,11 +55,15 @@ timed_out _ e = cc
 closed_by_told : (v : View) → IsSound v → is_some v.pending_error ≡ true → is_closed v.state ≡ true
 closed_by_told v sound some = and_not (is_some v.pending_error) (is_closed v.state) sound.error some
 
--- What is CLOSED has no timer that counts.
+-- What is CLOSED has no timer that counts, and asks nobody.
 
 none_come : (deadline : Option Moment) (now : Moment) → is_some deadline ≡ false → has_come deadline now ≡ false
 none_come None now e = refl
 none_come (Some moment) now e = cc
+
+rests_never : (t : State) → is_closed t ≡ true → may_rest t ≡ false
+rests_never Closed e = refl
+rests_never _ e = cc
 
 lives_on : (v : View) (now : Moment) → IsSound v → KeepsTime v → is_closed v.state ≡ true → gives_up v now ≡ false
 lives_on v now sound keeps closed =
@@ -66,8 +72,10 @@ lives_on v now sound keeps closed =
     let tested = not (is_opening v.state) && (v.sending.window == 0) in
     let silent : probes v ≡ false = ap (λ n. tested && (not (n == 0) || awaits_fin_ack v.state)) none.0 ∙ (ap (λ b. tested && b) fin.1 ∙ and_false tested) in
     let at_rest : retransmits v ≡ false = ap (λ n. nat_lt 0 n && not (probes v)) none.1 in
-    ap (λ b. (b || has_come v.timers.probe now) && nat_le MOST_EXPIRIES v.resend.expiries) (none_come v.timers.retransmission now (keeps.retransmission ∙ at_rest))
-    ∙ ap (λ b. b && nat_le MOST_EXPIRIES v.resend.expiries) (none_come v.timers.probe now (keeps.probe ∙ silent))
+    let no_silence = busy v now (ap (λ b. b && (length v.sending.held == 0)) (rests_never v.state closed)) in
+    ap (λ b. ((b || has_come v.timers.probe now) && nat_le MOST_EXPIRIES v.resend.expiries) || is_silent_for_good v now) (none_come v.timers.retransmission now (keeps.retransmission ∙ at_rest))
+    ∙ ap (λ b. (b && nat_le MOST_EXPIRIES v.resend.expiries) || is_silent_for_good v now) (none_come v.timers.probe now (keeps.probe ∙ silent))
+    ∙ ap (λ b. b && nat_le MOST_EXPIRIES v.alive.unanswered) no_silence
 
 -- what an event tells: what was told, or an error that it may raise, in a connection that is not CLOSED
 record Raises (v : View) (e : Event) (told : Option Refusal) : Type 0 where
@@ -116,13 +124,14 @@ heard_tells v s now =
 tells : (v : View) (e : Event) → Tells v e (after_event v e)
 tells v = by_event (Tells v) v (record {
   same = λ e. inl refl;
+  asks = λ e alive. inl refl;
   heard = λ s now lives. heard_tells v s now;
   over = λ now ends. inl refl;
   given_up = λ now waits expired. inr (record {
     lives = λ sound keeps. open_where_lives v now sound keeps expired;
     allowed = λ error told. both (not (is_at_end v now) && gives_up v now) (is_timeout error) (both (not (is_at_end v now)) (gives_up v now) (of_false (is_at_end v now) waits) expired) (timed_out error told);
   });
-  acts = λ now. inl (ap (λ (w : View). w.pending_error) (timers_keep v now));
+  acts = λ now. inl (ap (λ (w : View). w.pending_error) (timers_keep (after_silence v now) now));
   emits = λ now. inl (ap (λ (w : View). w.pending_error) (emission_keeps v (first_due v) now));
   sends = λ octets taken now opened. inl refl;
   reads = λ len. inl refl;

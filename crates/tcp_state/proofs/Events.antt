@@ -13,7 +13,9 @@ use Rattle.tcp_state.specs.Arrival.{after_heard, is_rejected, before, timed_by}
 use Rattle.tcp_state.specs.Due.{first_due}
 use Rattle.tcp_state.specs.Unreachable.{is_unreachable}
 use Rattle.tcp_state.specs.Hop.{unheard_until}
-use Rattle.tcp_state.specs.Edges.{Event, Hears, Ticks, Emits, Sends, Receives, Shuts, SetsNoDelay, Closes, Aborts, Unreachable, LosesHop, moment_of, after_first, after_event, is_cause}
+use Rattle.tcp_state.specs.declared.alive.KeepAlive.{KeepAlive}
+use Rattle.tcp_state.specs.Alive.{asked, alive_after, after_silence}
+use Rattle.tcp_state.specs.Edges.{Event, Hears, Ticks, Emits, Sends, Receives, Shuts, SetsNoDelay, SetsKeepAlive, Closes, Aborts, Unreachable, LosesHop, moment_of, after_first, after_event, is_cause}
 use Rattle.tcp_halves.proofs.Choices.{either, neither, or_right}
 
 -- octets are taken to be sent
@@ -24,15 +26,16 @@ holding v octets = record v { sending = record v.sending { held = v.sending.held
 abbrev pub shut : View → Bool → Moment → View
 shut v released since = record v { state = beyond_shutdown v.state; released = released; since = since }
 
--- What each event may make of a connection: most leave it as it is, each for a reason of its own. A segment is heard; its wait is over, it is given up, or a timer
+-- What each event may make of a connection: most leave it as it is, each for a reason of its own, or but for what is known of a peer that says nothing. A segment is heard; its wait is over, it is given up, or a timer
 -- acts; something goes out; octets are taken to be sent, or read; our side closes, and with it its caller may leave; small segments wait from now on, or don't; it is aborted; its SYN can't be delivered; and it
 -- waited for its hop as long as it may.
 pub record ByEvent (P : Event → View → Type 0) (v : View) : Type 0 where
   pub same : (e : Event) → P e v
+  pub asks : (e : Event) (alive : KeepAlive) → P e (record v { alive = alive })
   pub heard : (s : Segment) (now : Moment) → is_closed v.state ≡ false → P (Hears s now) (timed_by (before v s) (after_heard v s) now)
   pub over : (now : Moment) → is_at_end v now ≡ true → P (Ticks now) (after_stop v)
   pub given_up : (now : Moment) → is_at_end v now ≡ false → gives_up v now ≡ true → P (Ticks now) (after_reset v (Some ETIMEDOUT))
-  pub acts : (now : Moment) → P (Ticks now) (clocked false (after_timers v now) now)
+  pub acts : (now : Moment) → P (Ticks now) (clocked false (after_timers (after_silence v now) now) now)
   pub emits : (now : Moment) → P (Emits now) (after_first v (first_due v) now)
   pub sends : (octets taken : List ℕ) (now : Moment) → is_write_closed v.state ≡ false → P (Sends octets now) (clocked false (holding v taken) now)
   pub reads : (len : ℕ) → P (Receives len) (record v { receiving = after_read v.receiving (recv_count v len) })
@@ -51,7 +54,7 @@ by_event P v cases (Ticks now) =
     let e = Ticks now in
     either View (P e) (is_at_end v now) (after_stop v) _ (cases.over now)
     (λ waits. either View (P e) (gives_up v now) (after_reset v (Some ETIMEDOUT)) _ (cases.given_up now waits)
-    (λ goes_on. either View (P e) (has_come (next_of v.timers) now) (clocked false (after_timers v now) now) v (λ comes. cases.acts now) (λ early. cases.same e)))
+    (λ goes_on. let quiet = after_silence v now in either View (P e) (has_come (next_of v.timers) now) (clocked false (after_timers quiet now) now) quiet (λ comes. cases.acts now) (λ early. cases.asks e (alive_after v now))))
 by_event P v cases (Emits now) = cases.emits now
 by_event P v cases (Sends octets now) =
     let e = Sends octets now in
@@ -63,6 +66,7 @@ by_event P v cases (Receives len) =
     either View (P e) (is_some v.pending_error || is_opening v.state || (length v.receiving.readable == 0)) v _ (λ nothing. cases.same e) (λ some. cases.reads len)
 by_event P v cases (Shuts now) = let e = Shuts now in either View (P e) (is_some (shutdown_refusal v)) v (after_shutdown v now) (λ refused. cases.same e) (λ shuts. cases.shuts now)
 by_event P v cases (SetsNoDelay on now) = cases.delays on now
+by_event P v cases (SetsKeepAlive every now) = cases.asks (SetsKeepAlive every now) (asked every now)
 by_event P v cases (Closes now) =
     let e = Closes now in
     either View (P e) (is_removed_by_close v) v _ (λ removed. cases.same e)

@@ -3,7 +3,7 @@ use Rattle.std.proofs.Common.{◌≡◌, ℕ, suc, ◌+◌, ◌<◌, ◌≤◌, 
 use Rattle.std.proofs.lemmas.Bool.{eqb-true, eq-eqb, ltb-true, lt-ltb}
 use Rattle.std.proofs.lemmas.Bool.Decides.{leb_tells, eqb_tells}
 use Rattle.tcp_state.specs.declared.emission.Due.{Due}
-use Rattle.tcp_state.specs.declared.emission.Due.TheVariants.{Rst, Syn, Text, Probe, Ack}
+use Rattle.tcp_state.specs.declared.emission.Due.TheVariants.{Rst, Syn, Text, Probe, Ack, KeepAlive}
 use Rattle.tcp_state.specs.declared.emission.Stretch.{Stretch}
 use Rattle.tcp_state.specs.declared.state.State.{State}
 use Rattle.tcp_state.specs.declared.state.State.TheVariants.{SynSent}
@@ -12,6 +12,7 @@ use Rattle.tcp_halves.specs.Windows.{open_window, sendable, next_count, is_worth
 use Rattle.tcp_state.specs.View.{View, IsSound, is_opening, is_syn_sent, is_closed, awaits_fin_ack}
 use Rattle.tcp_state.specs.Timing.{probes, has_unacknowledged}
 use Rattle.tcp_state.specs.New.{sends_new, takes_fin, sends_fin, waits_no_longer}
+use Rattle.tcp_state.specs.Alive.{may_rest, rests}
 use Rattle.tcp_state.specs.Due.{MayGoOut, IsHeld, first_due, probe_stretch, again, new_octets, fin_alone}
 use Rattle.tcp_halves.proofs.Choices.{either, clash, and_left, and_right, and_false, both, or_else, not_true}
 use Rattle.tcp_state.proofs.Emissions.{is_ack_due, by_due}
@@ -127,7 +128,7 @@ ack_may v sound due =
 -- what goes out first may go out
 pub due-may : (v : View) (due : Due) → IsSound v → first_due v ≡ Some due → MayGoOut v due
 due-may v due sound first = by_due (λ o. (d : Due) → o ≡ Some d → MayGoOut v d) v (record {
-  nothing = λ quiet d e. cc;
+  nothing = λ quiet heard d e. cc;
   rst = λ owes d e. let same : Rst ≡ d = cc in subst (MayGoOut v) same owes;
   syn = λ opening goes d e. let same : Syn ≡ d = cc in subst (MayGoOut v) same opening;
   once_more = λ opened mark is goes d e. let same : Text (again v mark) ≡ d = cc in subst (MayGoOut v) same (held_again v mark sound opened (sound.mark mark is));
@@ -135,4 +136,5 @@ due-may v due sound first = by_due (λ o. (d : Due) → o ≡ Some d → MayGoOu
   fin = λ opened sends d e. let same : Text (fin_alone v) ≡ d = cc in subst (MayGoOut v) same (held_fin v opened sends);
   probe = λ opened owes goes d e. let same : Probe ≡ d = cc in subst (MayGoOut v) same (held_probe v opened goes);
   ack = λ owes d e. let same : Ack ≡ d = cc in subst (MayGoOut v) same (ack_may v sound owes);
+  asks = λ quiet owes d e. let same : KeepAlive ≡ d = cc in subst (MayGoOut v) same (and_left (may_rest v.state) (length v.sending.held == 0) (and_right v.alive.owed (rests v) owes));
 }) due first

@@ -9,12 +9,13 @@ use Rattle.tcp_segment.specs.Segment.{Segment, span_of}
 use Rattle.tcp_state.specs.declared.calls.Refusal.TheVariants.{ETIMEDOUT}
 use Rattle.tcp_state.specs.declared.connection.Fate.TheVariants.{Stays, Removed}
 use Rattle.tcp_state.specs.declared.emission.Due.{Due}
-use Rattle.tcp_state.specs.declared.emission.Due.TheVariants.{Rst, Syn, Text, Probe, Ack}
+use Rattle.tcp_state.specs.declared.emission.Due.TheVariants.{Rst, Syn, Text, Probe, Ack, KeepAlive}
 use Rattle.tcp_state.specs.declared.emission.Stretch.{Stretch}
 use Rattle.tcp_state.specs.declared.state.State.TheVariants.{Closed, Listen}
 use Rattle.tcp_halves.specs.Stream.{outstanding}
 use Rattle.tcp_halves.proofs.Choices.{either, and_left}
 use Rattle.tcp_state.specs.View.{View, IsSound, is_opening, is_syn_received, is_closed, is_fin_wait_2, awaits_fin_ack, after_reset}
+use Rattle.tcp_state.specs.Alive.{heard_now, is_alive_due, after_silence}
 use Rattle.tcp_state.specs.Resend.{stopped}
 use Rattle.tcp_state.specs.New.{sends_new, sends_fin}
 use Rattle.tcp_state.specs.Timing.{KeepsTime, probes, waiting_since, awaits_first, clocked, retransmission_expired, probe_expired, after_timers}
@@ -40,16 +41,17 @@ use Rattle.tcp_state.proofs.Unreachable.{silent}
 -- What is due where nothing is outstanding.
 
 -- of what may be due first these take numbers; where a reset is, nothing else is
-numbers_due : (reset opening new fin probe ack : Bool) (text end : Stretch) → (reset ≡ true → (opening || new || fin || probe) ≡ false)
-    → takes_numbers (if reset then Some Rst else if opening then Some Syn else if new then Some (Text text) else if fin then Some (Text end) else if probe then Some Probe else if ack then Some Ack else None)
+numbers_due : (reset opening new fin probe ack asks : Bool) (text end : Stretch) → (reset ≡ true → (opening || new || fin || probe) ≡ false)
+    → takes_numbers (if reset then Some Rst else if opening then Some Syn else if new then Some (Text text) else if fin then Some (Text end) else if probe then Some Probe else if ack then Some Ack else if asks then Some KeepAlive else None)
     ≡ (opening || new || fin || probe)
-numbers_due true opening new fin probe ack text end alone = sym (alone refl)
-numbers_due false true new fin probe ack text end alone = refl
-numbers_due false false true fin probe ack text end alone = refl
-numbers_due false false false true probe ack text end alone = refl
-numbers_due false false false false true ack text end alone = refl
-numbers_due false false false false false true text end alone = refl
-numbers_due false false false false false false text end alone = refl
+numbers_due true opening new fin probe ack asks text end alone = sym (alone refl)
+numbers_due false true new fin probe ack asks text end alone = refl
+numbers_due false false true fin probe ack asks text end alone = refl
+numbers_due false false false true probe ack asks text end alone = refl
+numbers_due false false false false true ack asks text end alone = refl
+numbers_due false false false false false true asks text end alone = refl
+numbers_due false false false false false false true text end alone = refl
+numbers_due false false false false false false false text end alone = refl
 
 -- a reset is owed only where all is closed
 owed_where_shut : (owes closed released : Bool) → (owes && not (closed && released)) ≡ false → owes ≡ true → closed ≡ true
@@ -70,10 +72,10 @@ takes_where_awaited v sound none =
     sym waits ∙ awaits_nothing v plain.0 (closed_holds v sound closed).0 plain.1 in
     ap (λ m. takes_numbers (if v.owes_reset then Some Rst else if opening then (if (outstanding v.sending == 0) || is_some m then Some Syn else due_alone) else option_or (again_from v m) (new_due v))) unmarked
     ∙ (ap (λ n. takes_numbers (if v.owes_reset then Some Rst else if opening then (if (n == 0) || false then Some Syn else due_alone) else new_due v)) none
-    ∙ (numbers_due v.owes_reset opening (sends_new v) (sends_fin v) owed (is_ack_due v) (new_octets v) (fin_alone v) alone ∙ sym waits))
+    ∙ (numbers_due v.owes_reset opening (sends_new v) (sends_fin v) owed (is_ack_due v) (is_alive_due v) (new_octets v) (fin_alone v) alone ∙ sym waits))
   where
     due_alone : Option Due
-    due_alone = if is_ack_due v then Some Ack else None
+    due_alone = if is_ack_due v then Some Ack else if is_alive_due v then Some KeepAlive else None
 
 -- How many numbers a segment takes.
 
@@ -87,6 +89,7 @@ spans v Syn may takes = omega arith
 spans v (Text stretch) may takes = held_spans v stretch may
 spans v Probe may takes = held_spans v (probe_stretch v) may
 spans v Ack may takes = cc
+spans v KeepAlive may takes = cc
 
 takes : (v : View) (due : Due) → 0 < span_of (segment_of v due) → takes_numbers (Some due) ≡ true
 takes v Rst some = absurd (omega (arith, some))
@@ -94,6 +97,7 @@ takes v Syn some = refl
 takes v (Text stretch) some = refl
 takes v Probe some = refl
 takes v Ack some = absurd (omega (arith, some))
+takes v KeepAlive some = absurd (omega (arith, some))
 
 which : (o : Option Due) → takes_numbers o ≡ true → (due : Due) × (o ≡ Some due) × (takes_numbers (Some due) ≡ true)
 which None e = cc
@@ -154,11 +158,11 @@ heard_leaves v s =
     })
 
 heard_follows : (v : View) (s : Segment) (now : Moment) → (let b = before v s in let w = after_heard v s in
-    Follows v.unheard (Some now) (clocked (is_moved b w) (record w { since = since_after b w now; resend = resend_after b w now; congestion = congestion_after b w }) now).unheard)
+    Follows v.unheard (Some now) (clocked (is_moved b w) (record w { since = since_after b w now; resend = resend_after b w now; congestion = congestion_after b w; alive = heard_now w.alive now }) now).unheard)
 heard_follows v s now =
     let b = before v s in
     let w = after_heard v s in
-    let x = record w { since = since_after b w now; resend = resend_after b w now; congestion = congestion_after b w } in
+    let x = record w { since = since_after b w now; resend = resend_after b w now; congestion = congestion_after b w; alive = heard_now w.alive now } in
     elim (heard_leaves v s) [
       | inl same ↦ ticked v x (is_moved b w) now same
       | inr ended ↦ inr (inl (ap (λ c. if c then Some (waiting_since x.unheard now) else None) (awaits_nothing x ended.0 ended.1 ended.2)))
@@ -181,6 +185,7 @@ going_leaves v (Text stretch) now =
     either View P (brings_new_octets v stretch) (after_new_text sent stretch) sent (λ new. same) (λ old. same)
 going_leaves v Probe now = either View (λ w. w.unheard ≡ v.unheard) (brings_new_octets v (probe_stretch v)) _ _ (λ new. refl) (λ old. refl)
 going_leaves v Ack now = refl
+going_leaves v KeepAlive now = refl
 
 emission_follows : (v : View) (o : Option Due) (now : Moment) → Follows v.unheard (Some now) (after_first v o now).unheard
 emission_follows v None now = inl refl
@@ -196,10 +201,11 @@ timers_leave v now =
 follows : (v : View) (e : Event) → Follows v.unheard (moment_of e) (after_event v e).unheard
 follows v = by_event (λ e w. Follows v.unheard (moment_of e) w.unheard) v (record {
   same = λ e. inl refl;
+  asks = λ e alive. inl refl;
   heard = λ s now lives. heard_follows v s now;
   over = λ now ends. inr (inl refl);
   given_up = λ now waits expired. inr (inl refl);
-  acts = λ now. ticked v (after_timers v now) false now (timers_leave v now);
+  acts = λ now. let asked = after_silence v now in ticked v (after_timers asked now) false now (timers_leave asked now);
   emits = λ now. emission_follows v (first_due v) now;
   sends = λ octets taken now opened. ticked v (holding v taken) false now refl;
   reads = λ len. inl refl;

@@ -1,24 +1,26 @@
 -- Why the end of the last small segment is known as long as that is outstanding.
-use Rattle.std.proofs.Common.{◌≡◌, ℕ, ◌+◌, ◌-◌, ◌<◌, ◌≤◌, ◌==◌, ◌&&◌, ◌||◌, ◌⊎◌, not, nat_lt, Bool, true, false, if◌then◌else◌, length, Option, Some, None, inl, inr, arith, refl, sym, ◌∙◌, ap, ap₂, subst}
+use Rattle.std.proofs.Common.{◌≡◌, ℕ, ◌-◌, ◌≤◌, ◌==◌, ◌&&◌, ◌||◌, ◌⊎◌, not, nat_lt, Bool, true, false, if◌then◌else◌, length, Option, Some, None, inl, inr, arith, refl, sym, ◌∙◌, ap, ap₂}
 use Rattle.std.proofs.lemmas.Bool.{lt-ltb, le-ltb, ltb-true, ltb-false}
 use Rattle.tcp_segment.specs.Segment.{Segment}
 use Rattle.tcp_segment.specs.Wire.{past}
 use Rattle.clock.specs.declared.moment.Moment.{Moment}
 use Rattle.clock.specs.Moments.{has_come}
 use Rattle.tcp_state.specs.declared.emission.Due.{Due}
-use Rattle.tcp_state.specs.declared.emission.Due.TheVariants.{Rst, Syn, Text, Probe, Ack}
+use Rattle.tcp_state.specs.declared.emission.Due.TheVariants.{Rst, Syn, Text, Probe, Ack, KeepAlive}
 use Rattle.tcp_state.specs.declared.emission.Stretch.{Stretch}
 use Rattle.tcp_halves.specs.Halves.{Sending}
-use Rattle.tcp_halves.specs.Stream.{outstanding, after_sent, is_new_ack}
+use Rattle.tcp_halves.specs.Stream.{outstanding, after_sent}
 use Rattle.tcp_halves.specs.Windows.{updates_window}
-use Rattle.tcp_halves.proofs.Choices.{either, by, clash, both, and_left, and_right, not_true, of_false}
+use Rattle.tcp_halves.proofs.Choices.{either, by, both, and_left, and_right, not_true, of_false}
 use Rattle.tcp_state.specs.Resend.{Resend, stopped, resend_probed}
-use Rattle.tcp_state.specs.View.{View, IsSound, is_syn_received, is_closed, awaits_fin_ack, takes_flag_number, after_stop}
+use Rattle.tcp_state.specs.View.{View, IsSound, is_syn_received, is_closed, awaits_fin_ack, takes_flag_number}
+use Rattle.tcp_state.specs.Alive.{alive_after, after_silence}
 use Rattle.tcp_state.specs.Timing.{clocked, retransmission_expired, probe_expired, after_timers}
 use Rattle.tcp_state.specs.Arrival.{is_receiving, is_of_fin, beyond_fin, after_new_ack, after_ack, after_window, after_text, after_heard, before, timed_by}
 use Rattle.tcp_state.specs.Due.{IsSmall, first_due, probe_stretch, end_of, after_resent, after_first_sent, after_numbers, after_new_octets, after_new_text, brings_new_octets, after_syn_ack_paid, after_syn_out, after_stretch, after_emitted}
 use Rattle.tcp_state.specs.Edges.{Event, Emits, after_first, after_event}
 use Rattle.tcp_state.proofs.Clocked.{by_others, heard_paced, after_paced, syn_out}
+use Rattle.tcp_state.proofs.Asked.{asked_sound}
 use Rattle.tcp_state.proofs.Events.{by_event}
 use Rattle.tcp_state.proofs.Segments.{by_fin, by_ack, by_hearing}
 
@@ -169,6 +171,7 @@ emitted v now sound = sent (first_due v) refl
     sent (Some (Text stretch)) first = text_left v stretch now sound first
     sent (Some Probe) first = inl (probe_left v now sound)
     sent (Some Ack) first = inl (there v sound)
+    sent (Some KeepAlive) first = inl (there v sound)
 
 acts_left : (v : View) (now : Moment) → IsSound v → Left v (clocked false (after_timers v now) now)
 acts_left v now sound =
@@ -184,10 +187,11 @@ small_stays v e sound =
     let over = stops v sound v.sending.nxt refl in
     by_event (λ e w. Left v w ⊎ Begins v e) v (record {
       same = λ e. inl here;
+      asks = λ e alive. inl here;
       heard = λ s now lives. inl (timed_left v s now sound);
       over = λ now ends. inl over;
       given_up = λ now waits expired. inl over;
-      acts = λ now. inl (acts_left v now sound);
+      acts = λ now. inl (acts_left (after_silence v now) now (asked_sound v (alive_after v now) sound));
       emits = λ now. emitted v now sound;
       sends = λ octets taken now opened. inl here;
       reads = λ len. inl here;

@@ -23,6 +23,7 @@ use Rattle.tcp_state.specs.declared.emission.Due.TheVariants.{Syn}
 use Rattle.tcp_state.specs.declared.state.State.{State}
 use Rattle.tcp_state.specs.declared.state.State.TheVariants.{SynSent, Established, FinWait1, FinWait2, CloseWait, Closing, LastAck}
 use Rattle.tcp_state.specs.View.{View, IsSound, opened_actively, is_opening, is_syn_sent, is_syn_received, is_closed}
+use Rattle.tcp_state.specs.Alive.{after_silence}
 use Rattle.tcp_state.specs.Timing.{clocked, retransmission_expired, probe_expired, after_expiry, delayed_ack_expired, after_timers}
 use Rattle.tcp_state.specs.Calls.{beyond_shutdown}
 use Rattle.tcp_state.specs.Arrival.{opened_passively, scales_with, after_simultaneous_syn, beyond_fin, after_ack, after_window, is_receiving, may_delay, after_text, beyond_end, after_fin, after_heard}
@@ -271,7 +272,7 @@ syn_leaves v now sound opening p =
 
 emission_leaves : (v : View) (now : Moment) → IsSound v → Parts v → Parts (after_first v (first_due v) now)
 emission_leaves v now sound p = by_due (λ o. Parts (after_first v o now)) v (record {
-  nothing = λ quiet. p;
+  nothing = λ quiet heard. p;
   rst = λ owes. p;
   syn = λ opening goes. syn_leaves v now sound opening p;
   once_more = λ opened mark is goes. spoken v (after_stretch v (again v mark) now) now (stretch_receives v (again v mark) now) p;
@@ -279,6 +280,7 @@ emission_leaves v now sound p = by_due (λ o. Parts (after_first v o now)) v (re
   fin = λ opened sends. spoken v (after_stretch v (fin_alone v) now) now (stretch_receives v (fin_alone v) now) p;
   probe = λ opened owes goes. spoken v (after_probe v) now (probe_receives v) p;
   ack = λ owes. spoken v v now refl p;
+  asks = λ quiet owes. let size = told_size v.receiving in (omega (arith, size, p.0), λ received silent flies. cc, λ opened silent free. cc);
 })
 
 -- The clock makes one owed, and ends no debt.
@@ -307,10 +309,11 @@ opened_open _ e = e
 event_parts : (v : View) (e : Event) → IsSound v → IsSized e → Parts v → Parts (after_event v e)
 event_parts v e sound sized p = by_event (λ e w. IsSized e → Parts w) v (record {
   same = λ e few. p;
+  asks = λ e alive few. p;
   heard = λ s now lives few. heard_leaves v s sound few p;
   over = λ now ends few. (p.0, λ received silent flies. cc, λ opened silent free. cc);
   given_up = λ now waits expired few. (p.0, λ received silent flies. cc, λ opened silent free. cc);
-  acts = λ now few. timers_leave v now p;
+  acts = λ now few. timers_leave (after_silence v now) now p;
   emits = λ now few. emission_leaves v now sound p;
   sends = λ octets taken now opened few. p;
   reads = λ len few. p;

@@ -3,6 +3,8 @@ pub mod Sizes
 pub mod Segments
 pub mod Events
 pub mod GoesOut
+pub mod Asked
+pub mod AliveBy
 pub mod Awaited
 pub mod Idle
 pub mod Clocked
@@ -86,3 +88,5 @@ pub mod Recount
 pub mod WouldReject
 pub mod Minshall
 pub mod LastSmall
+pub mod SilentPeers
+pub mod ProbesOfSilence

@@ -5,12 +5,13 @@ use Rattle.tcp_segment.specs.Segment.{Segment}
 use Rattle.clock.specs.declared.moment.Moment.{Moment}
 use Rattle.clock.specs.Moments.{has_come}
 use Rattle.tcp_state.specs.declared.emission.Due.{Due}
-use Rattle.tcp_state.specs.declared.emission.Due.TheVariants.{Rst, Syn, Text, Probe, Ack}
+use Rattle.tcp_state.specs.declared.emission.Due.TheVariants.{Rst, Syn, Text, Probe, Ack, KeepAlive}
 use Rattle.tcp_state.specs.declared.emission.Stretch.{Stretch}
 use Rattle.tcp_halves.specs.Stream.{outstanding, after_sent}
 use Rattle.tcp_halves.proofs.Choices.{either, by, clash, or_else, or_left, or_right}
 use Rattle.tcp_state.specs.Resend.{Resend, stopped, resend_probed}
 use Rattle.tcp_state.specs.View.{View, is_closed, is_syn_received}
+use Rattle.tcp_state.specs.Alive.{after_silence}
 use Rattle.tcp_state.specs.Timing.{clocked, retransmission_expired, probe_expired, after_timers}
 use Rattle.tcp_state.specs.Arrival.{is_receiving, beyond_fin, after_new_ack, after_ack, after_window, after_text, after_heard, before, resend_heard, timed_by}
 use Rattle.tcp_state.specs.Due.{first_due, probe_stretch, end_of, after_resent, after_first_sent, after_numbers, after_new_octets, after_new_text, brings_new_octets, after_syn_ack_paid, after_syn_again, after_syn_out, after_stretch, after_probe, after_emitted}
@@ -103,6 +104,7 @@ emitted v now = sent (first_due v) refl
     sent (Some (Text stretch)) first = inl (stretch_same v stretch now)
     sent (Some Probe) first = inl (probe_same v)
     sent (Some Ack) first = inl refl
+    sent (Some KeepAlive) first = inl refl
 
 acts_same : (v : View) (now : Moment) → Same v (clocked false (after_timers v now) now)
 acts_same v now =
@@ -114,10 +116,11 @@ acts_same v now =
 all_events : (v : View) (e : Event) → Same v (after_event v e) ⊎ Resends v e (after_event v e)
 all_events v e = by_event (λ e w. Same v w ⊎ Resends v e w) v (record {
   same = λ e. inl refl;
+  asks = λ e alive. inl refl;
   heard = λ s now lives. inl (timed_same v s now);
   over = λ now ends. inl refl;
   given_up = λ now waits expired. inl refl;
-  acts = λ now. inl (acts_same v now);
+  acts = λ now. inl (acts_same (after_silence v now) now);
   emits = λ now. emitted v now;
   sends = λ octets taken now opened. inl refl;
   reads = λ len. inl refl;

@@ -5,11 +5,12 @@ use Rattle.clock.specs.declared.moment.Moment.{Moment}
 use Rattle.clock.specs.Moments.{has_come}
 use Rattle.retransmit.specs.Timeout.{Timeout, after_sample, after_lost_syn}
 use Rattle.tcp_state.specs.declared.emission.Due.{Due}
-use Rattle.tcp_state.specs.declared.emission.Due.TheVariants.{Rst, Syn, Text, Probe, Ack}
+use Rattle.tcp_state.specs.declared.emission.Due.TheVariants.{Rst, Syn, Text, Probe, Ack, KeepAlive}
 use Rattle.tcp_state.specs.declared.resend.Timed.{Timed}
 use Rattle.tcp_halves.specs.Stream.{outstanding, after_sent}
 use Rattle.tcp_state.specs.Resend.{Resend, timing_of, resend_probed, is_timed_by, timeout_sampled, timed_left, resend_acknowledged}
 use Rattle.tcp_state.specs.View.{View, is_opening, is_syn_received}
+use Rattle.tcp_state.specs.Alive.{after_silence}
 use Rattle.tcp_state.specs.Timing.{clocked, retransmission_expired, probe_expired, after_timers}
 use Rattle.tcp_state.specs.Calls.{aborted_at}
 use Rattle.tcp_state.specs.Arrival.{after_heard, before, resend_heard, resend_after, timed_by}
@@ -40,6 +41,7 @@ not_timed v Probe now may again =
     let sent = record v { sending = after_sent v.sending (end_of (probe_stretch v)); resend = resend_probed v.resend } in
     either View (λ w. w.resend.timed ≡ None) (brings_new_octets v (probe_stretch v)) (after_new_octets sent) sent (λ new. refl) (λ old. refl)
 not_timed v Ack now may again = cc
+not_timed v KeepAlive now may again = cc
 
 -- What is measured.
 
@@ -142,17 +144,19 @@ emission_measures v now = sent (first_due v) refl
 -- Every event.
 
 -- a timer that expires takes no sample
-timers_measure : (v : View) (now : Moment) → Measures v (Some now) (clocked false (after_timers v now) now)
+timers_measure : (v : View) (now : Moment) → Measures v (Some now) (clocked false (after_timers (after_silence v now) now) now)
 timers_measure v now =
     let m : Option Moment = Some now in
-    clocked_measures v (after_timers v now) m false now (by_others (Measures v m) v now
-    (either View (Measures v m) (has_come v.timers.retransmission now) (retransmission_expired v) _ (λ comes. keeps v _ m refl refl)
-    (λ early. either View (Measures v m) (has_come v.timers.probe now) (probe_expired v now) v (λ comes. keeps v _ m refl refl) (λ late. keeps v v m refl refl)))
+    let asked = after_silence v now in
+    clocked_measures v (after_timers asked now) m false now (by_others (Measures v m) asked now
+    (either View (Measures v m) (has_come v.timers.retransmission now) (retransmission_expired asked) _ (λ comes. keeps v _ m refl refl)
+    (λ early. either View (Measures v m) (has_come v.timers.probe now) (probe_expired asked now) asked (λ comes. keeps v _ m refl refl) (λ late. keeps v asked m refl refl)))
     (λ w owes k. record { sampled = k.sampled; begins = k.begins }) (λ w k. record { sampled = k.sampled; begins = k.begins }))
 
 measures : (v : View) (e : Event) → Measures v (moment_of e) (after_event v e)
 measures v = by_event (λ e. Measures v (moment_of e)) v (record {
   same = λ e. keeps v v (moment_of e) refl refl;
+  asks = λ e alive. keeps v _ (moment_of e) refl refl;
   heard = λ s now lives. heard_measures v s now;
   over = λ now ends. leaves v _ (Some now) refl refl;
   given_up = λ now waits expired. leaves v _ (Some now) refl refl;

@@ -7,7 +7,7 @@ use Rattle.clock.specs.declared.moment.Moment.{Moment}
 use Rattle.clock.specs.Moments.{has_come}
 use Rattle.tcp_state.specs.declared.arrival.Before.{Before}
 use Rattle.tcp_state.specs.declared.emission.Due.{Due}
-use Rattle.tcp_state.specs.declared.emission.Due.TheVariants.{Rst, Syn, Text, Probe, Ack}
+use Rattle.tcp_state.specs.declared.emission.Due.TheVariants.{Rst, Syn, Text, Probe, Ack, KeepAlive}
 use Rattle.tcp_state.specs.declared.emission.Stretch.{Stretch}
 use Rattle.tcp_state.specs.declared.resend.Timed.{Timed}
 use Rattle.tcp_halves.specs.Halves.{Sending}
@@ -16,6 +16,7 @@ use Rattle.tcp_halves.specs.Stream.{outstanding}
 use Rattle.tcp_halves.proofs.Choices.{either, by, clash, not_true}
 use Rattle.tcp_state.specs.Resend.{Resend, timing_of, timed_left, resend_acknowledged}
 use Rattle.tcp_state.specs.View.{View, IsSound, is_opening, is_closed, is_syn_received}
+use Rattle.tcp_state.specs.Alive.{after_silence}
 use Rattle.tcp_state.specs.Timing.{clocked, retransmission_expired, probe_expired, after_timers}
 use Rattle.tcp_state.specs.Arrival.{after_heard, before, is_moved, resend_heard, resend_after, timed_by}
 use Rattle.tcp_state.specs.Due.{first_due, sends_again, end_of, after_resent, after_first_sent, after_numbers, after_new_text, brings_new_octets, after_syn_ack_paid, after_syn_out, after_emitted}
@@ -62,6 +63,7 @@ new_times v (Text stretch) now new = elim new [
 new_times v Rst now new = elim new [ inl first ↦ let bad : Rst ≡ Syn = first.0 in cc | inr stretch ↦ let bad : Rst ≡ Text stretch.0 = stretch.1 in cc ]
 new_times v Probe now new = elim new [ inl first ↦ let bad : Probe ≡ Syn = first.0 in cc | inr stretch ↦ let bad : Probe ≡ Text stretch.0 = stretch.1 in cc ]
 new_times v Ack now new = elim new [ inl first ↦ let bad : Ack ≡ Syn = first.0 in cc | inr stretch ↦ let bad : Ack ≡ Text stretch.0 = stretch.1 in cc ]
+new_times v KeepAlive now new = elim new [ inl first ↦ let bad : KeepAlive ≡ Syn = first.0 in cc | inr stretch ↦ let bad : KeepAlive ≡ Text stretch.0 = stretch.1 in cc ]
 
 pub new_are_measured : (v : View) (due : Due) (now : Moment) → first_due v ≡ Some due → BringsNew v due → v.resend.timed ≡ None
     → (timed : Timed) × ((after_event v (Emits now)).resend.timed ≡ Some timed) × (timed.end.0 ≡ (after_event v (Emits now)).sending.nxt) × (timed.since ≡ now)
@@ -138,6 +140,7 @@ emitted_goes_on v now timed sound is = sent (first_due v) refl
     ]
     sent (Some Probe) first = again Probe first refl (inl refl)
     sent (Some Ack) first = inl is
+    sent (Some KeepAlive) first = inl is
 
 acts_on : (v : View) (now : Moment) → (clocked false (after_timers v now) now).resend.timed ≡ v.resend.timed
 acts_on v now =
@@ -149,10 +152,11 @@ acts_on v now =
 pub measuring_goes_on : (v : View) (e : Event) (timed : Timed) → IsSound v → v.resend.timed ≡ Some timed → GoesOn v e timed (after_event v e)
 measuring_goes_on v e timed sound is = by_event (λ e w. GoesOn v e timed w) v (record {
   same = λ e. inl is;
+  asks = λ e alive. inl is;
   heard = λ s now lives. heard_goes_on v s now timed is;
   over = λ now ends. inr (refl, inl refl);
   given_up = λ now waits expired. inr (refl, inl refl);
-  acts = λ now. inl (acts_on v now ∙ is);
+  acts = λ now. inl (acts_on (after_silence v now) now ∙ is);
   emits = λ now. emitted_goes_on v now timed sound is;
   sends = λ octets taken now opened. inl is;
   reads = λ len. inl is;

@@ -4,6 +4,7 @@ use Rattle.tcp_segment.specs.Segment.{Segment}
 use Rattle.tcp_halves.specs.Windows.{open_window, takes_enough}
 use Rattle.tcp_halves.proofs.Choices.{either}
 use Rattle.tcp_state.specs.View.{View, awaits_fin_ack}
+use Rattle.tcp_state.specs.Alive.{after_silence}
 use Rattle.tcp_state.specs.New.{takes_last, passes_full, takes_fin}
 use Rattle.tcp_state.specs.Arrival.{is_receiving, after_ack, after_window, after_text, after_heard}
 use Rattle.tcp_state.specs.Due.{first_due}
@@ -41,10 +42,11 @@ heard_same v s =
 pub set_up_stays : (v : View) (e : Event) → (after_event v e).minshall ≡ v.minshall
 set_up_stays v = by_event (λ e w. Same v w) v (record {
   same = λ e. refl;
+  asks = λ e alive. refl;
   heard = λ s now lives. heard_same v s;
   over = λ now ends. refl;
   given_up = λ now waits expired. refl;
-  acts = λ now. ap (λ (w : View). w.minshall) (timers_keep v now);
+  acts = λ now. ap (λ (w : View). w.minshall) (timers_keep (after_silence v now) now);
   emits = λ now. ap (λ (w : View). w.minshall) (emission_keeps v (first_due v) now);
   sends = λ octets taken now opened. refl;
   reads = λ len. refl;

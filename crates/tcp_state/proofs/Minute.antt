@@ -22,7 +22,8 @@ use Rattle.tcp_halves.specs.Stream.{outstanding}
 use Rattle.tcp_halves.specs.Windows.{open_window, sendable, takes_enough, is_worth_sending}
 use Rattle.tcp_state.specs.View.{View, IsSound, is_opening, is_closed, is_write_finished, awaits_fin_ack, takes_flag_number, end_of_wait, is_at_end, after_stop, after_reset}
 use Rattle.tcp_state.specs.Congestion.{KeepsCongestion}
-use Rattle.tcp_state.specs.Timing.{KeepsTime, has_unacknowledged, probes, clocked, expires, gives_up, retransmission_expired, probe_expired, after_expiry, delayed_ack_expired, override_expired, after_timers, after_tick}
+use Rattle.tcp_state.specs.Alive.{may_rest, is_silent, after_silence}
+use Rattle.tcp_state.specs.Timing.{KeepsTime, has_unacknowledged, probes, clocked, expires, expires_for_good, is_silent_for_good, gives_up, retransmission_expired, probe_expired, after_expiry, delayed_ack_expired, override_expired, after_timers, after_tick}
 use Rattle.tcp_state.specs.New.{passes_full, sends_new, sends_fin, waits_no_longer}
 use Rattle.tcp_state.specs.Due.{probe_stretch, ack_due, again, goes_again, again_from, new_octets, fin_alone, new_due, first_due}
 use Rattle.tcp_state.specs.Said.{segment_of}
@@ -32,7 +33,7 @@ use Rattle.tcp_state.proofs.Unchanged.{none_below}
 use Rattle.tcp_state.proofs.GoesOut.{without_fin}
 use Rattle.tcp_state.proofs.ResetAges.{live}
 use Rattle.tcp_state.proofs.Clocked.{timers_keep}
-use Rattle.tcp_state.proofs.Deadlines.{timers_come}
+use Rattle.tcp_state.proofs.Deadlines.{timers_come, busy}
 use Rattle.tcp_state.proofs.Expiries.{sent_again, probes_again, probes_alone}
 use Rattle.tcp_state.proofs.StillStreams.{ticks_leave}
 use Rattle.tcp_state.proofs.Fewer.{holds_where}
@@ -46,23 +47,34 @@ waits_none TimeWait released since now e = cc
 waits_none Closed released since now e = cc
 waits_none _ released since now e = refl
 
+-- and no silence, where octets are held
+no_silence : (v : View) (now : Moment) → 0 < length v.sending.held → is_silent v now ≡ false
+no_silence v now some =
+    let filled : (length v.sending.held == 0) ≡ false = elim (eqb_tells (length v.sending.held) 0) [ inl t ↦ absurd (omega (arith, t.1, some)) | inr t ↦ t.0 ] in
+    busy v now (ap (λ b. may_rest v.state && b) filled ∙ and_false (may_rest v.state))
+
 stays_up : (v : View) (now : Moment) → IsSound v → 0 < length v.sending.held → v.resend.expiries < 12 → is_closed (after_tick v now).state ≡ false
 stays_up v now sound some few =
     let P : View → Type 0 = λ w. is_closed w.state ≡ false in
     let holds = holds_where v sound some in
+    let quiet = after_silence v now in
     either View P (is_at_end v now) (after_stop v) _ (λ over. clash (is_at_end v now) over (waits_none v.state v.released v.since now holds.goes_on))
     (λ remains. either View P (gives_up v now) (after_reset v (Some ETIMEDOUT)) _
-    (λ given_up. clash (nat_le MOST_EXPIRIES v.resend.expiries) (and_right (expires v now) (nat_le MOST_EXPIRIES v.resend.expiries) given_up) (lt-leb MOST_EXPIRIES v.resend.expiries few))
-    (λ goes_on. either View P (has_come (next_of v.timers) now) (clocked false (after_timers v now) now) v
-    (λ comes. ap (λ (w : View). is_closed w.state) (timers_keep v now) ∙ holds.lives) (λ early. holds.lives)))
+    (λ given_up. elim (or_else (expires_for_good v now) (is_silent_for_good v now) given_up) [
+      | inl expired ↦ clash (nat_le MOST_EXPIRIES v.resend.expiries) (and_right (expires v now) (nat_le MOST_EXPIRIES v.resend.expiries) expired) (lt-leb MOST_EXPIRIES v.resend.expiries few)
+      | inr silent ↦ clash (is_silent v now) (and_left (is_silent v now) (nat_le MOST_EXPIRIES v.alive.unanswered) silent) (no_silence v now some)
+    ])
+    (λ goes_on. either View P (has_come (next_of v.timers) now) (clocked false (after_timers quiet now) now) quiet
+    (λ comes. ap (λ (w : View). is_closed w.state) (timers_keep quiet now) ∙ holds.lives) (λ early. holds.lives)))
 
 -- so the timers act, or none has come
-by_live_tick : (P : View → Type 0) (v : View) (now : Moment) → is_closed (after_tick v now).state ≡ false → P (clocked false (after_timers v now) now) → (has_come (next_of v.timers) now ≡ false → P v) → P (after_tick v now)
+by_live_tick : (P : View → Type 0) (v : View) (now : Moment) → is_closed (after_tick v now).state ≡ false → P (clocked false (after_timers (after_silence v now) now) now) → (has_come (next_of v.timers) now ≡ false → P (after_silence v now)) → P (after_tick v now)
 by_live_tick P v now lives acts rests =
     let Q : View → Type 0 = λ w. is_closed w.state ≡ false → P w in
+    let quiet = after_silence v now in
     either View Q (is_at_end v now) (after_stop v) _ (λ over living. cc)
     (λ remains. either View Q (gives_up v now) (after_reset v (Some ETIMEDOUT)) _ (λ given_up living. cc)
-    (λ goes_on. either View Q (has_come (next_of v.timers) now) (clocked false (after_timers v now) now) v (λ comes living. acts) (λ early living. rests early))) lives
+    (λ goes_on. either View Q (has_come (next_of v.timers) now) (clocked false (after_timers quiet now) now) quiet (λ comes living. acts) (λ early living. rests early))) lives
 
 pub leaves_streams : (v : View) (now : Moment) → IsSound v → 0 < length v.sending.held → v.resend.expiries < 12
     → ((after_tick v now).sending ≡ v.sending) × ((after_tick v now).receiving ≡ v.receiving) × ((after_tick v now).state ≡ v.state)
@@ -221,7 +233,7 @@ timers_idle v now none =
 tick_idles : (v : View) (now : Moment) → is_closed (after_tick v now).state ≡ false → expires v now ≡ false → Idles v now (after_tick v now)
 tick_idles v now lives none =
     by_live_tick (Idles v now) v now lives
-    (let k = timers_idle v now none in record { mark = k.mark; congestion = k.congestion; still = k.still; over = k.over; nodelay = k.nodelay; passes = k.passes })
+    (let k = timers_idle (after_silence v now) now none in record { mark = k.mark; congestion = k.congestion; still = k.still; over = k.over; nodelay = k.nodelay; passes = k.passes })
     (λ early. record {
       mark = refl;
       congestion = refl;
@@ -267,7 +279,7 @@ sends_after v now sound some few =
     let una : w.sending.una ≡ v.sending.una = ap (λ (t : Sending). t.una) k.0 in
     let held : length w.sending.held ≡ length v.sending.held = ap (λ (t : Sending). length t.held) k.0 in
     let smss : w.sending.smss ≡ v.sending.smss = ap (λ (t : Sending). t.smss) k.0 in
-    let owes : w.owes_reset ≡ v.owes_reset = by_live_tick (λ x. x.owes_reset ≡ v.owes_reset) v now (stays_up v now sound some few) (ap (λ (x : View). x.owes_reset) (timers_keep v now)) (λ early. refl) in
+    let owes : w.owes_reset ≡ v.owes_reset = by_live_tick (λ x. x.owes_reset ≡ v.owes_reset) v now (stays_up v now sound some few) (ap (λ (x : View). x.owes_reset) (timers_keep (after_silence v now) now)) (λ early. refl) in
     record {
       small = omega (arith, una, sound.una);
       some = omega (arith, held, some);

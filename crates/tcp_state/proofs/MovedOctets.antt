@@ -50,7 +50,7 @@ sent v octets now sound open_yet =
     let lives = writes v.state (neither (is_opening v.state) (is_write_closed v.state) open_yet).1 in
     goes v.pending_error (is_opening v.state) (is_write_closed v.state) v (with_octets v (take (send_count v octets) octets) now) (no_error v.pending_error (is_closed v.state) lives sound.error) open_yet
 
-none_are : (octets : List ℕ) → (length octets == 0) ≡ true → octets ≡ []
+pub none_are : (octets : List ℕ) → (length octets == 0) ≡ true → octets ≡ []
 none_are [] e = refl
 none_are (x ∷ octets) e = let none = eqb-true (length (x ∷ octets)) 0 e in absurd (omega (arith, none))
 

@@ -25,7 +25,7 @@ KeepsWindow v stretch = outstanding v.sending ≤ stretch.offset → (stretch.of
 pub keeps_window : (v : View) (stretch : Stretch) → IsSound v → first_due v ≡ Some (Text stretch) → outstanding v.sending ≤ stretch.offset
     → (stretch.offset ≡ outstanding v.sending) × (end_of stretch ≤ v.sending.window)
 keeps_window v stretch sound first = by_due (λ o. (t : Stretch) → o ≡ Some (Text t) → KeepsWindow v t) v (record {
-  nothing = λ quiet t e. cc;
+  nothing = λ quiet heard t e. cc;
   rst = λ owes t e. cc;
   syn = λ opening goes t e. cc;
   once_more = λ opened mark is goes t e. let same : again v mark ≡ t = cc in subst (KeepsWindow v) same (λ past. let within = sound.mark mark is in absurd (omega (arith, past, within)));
@@ -39,6 +39,7 @@ keeps_window v stretch sound first = by_due (λ o. (t : Stretch) → o ≡ Some 
       subst (KeepsWindow v) same (λ past. (refl, omega (arith, room)));
   probe = λ opened owes goes t e. cc;
   ack = λ owes t e. cc;
+  asks = λ quiet owes t e. cc;
 }) stretch first
 
 -- .. and in the congestion window, if it brings octets
@@ -47,7 +48,7 @@ KeepsCwnd v stretch = outstanding v.sending ≤ stretch.offset → 0 < stretch.c
 
 pub keeps_cwnd : (v : View) (stretch : Stretch) → IsSound v → first_due v ≡ Some (Text stretch) → outstanding v.sending ≤ stretch.offset → 0 < stretch.count → end_of stretch ≤ v.congestion.cwnd
 keeps_cwnd v stretch sound first = by_due (λ o. (t : Stretch) → o ≡ Some (Text t) → KeepsCwnd v t) v (record {
-  nothing = λ quiet t e. cc;
+  nothing = λ quiet heard t e. cc;
   rst = λ owes t e. cc;
   syn = λ opening goes t e. cc;
   once_more = λ opened mark is goes t e. let same : again v mark ≡ t = cc in subst (KeepsCwnd v) same (λ past some. let within = sound.mark mark is in absurd (omega (arith, past, within)));
@@ -58,4 +59,5 @@ keeps_cwnd v stretch sound first = by_due (λ o. (t : Stretch) → o ≡ Some (T
   fin = λ opened sends t e. let same : fin_alone v ≡ t = cc in subst (KeepsCwnd v) same (λ past more. absurd (omega (arith, more)));
   probe = λ opened owes goes t e. cc;
   ack = λ owes t e. cc;
+  asks = λ quiet owes t e. cc;
 }) stretch first

@@ -7,6 +7,7 @@ use Rattle.tcp_state.specs.View.{View}
 use Rattle.tcp_state.specs.Timing.{awaits_more, running}
 use Rattle.tcp_state.specs.declared.timing.TheConstants.{OVERRIDE_WAIT}
 use Rattle.tcp_state.specs.Arrival.{is_receiving, after_ack, after_window, after_text, after_heard}
+use Rattle.tcp_state.specs.Alive.{after_silence}
 use Rattle.tcp_state.specs.Due.{first_due}
 use Rattle.tcp_state.specs.Edges.{Event, SetsNoDelay, after_event}
 use Rattle.tcp_state.proofs.Clocked.{timers_keep, emission_keeps}
@@ -35,10 +36,11 @@ heard_same v s =
 pub only_told : (v : View) (e : Event) → Same v (after_event v e) ⊎ ((on : Bool) × (now : Moment) × (e ≡ SetsNoDelay on now))
 only_told v = by_event (λ e w. Same v w ⊎ ((on : Bool) × (now : Moment) × (e ≡ SetsNoDelay on now))) v (record {
   same = λ e. inl refl;
+  asks = λ e alive. inl refl;
   heard = λ s now lives. inl (heard_same v s);
   over = λ now ends. inl refl;
   given_up = λ now waits expired. inl refl;
-  acts = λ now. inl (ap (λ (w : View). w.nodelay) (timers_keep v now));
+  acts = λ now. inl (ap (λ (w : View). w.nodelay) (timers_keep (after_silence v now) now));
   emits = λ now. inl (ap (λ (w : View). w.nodelay) (emission_keeps v (first_due v) now));
   sends = λ octets taken now opened. inl refl;
   reads = λ len. inl refl;

@@ -4,13 +4,14 @@ use Rattle.std.proofs.lemmas.Bool.{ltb-true, leb-true}
 use Rattle.tcp_segment.specs.Wire.{past}
 use Rattle.tcp_segment.specs.Segment.{Segment}
 use Rattle.clock.specs.declared.moment.Moment.{Moment}
-use Rattle.tcp_state.specs.declared.emission.Due.TheVariants.{Syn, Text, Probe, Ack}
+use Rattle.tcp_state.specs.declared.emission.Due.TheVariants.{Syn, Text, Probe, Ack, KeepAlive}
 use Rattle.tcp_state.specs.declared.emission.Stretch.{Stretch}
 use Rattle.tcp_state.specs.declared.calls.Refusal.TheVariants.{ECONNREFUSED, ETIMEDOUT}
 use Rattle.tcp_halves.specs.Halves.{Sending, Receiving}
 use Rattle.tcp_halves.specs.Stream.{outstanding, is_new_ack, receive_window, octets_gained, after_octets, stands_next, after_end, after_sent}
 use Rattle.tcp_halves.specs.Windows.{window_in, updates_window, after_window_update, after_advertisement, has_grown, receive_room, whole_units, syn_window, after_syn_advertisement}
 use Rattle.tcp_state.specs.View.{View, IsSound, is_opening, is_syn_sent, is_syn_received, is_write_finished, takes_flag_number, after_stop, after_reset}
+use Rattle.tcp_state.specs.Alive.{after_silence}
 use Rattle.tcp_state.specs.Timing.{clocked, after_timers}
 use Rattle.tcp_state.specs.Calls.{after_shutdown, aborted_at, after_release}
 use Rattle.tcp_state.specs.Arrival.{reset_error, is_receiving, after_ack, after_window, after_text, after_fin, after_lost, after_heard}
@@ -297,7 +298,7 @@ by_emission v now sound =
     let text : (stretch : Stretch) → end_of stretch < 2 ^ 21 → NeverBack v (after_first v (Some (Text stretch)) now) = λ stretch small.
     alike v (after_ack_paid (after_stretch v stretch now)) (after_emitted v (Text stretch) now) refl refl (by_text v stretch now sound small) in
     by_due (λ o. NeverBack v (after_first v o now)) v (record {
-      nothing = λ quiet. still v v refl refl refl;
+      nothing = λ quiet heard. still v v refl refl refl;
       rst = λ owes. still v _ refl refl refl;
       syn = λ opening goes. let out = after_going_out v Syn now in alike v out (clocked false out now) refl refl (by_syn v now sound);
       once_more = λ opened mark is goes.
@@ -314,6 +315,7 @@ by_emission v now sound =
       fin = λ opened sends. text (fin_alone v) (omega (arith, few));
       probe = λ opened owes probes. alike v (after_ack_paid (after_probe v)) (after_emitted v Probe now) refl refl (by_probe v sound);
       ack = λ owes. alike v (after_ack_paid v) (after_emitted v Ack now) refl refl (pays v v sound refl (still v v refl refl refl));
+      asks = λ quiet owes. alike v (after_ack_paid v) (after_emitted v KeepAlive now) refl refl (pays v v sound refl (still v v refl refl refl));
     })
 
 -- Every event.
@@ -321,11 +323,12 @@ by_emission v now sound =
 pub never_back : (v : View) (e : Event) → IsSound v → HasNumber e → NeverBack v (after_event v e)
 never_back v e sound = by_event (λ e w. HasNumber e → NeverBack v w) v (record {
   same = λ e fits. still v v refl refl refl;
+  asks = λ e alive fits. still v _ refl refl refl;
   heard = λ s now lives fits. alike v (after_heard v s) _ refl refl (by_heard v s sound fits);
   over = λ now ends fits. ended v (after_stop v) sound refl refl refl;
   given_up = λ now waits expired fits. ended v (after_reset v (Some ETIMEDOUT)) sound refl refl refl;
-  acts = λ now fits. let kept = timers_keep v now in
-      alike v v (clocked false (after_timers v now) now) (ap (λ (w : View). w.sending) kept) (ap (λ (w : View). w.receiving) kept) (still v v refl refl refl);
+  acts = λ now fits. let asked = after_silence v now in let kept = timers_keep asked now in
+      alike v v (clocked false (after_timers asked now) now) (ap (λ (w : View). w.sending) kept) (ap (λ (w : View). w.receiving) kept) (still v v refl refl refl);
   emits = λ now fits. by_emission v now sound;
   sends = λ octets taken now opened fits. still v _ refl refl refl;
   reads = λ len fits. record { una = rests v.sending.una; nxt = rests v.sending.nxt; rnext = λ opened. rests v.receiving.rnext; edge = λ opened. rests v.receiving.edge };

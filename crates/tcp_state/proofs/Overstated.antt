@@ -9,7 +9,7 @@ use Rattle.tcp_halves.specs.Windows.{window_in, has_grown, after_advertisement, 
 use Rattle.tcp_halves.proofs.Choices.{either}
 use Rattle.tcp_halves.proofs.Keeping.{in_units}
 use Rattle.tcp_state.specs.declared.emission.Due.{Due}
-use Rattle.tcp_state.specs.declared.emission.Due.TheVariants.{Rst, Syn, Text, Probe, Ack}
+use Rattle.tcp_state.specs.declared.emission.Due.TheVariants.{Rst, Syn, Text, Probe, Ack, KeepAlive}
 use Rattle.tcp_state.specs.Arrival.{is_acceptable_to}
 use Rattle.tcp_state.specs.View.{View, IsSound, is_syn_sent}
 use Rattle.tcp_state.specs.Due.{flags_of, window_of, after_ack_paid, after_syn_ack_paid, after_syn_out, after_stretch, after_probe, after_emitted}
@@ -43,6 +43,7 @@ units_told v Syn now peer sound acks plain same = cc
 units_told v (Text stretch) now peer sound acks plain same = told_after v (after_stretch v stretch now) peer sound same (stretch_receives v stretch now)
 units_told v Probe now peer sound acks plain same = told_after v (after_probe v) peer sound same (probe_receives v)
 units_told v Ack now peer sound acks plain same = told_after v v peer sound same refl
+units_told v KeepAlive now peer sound acks plain same = told_after v v peer sound same refl
 
 pub octets_told : (v : View) (due : Due) (now : Moment) → (let f = flags_of v due in f.ack) ≡ true → (let f = flags_of v due in f.syn) ≡ true
     → window_of v due ≤ receive_window (after_emitted v due now).receiving
@@ -56,6 +57,7 @@ octets_told v Rst now acks syn = cc
 octets_told v (Text stretch) now acks syn = cc
 octets_told v Probe now acks syn = cc
 octets_told v Ack now acks syn = cc
+octets_told v KeepAlive now acks syn = cc
 
 -- the right edge is at no earlier position after any event
 pub edge_stays : (initial next edge later_next later_edge : ℕ) (v : View) (e : Event) → IsSound v → HasNumber e → is_syn_sent v.state ≡ false → ReceivesAt initial next edge v.receiving

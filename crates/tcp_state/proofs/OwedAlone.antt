@@ -1,11 +1,12 @@
 -- Why an acknowledgement that is owed goes out alone where nothing else waits.
 use Rattle.std.proofs.Common.{◌≡◌, ◌+◌, ◌≤◌, ◌==◌, ◌||◌, ◌&&◌, not, nat_lt, if◌then◌else◌, Bool, true, false, [], length, Some, None, is_some, inl, arith, refl, ◌∙◌, ap, subst}
 use Rattle.std.specs.Option.{option_or}
-use Rattle.tcp_state.specs.declared.emission.Due.TheVariants.{Rst, Syn, Text, Probe, Ack}
+use Rattle.tcp_state.specs.declared.emission.Due.TheVariants.{Rst, Syn, Text, Probe, Ack, KeepAlive}
 use Rattle.tcp_halves.specs.Stream.{outstanding}
 use Rattle.tcp_halves.specs.Windows.{sendable, is_worth_sending}
 use Rattle.tcp_state.specs.View.{View, IsSound, is_opening, is_closed, is_syn_sent, awaits_fin_ack, takes_flag_number}
 use Rattle.tcp_state.specs.Timing.{probes}
+use Rattle.tcp_state.specs.Alive.{is_alive_due}
 use Rattle.tcp_state.specs.New.{sends_fin, waits_no_longer}
 use Rattle.tcp_state.specs.Due.{is_ack_due, ack_due, again_from, new_octets, fin_alone, new_due, first_due, ack_number}
 use Rattle.tcp_state.specs.Said.{segment_of}
@@ -36,22 +37,26 @@ owing_lives true true true delays e o = cc
 owing_lives false true true delays e o = cc
 owing_lives sent true false delays e o = cc
 
-ack_first : (v : View) → IsSound v → is_opening v.state ≡ false → awaits_fin_ack v.state ≡ false → v.sending.held ≡ [] → v.owes_ack ≡ true → first_due v ≡ Some Ack
-ack_first v sound opened shut empty owes =
+-- and nothing but an acknowledgement, or a probe of a silent peer, is due
+pub ack_or_probe : (v : View) → IsSound v → is_opening v.state ≡ false → awaits_fin_ack v.state ≡ false → v.sending.held ≡ [] → is_closed v.state ≡ false → first_due v ≡ ack_due v
+ack_or_probe v sound opened shut empty lives =
     let none = none_out v sound opened shut empty in
-    let lives : is_closed v.state ≡ false = owing_lives (is_syn_sent v.state) (is_closed v.state) v.owes_ack v.delays_ack sound.ack owes in
     let held : length v.sending.held ≡ 0 = ap length empty in
     let few : sendable v.sending v.congestion.cwnd ≡ 0 = omega (arith, held) in
     let probed = unprobed v shut empty in
-    let due : is_ack_due v ≡ true = or_left v.owes_ack _ owes in
     ap (λ b. if b then Some Rst else if is_opening v.state then (if (outstanding v.sending == 0) || is_some v.resend.mark then Some Syn else ack_due v) else option_or (again_from v v.resend.mark) (new_due v)) (live v sound lives)
     ∙ (ap (λ b. if b then (if (outstanding v.sending == 0) || is_some v.resend.mark then Some Syn else ack_due v) else option_or (again_from v v.resend.mark) (new_due v)) opened
     ∙ (ap (λ m. option_or (again_from v m) (new_due v)) (none_below v.resend.mark (outstanding v.sending) none sound.mark)
     ∙ (ap (λ n. if nat_lt 0 n && is_worth_sending v.sending v.congestion.cwnd (waits_no_longer v) then Some (Text (new_octets v)) else if sends_fin v then Some (Text (fin_alone v)) else if v.resend.owes_probe && probes v then Some Probe else ack_due v) few
     ∙ (ap (λ b. if b && (outstanding v.sending == length v.sending.held) && nat_lt (outstanding v.sending) v.sending.window then Some (Text (fin_alone v)) else if v.resend.owes_probe && probes v then Some Probe else ack_due v) shut
     ∙ (ap (λ b. if v.resend.owes_probe && b then Some Probe else ack_due v) probed
-    ∙ (ap (λ b. if b then Some Probe else ack_due v) (and_false v.resend.owes_probe)
-    ∙ ap (λ b. if b then Some Ack else None) due))))))
+    ∙ ap (λ b. if b then Some Probe else ack_due v) (and_false v.resend.owes_probe))))))
+
+ack_first : (v : View) → IsSound v → is_opening v.state ≡ false → awaits_fin_ack v.state ≡ false → v.sending.held ≡ [] → v.owes_ack ≡ true → first_due v ≡ Some Ack
+ack_first v sound opened shut empty owes =
+    let lives : is_closed v.state ≡ false = owing_lives (is_syn_sent v.state) (is_closed v.state) v.owes_ack v.delays_ack sound.ack owes in
+    let due : is_ack_due v ≡ true = or_left v.owes_ack _ owes in
+    ack_or_probe v sound opened shut empty lives ∙ ap (λ b. if b then Some Ack else if is_alive_due v then Some KeepAlive else None) due
 
 alone_at_next : (v : View) → IsSound v → is_opening v.state ≡ false → awaits_fin_ack v.state ≡ false → v.sending.held ≡ [] → ack_number v ≡ v.sending.nxt
 alone_at_next v sound opened shut empty =

@@ -5,7 +5,7 @@ use Rattle.tcp_segment.specs.Options.{last_mss}
 use Rattle.tcp_segment.specs.Segment.{Segment, smss_of, shift_of}
 use Rattle.clock.specs.declared.moment.Moment.{Moment}
 use Rattle.tcp_state.specs.declared.emission.Due.{Due}
-use Rattle.tcp_state.specs.declared.emission.Due.TheVariants.{Rst, Syn, Text, Probe, Ack}
+use Rattle.tcp_state.specs.declared.emission.Due.TheVariants.{Rst, Syn, Text, Probe, Ack, KeepAlive}
 use Rattle.tcp_state.specs.declared.emission.Stretch.{Stretch}
 use Rattle.tcp_state.specs.declared.state.State.{State}
 use Rattle.tcp_state.specs.declared.state.State.TheVariants.{Closed, SynSent, SynReceived, Established}
@@ -14,6 +14,7 @@ use Rattle.tcp_halves.specs.Windows.{updates_window}
 use Rattle.tcp_halves.specs.Halves.{Sending, Receiving}
 use Rattle.tcp_halves.proofs.Choices.{either, by, clash, and_left, and_right, not_true}
 use Rattle.tcp_state.specs.View.{View, IsSound, is_closed, is_syn_sent, after_reset}
+use Rattle.tcp_state.specs.Alive.{after_silence}
 use Rattle.tcp_state.specs.Timing.{clocked, after_timers}
 use Rattle.tcp_state.specs.Arrival.{owing_ack, scales_with, after_first_syn, is_receiving, reset_error, is_acceptable_to, after_rst_in_syn_sent, after_rst, is_right_syn_ack, is_simultaneous_syn, after_simultaneous_syn, after_syn_ack, after_ack, after_window, after_text, after_fin, after_acceptable_segment, after_segment, is_lost, after_lost, after_heard}
 use Rattle.tcp_state.specs.Due.{first_due, octets_of, octets_of_stretch, probe_stretch, again, new_octets, fin_alone}
@@ -203,10 +204,11 @@ SettledBy v e w = Same v w ⊎ ((s : Segment) × (now : Moment) × (e ≡ Hears 
 settled_by : (v : View) (e : Event) → SettledBy v e (after_event v e)
 settled_by v e = by_event (SettledBy v) v (record {
   same = λ e. inl refl;
+  asks = λ e alive. inl refl;
   heard = λ s now lives. elim (heard_settled v s) [ inl stays ↦ inl stays.0 | inr takes ↦ inr (s, now, refl, takes.0, record { terms = takes.1.terms; opens = takes.1.opens }) ];
   over = λ now ends. inl refl;
   given_up = λ now going expired. inl refl;
-  acts = λ now. inl (ticked_settled v now);
+  acts = λ now. inl (ticked_settled (after_silence v now) now);
   emits = λ now. inl (emitted_settled v now);
   sends = λ octets taken now opened. inl refl;
   reads = λ len. inl refl;
@@ -277,7 +279,7 @@ pub keeps_to_size : (v : View) (due : Due) → IsSound v → first_due v ≡ Som
 keeps_to_size v due sound first =
     let most = v.sending.smss in
     by_due (λ o. (d : Due) → o ≡ Some d → length (octets_of v d) ≤ most) v (record {
-      nothing = λ quiet d e. cc;
+      nothing = λ quiet heard d e. cc;
       rst = λ owes d e. let same : Rst ≡ d = cc in subst (λ x. length (octets_of v x) ≤ most) same (omega arith);
       syn = λ opening goes d e. let same : Syn ≡ d = cc in subst (λ x. length (octets_of v x) ≤ most) same (omega arith);
       once_more = λ opened mark is goes d e. let same : Text (again v mark) ≡ d = cc in subst (λ x. length (octets_of v x) ≤ most) same (short v (again v mark) most (omega arith));
@@ -285,6 +287,7 @@ keeps_to_size v due sound first =
       fin = λ opened sends d e. let same : Text (fin_alone v) ≡ d = cc in subst (λ x. length (octets_of v x) ≤ most) same (short v (fin_alone v) most (omega arith));
       probe = λ opened owes goes d e. let same : Probe ≡ d = cc in let one = probe_short v in subst (λ x. length (octets_of v x) ≤ most) same (short v (probe_stretch v) most (omega (arith, one, sound.segment_least)));
       ack = λ owes d e. let same : Ack ≡ d = cc in subst (λ x. length (octets_of v x) ≤ most) same (omega arith);
+      asks = λ quiet owes d e. let same : KeepAlive ≡ d = cc in subst (λ x. length (octets_of v x) ≤ most) same (omega arith);
     }) due first
 
 -- What a SYN says.

@@ -4,7 +4,7 @@ use Rattle.std.proofs.lemmas.Bool.{lt-ltb, le-ltb, eq-eqb, eqb-true}
 use Rattle.std.proofs.lemmas.List.{length-drop, length-take}
 use Rattle.std.proofs.Math.Seq.{drop-length}
 use Rattle.tcp_state.specs.declared.emission.Due.{Due}
-use Rattle.tcp_state.specs.declared.emission.Due.TheVariants.{Rst, Syn, Text, Probe, Ack}
+use Rattle.tcp_state.specs.declared.emission.Due.TheVariants.{Rst, Syn, Text, Probe, Ack, KeepAlive}
 use Rattle.tcp_state.specs.declared.emission.Stretch.{Stretch}
 use Rattle.tcp_state.specs.View.{View}
 use Rattle.tcp_state.specs.Due.{IsHeld, MayGoOut, flags_of, flags_of_stretch, octets_of, octets_of_stretch, probe_stretch}
@@ -35,3 +35,4 @@ none_pushed v Syn may none = refl
 none_pushed v (Text stretch) may none = nothing v stretch may none
 none_pushed v Probe may none = nothing v (probe_stretch v) may none
 none_pushed v Ack may none = refl
+none_pushed v KeepAlive may none = refl

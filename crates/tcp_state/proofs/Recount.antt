@@ -5,12 +5,13 @@ use Rattle.tcp_segment.specs.Segment.{Segment}
 use Rattle.clock.specs.declared.moment.Moment.{Moment}
 use Rattle.clock.specs.Moments.{has_come}
 use Rattle.tcp_state.specs.declared.emission.Due.{Due}
-use Rattle.tcp_state.specs.declared.emission.Due.TheVariants.{Rst, Syn, Text, Probe, Ack}
+use Rattle.tcp_state.specs.declared.emission.Due.TheVariants.{Rst, Syn, Text, Probe, Ack, KeepAlive}
 use Rattle.tcp_state.specs.declared.emission.Stretch.{Stretch}
 use Rattle.tcp_halves.specs.Stream.{outstanding, after_sent}
 use Rattle.tcp_halves.proofs.Choices.{either, by, clash}
 use Rattle.tcp_state.specs.Resend.{Resend, stopped, once_more, resend_probed}
 use Rattle.tcp_state.specs.View.{View, is_closed, is_syn_received}
+use Rattle.tcp_state.specs.Alive.{after_silence}
 use Rattle.tcp_state.specs.Timing.{clocked, retransmission_expired, probe_expired, after_timers}
 use Rattle.tcp_state.specs.Arrival.{is_receiving, beyond_fin, after_new_ack, after_ack, after_window, after_text, after_heard, before, timed_by}
 use Rattle.tcp_state.specs.Counted.{BringsAgain}
@@ -104,6 +105,7 @@ emitted_again v (Text stretch) now again = elim again [
 ]
 emitted_again v Probe now again = probe_counts v now
 emitted_again v Ack now again = elim again [ inl probe ↦ cc | inr other ↦ elim other [ inl syn ↦ let is = syn.0 in cc | inr text ↦ let is = text.1 in cc ] ]
+emitted_again v KeepAlive now again = elim again [ inl probe ↦ cc | inr other ↦ elim other [ inl syn ↦ let is = syn.0 in cc | inr text ↦ let is = text.1 in cc ] ]
 
 pub counted_again : (v : View) (due : Due) (now : Moment) → first_due v ≡ Some due → BringsAgain v due → (after_event v (Emits now)).resend.resent ≡ min (2 ^ 64 - 1) (v.resend.resent + 1)
 counted_again v due now first again = ap (λ o. (after_first v o now).resend.resent) first ∙ emitted_again v due now again
@@ -128,6 +130,7 @@ emitted v now = sent (first_due v) refl
         (λ new. inl (stretch_counts v stretch now v.resend.resent (numbers_first v stretch.offset (end_of stretch) now new)))
     sent (Some Probe) first = inr (now, Probe, refl, first, inl refl)
     sent (Some Ack) first = inl refl
+    sent (Some KeepAlive) first = inl refl
 
 acts_same : (v : View) (now : Moment) → Same v (clocked false (after_timers v now) now)
 acts_same v now =
@@ -139,10 +142,11 @@ acts_same v now =
 pub nothing_else_counts : (v : View) (e : Event) → ((after_event v e).resend.resent ≡ v.resend.resent) ⊎ ((now : Moment) × (due : Due) × (e ≡ Emits now) × (first_due v ≡ Some due) × BringsAgain v due)
 nothing_else_counts v e = by_event (λ e w. Same v w ⊎ Counts v e) v (record {
   same = λ e. inl refl;
+  asks = λ e alive. inl refl;
   heard = λ s now lives. inl (timed_same v s now);
   over = λ now ends. inl refl;
   given_up = λ now waits expired. inl refl;
-  acts = λ now. inl (acts_same v now);
+  acts = λ now. inl (acts_same (after_silence v now) now);
   emits = λ now. emitted v now;
   sends = λ octets taken now opened. inl refl;
   reads = λ len. inl refl;

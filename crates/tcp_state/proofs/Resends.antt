@@ -5,7 +5,7 @@ use Rattle.clock.specs.declared.moment.Moment.{Moment}
 use Rattle.retransmit.specs.declared.timers.Timers.{Timers}
 use Rattle.retransmit.specs.Deadlines.{no_timers}
 use Rattle.tcp_state.specs.declared.emission.Due.{Due}
-use Rattle.tcp_state.specs.declared.emission.Due.TheVariants.{Rst, Syn, Text, Probe, Ack}
+use Rattle.tcp_state.specs.declared.emission.Due.TheVariants.{Rst, Syn, Text, Probe, Ack, KeepAlive}
 use Rattle.tcp_state.specs.declared.emission.Stretch.{Stretch}
 use Rattle.tcp_halves.specs.Halves.{Receiving}
 use Rattle.tcp_halves.specs.Stream.{outstanding, after_sent}
@@ -164,3 +164,4 @@ goes_out v Syn now =
 goes_out v (Text stretch) now = paid_out v (after_stretch v stretch now) now (after_advertisement (after_stretch v stretch now).receiving) true (stretch_out v stretch now)
 goes_out v Probe now = paid_out v (after_probe v) now (after_advertisement (after_probe v).receiving) true (probe_out v now)
 goes_out v Ack now = record { timeout = refl; timed = inl refl; overriding = inl refl; others = refl; expiries = refl; interval = refl; overridden = inl refl }
+goes_out v KeepAlive now = record { timeout = refl; timed = inl refl; overriding = inl refl; others = refl; expiries = refl; interval = refl; overridden = inl refl }

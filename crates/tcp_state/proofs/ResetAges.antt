@@ -4,6 +4,7 @@ use Rattle.tcp_segment.specs.Segment.{Segment}
 use Rattle.clock.specs.declared.moment.Moment.{Moment}
 use Rattle.tcp_state.specs.declared.emission.Due.{Due}
 use Rattle.tcp_state.specs.View.{View, IsSound, is_closed, reset_since}
+use Rattle.tcp_state.specs.Alive.{after_silence}
 use Rattle.tcp_state.specs.Arrival.{after_ack, after_window, is_receiving, after_text, after_segment, is_lost, after_lost, after_heard, begins_wait, repeats_fin, before, timed_by}
 use Rattle.tcp_state.specs.Calls.{after_release}
 use Rattle.tcp_state.specs.Due.{first_due, after_emitted}
@@ -67,10 +68,11 @@ emitted v (Some due) now = elim (emission v due now) [
 ages : (v : View) (e : Event) → IsSound v → Ages v e (after_event v e)
 ages v e sound = by_event (Ages v) v (record {
   same = λ e. inl refl;
+  asks = λ e alive. inl refl;
   heard = λ s now lives. heard v s now (live v sound lives);
   over = λ now ends. inl refl;
   given_up = λ now waits expired. inl refl;
-  acts = λ now. inl (ap (λ (w : View). reset_since w) (timers_keep v now));
+  acts = λ now. inl (ap (λ (w : View). reset_since w) (timers_keep (after_silence v now) now));
   emits = λ now. emitted v (first_due v) now;
   sends = λ octets taken now opened. inl refl;
   reads = λ len. inl refl;

@@ -155,14 +155,14 @@ rst_is_none v s rst = by (answers_probe v s ≡ false) (answers_probe v s)
     (λ none. none)
 
 pub elsewhere_changes : (v : View) (s : Segment) (now : Moment) → KeepsTime v → is_syn_sent v.state ≡ false → s.flags.rst ≡ true → (s.number == v.receiving.rnext) ≡ false
-    → after_segment_at v s now ≡ record v { owes_ack = (after_segment_at v s now).owes_ack; timers = record v.timers { delayed_ack = (after_segment_at v s now).timers.delayed_ack } }
+    → after_segment_at v s now ≡ record v { owes_ack = (after_segment_at v s now).owes_ack; timers = record v.timers { delayed_ack = (after_segment_at v s now).timers.delayed_ack }; alive = (after_segment_at v s now).alive }
 elsewhere_changes v s now keeps past_opening rst apart =
     let w = after_heard v s in
     let same : Owing v w = either View (λ x. Owing v x) (is_lost v s) (after_lost v s) (after_segment v s)
     (λ lost. clash s.flags.rst rst (read_is_no_rst v s (lost_is_read v s lost)))
     (λ kept. elsewhere_segment v s past_opening rst apart) in
     let at : OwingAt v (after_segment_at v s now) = owing_timed v s now keeps (rst_is_none v s rst) (rst_repeats_none v s rst) same in
-    at ∙ ap (λ (n : Moment). record v { owes_ack = (after_segment_at v s now).owes_ack; since = n; timers = record v.timers { delayed_ack = (after_segment_at v s now).timers.delayed_ack } }) (no_wait v s now rst same)
+    at ∙ ap (λ (n : Moment). record v { owes_ack = (after_segment_at v s now).owes_ack; since = n; timers = record v.timers { delayed_ack = (after_segment_at v s now).timers.delayed_ack }; alive = (after_segment_at v s now).alive }) (no_wait v s now rst same)
 
 -- A reset at RCV.NXT that takes no numbers acts.
 

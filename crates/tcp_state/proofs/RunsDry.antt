@@ -3,9 +3,10 @@ use Rattle.std.proofs.Common.{◌≡◌, ℕ, ◌+◌, ◌-◌, ◌%◌, ◌^◌
 use Rattle.std.proofs.lemmas.Bool.{ltb-true, lt-ltb, le-ltb, lt-leb}
 use Rattle.std.proofs.lemmas.Bool.Decides.{leb_tells, eqb_tells}
 use Rattle.clock.specs.declared.moment.Moment.{Moment}
+use Rattle.tcp_state.specs.declared.alive.KeepAlive.{KeepAlive as Alive}
 use Rattle.tcp_segment.specs.Wire.{past}
 use Rattle.tcp_state.specs.declared.emission.Due.{Due}
-use Rattle.tcp_state.specs.declared.emission.Due.TheVariants.{Rst, Syn, Text, Probe, Ack}
+use Rattle.tcp_state.specs.declared.emission.Due.TheVariants.{Rst, Syn, Text, Probe, Ack, KeepAlive}
 use Rattle.tcp_state.specs.declared.emission.Stretch.{Stretch}
 use Rattle.tcp_state.specs.declared.state.State.{State}
 use Rattle.tcp_halves.specs.Halves.{Sending, Receiving}
@@ -13,11 +14,12 @@ use Rattle.tcp_halves.specs.Stream.{outstanding, after_sent}
 use Rattle.tcp_halves.specs.Windows.{receive_room, has_grown, whole_units, after_advertisement, after_syn_advertisement}
 use Rattle.tcp_halves.proofs.Keeping.{IsKeeping, in_units}
 use Rattle.tcp_state.proofs.Sound.{sound_keeping}
-use Rattle.tcp_halves.proofs.Choices.{either, clash}
+use Rattle.tcp_halves.proofs.Choices.{either, clash, and_left, neither}
 use Rattle.tcp_state.specs.View.{View, IsSound, is_opening, is_syn_received, is_closed, is_write_finished, awaits_fin_ack, most_outstanding}
 use Rattle.tcp_state.specs.Resend.{mark_past, resend_probed}
 use Rattle.tcp_state.specs.Timing.{probes, clocked}
-use Rattle.tcp_state.specs.Due.{IsHeld, first_due, is_ack_due, again, new_octets, fin_alone, probe_stretch, end_of, after_ack_paid, after_syn_ack_paid, after_speaking, after_resent, after_first_sent, after_numbers, after_new_octets, after_new_text, brings_new_octets, after_syn_again, after_syn_out, after_stretch, after_probe, after_emitted}
+use Rattle.tcp_state.specs.Alive.{rests}
+use Rattle.tcp_state.specs.Due.{IsHeld, first_due, is_ack_due, again, new_octets, fin_alone, probe_stretch, end_of, after_ack_paid, after_syn_ack_paid, after_speaking, after_asking, after_resent, after_first_sent, after_numbers, after_new_octets, after_new_text, brings_new_octets, after_syn_again, after_syn_out, after_stretch, after_probe, after_emitted}
 use Rattle.tcp_state.specs.Most.{one_if, left_from, numbers_left, most_due}
 use Rattle.tcp_state.proofs.Clocked.{syn_out}
 use Rattle.tcp_state.proofs.Emissions.{by_due}
@@ -60,6 +62,10 @@ record Sends (v y : View) : Type 0 where
   spoke : y.spoke ≡ v.spoke
   state : y.state ≡ v.state
   receiving : y.receiving ≡ v.receiving
+  alive : y.alive ≡ v.alive
+
+asked : (v y : View) → Sends v y → one_if y.alive.owed ≡ one_if v.alive.owed
+asked v y s = ap (λ (a : Alive). one_if a.owed) s.alive
 
 one_at_most : (b : Bool) → one_if b ≤ 1
 one_at_most true = omega arith
@@ -71,7 +77,7 @@ unpaid v y s =
     let owes : one_if (is_ack_due y) ≡ one_if (is_ack_due v) =
     ap one_if (ap₂ (λ (b : Bool) (t : State). b || (not (is_opening t) && not (is_closed t) && y.spoke && has_grown y.receiving)) s.owes s.state
     ∙ ap₂ (λ (b : Bool) (r : Receiving). v.owes_ack || (not (is_opening v.state) && not (is_closed v.state) && b && has_grown r)) s.spoke s.receiving) in
-    let fewer = s.fewer in omega (arith, reset, owes, fewer)
+    let fewer = s.fewer in omega (arith, reset, owes, fewer, asked v y s)
 
 -- once it was told, no window has to be
 none_to_pay : (y : View) (spoke : Bool) → IsKeeping y.receiving → is_ack_due (record (after_ack_paid y) { spoke = spoke }) ≡ false
@@ -82,11 +88,15 @@ none_to_pay y spoke is =
     nothing true = refl
     nothing false = refl
 
+-- .. nor is an acknowledgement due where none was
+none_but_to_ask : (v : View) → IsKeeping v.receiving → is_ack_due v ≡ false → is_ack_due (after_asking v) ≡ false
+none_but_to_ask v is quiet = ap (λ b. b || (not (is_opening v.state) && not (is_closed v.state) && true && has_grown (after_advertisement v.receiving))) (neither v.owes_ack _ quiet).0 ∙ none_to_pay v true is
+
 paid : (v y : View) (spoke : Bool) → IsKeeping v.receiving → Sends v y → most_due (record (after_ack_paid y) { spoke = spoke }) < most_due v
 paid v y spoke is s =
     let reset : one_if y.owes_reset ≡ one_if v.owes_reset = ap one_if s.reset in
     let none : one_if (is_ack_due (record (after_ack_paid y) { spoke = spoke })) ≡ 0 = ap one_if (none_to_pay y spoke (subst IsKeeping (sym s.receiving) is)) in
-    let fewer = s.fewer in omega (arith, reset, none, fewer)
+    let fewer = s.fewer in omega (arith, reset, none, fewer, asked v y s)
 
 -- while the connection opens, no window has to be told
 paid_opening : (v y : View) → is_opening v.state ≡ true → Sends v y → most_due (after_syn_ack_paid y) < most_due v
@@ -94,7 +104,7 @@ paid_opening v y opening s =
     let reset : one_if y.owes_reset ≡ one_if v.owes_reset = ap one_if s.reset in
     let opens : is_opening y.state ≡ true = ap is_opening s.state ∙ opening in
     let none : one_if (is_ack_due (after_syn_ack_paid y)) ≡ 0 = ap (λ b. one_if (not b && not (is_closed y.state) && y.spoke && has_grown (after_syn_advertisement y.receiving))) opens in
-    let fewer = s.fewer in omega (arith, reset, none, fewer)
+    let fewer = s.fewer in omega (arith, reset, none, fewer, asked v y s)
 
 -- the end of an event makes nothing due
 at_its_end : (x : View) (moved : Bool) (now : Moment) → most_due (clocked moved x now) ≤ most_due x
@@ -132,6 +142,7 @@ resent v mark end sound is some small =
       spoke = refl;
       state = refl;
       receiving = refl;
+      alive = refl;
     }
 
 first_sent : (v : View) (end : ℕ) (now : Moment) → IsSound v → outstanding v.sending < end → end ≤ most_outstanding v → end < 2 ^ 32 → Sends v (after_first_sent v end now)
@@ -143,17 +154,18 @@ first_sent v end now sound some within small = record {
   spoke = refl;
   state = refl;
   receiving = refl;
+  alive = refl;
 }
 
 -- new octets end their wait, and a SYN that goes out again is remembered: no number more or less
 new_sends : (v y : View) → Sends v y → Sends v (after_new_octets y)
-new_sends v y s = record { fewer = s.fewer; reset = s.reset; owes = s.owes; spoke = s.spoke; state = s.state; receiving = s.receiving }
+new_sends v y s = record { fewer = s.fewer; reset = s.reset; owes = s.owes; spoke = s.spoke; state = s.state; receiving = s.receiving; alive = s.alive }
 
 text_sends : (v y : View) (stretch : Stretch) → Sends v y → Sends v (after_new_text y stretch)
-text_sends v y stretch s = record { fewer = s.fewer; reset = s.reset; owes = s.owes; spoke = s.spoke; state = s.state; receiving = s.receiving }
+text_sends v y stretch s = record { fewer = s.fewer; reset = s.reset; owes = s.owes; spoke = s.spoke; state = s.state; receiving = s.receiving; alive = s.alive }
 
 again_sends : (v y : View) → Sends v y → Sends v (after_syn_again y)
-again_sends v y s = record { fewer = s.fewer; reset = s.reset; owes = s.owes; spoke = s.spoke; state = s.state; receiving = s.receiving }
+again_sends v y s = record { fewer = s.fewer; reset = s.reset; owes = s.owes; spoke = s.spoke; state = s.state; receiving = s.receiving; alive = s.alive }
 
 -- Stretches.
 
@@ -203,6 +215,7 @@ probe_goes v sound owes =
       spoke = refl;
       state = refl;
       receiving = refl;
+      alive = refl;
     } in
     either View (Sends v) (brings_new_octets v stretch) (after_new_octets (sent (after_sent v.sending end))) (sent (after_sent v.sending end)) (λ new. new_sends v (sent (after_sent v.sending end)) sends) (λ old. sends)
   where
@@ -241,7 +254,7 @@ syn_goes v now sound opening goes =
 
 pub runs_dry : (v : View) (due : Due) (now : Moment) → IsSound v → first_due v ≡ Some due → most_due (after_emitted v due now) < most_due v
 runs_dry v due now sound first = by_due (λ o. (d : Due) → o ≡ Some d → Falls d) v (record {
-  nothing = λ quiet d e. cc;
+  nothing = λ quiet heard d e. cc;
   rst = λ owes d e. let same : Rst ≡ d = cc in let one : one_if v.owes_reset ≡ 1 = ap one_if owes in subst Falls same (falls (record v { owes_reset = false }) (omega (arith, one)));
   syn = λ opening goes d e. let same : Syn ≡ d = cc in let s = syn_goes v now sound opening goes in
       subst Falls same (either View Less (is_syn_received v.state) (after_syn_ack_paid (after_syn_out v now)) (after_syn_out v now) (λ received. falls (after_syn_ack_paid (after_syn_out v now)) (paid_opening v (after_syn_out v now) opening s)) (λ waits. falls (after_syn_out v now) (unpaid v (after_syn_out v now) s)));
@@ -254,6 +267,10 @@ runs_dry v due now sound first = by_due (λ o. (d : Due) → o ≡ Some d → Fa
       let one : one_if (is_ack_due v) ≡ 1 = ap one_if owes in
       let none : one_if (is_ack_due (after_speaking v)) ≡ 0 = ap one_if (none_to_pay v true (sound_keeping v sound)) in
       subst Falls same (falls (after_speaking v) (omega (arith, one, none)));
+  asks = λ quiet owes d e. let same : KeepAlive ≡ d = cc in
+      let one : one_if v.alive.owed ≡ 1 = ap one_if (and_left v.alive.owed (rests v) owes) in
+      let none : one_if (is_ack_due (after_asking v)) ≡ 0 = ap one_if (none_but_to_ask v (sound_keeping v sound) quiet) in
+      subst Falls same (falls (after_asking v) (omega (arith, one, none)));
 }) due first
   where
     Falls : Due → Type 0

@@ -12,7 +12,7 @@ use Rattle.tcp_segment.specs.Wire.{wire, past}
 use Rattle.tcp_segment.proofs.Checksum.{sent_spelled}
 use Rattle.clock.specs.declared.moment.Moment.{Moment}
 use Rattle.tcp_state.specs.declared.emission.Due.{Due}
-use Rattle.tcp_state.specs.declared.emission.Due.TheVariants.{Rst, Syn, Text, Probe, Ack}
+use Rattle.tcp_state.specs.declared.emission.Due.TheVariants.{Rst, Syn, Text, Probe, Ack, KeepAlive}
 use Rattle.tcp_state.specs.declared.emission.Stretch.{Stretch}
 use Rattle.tcp_state.specs.declared.state.State.{State}
 use Rattle.tcp_state.specs.declared.state.State.TheVariants.{SynSent, SynReceived}
@@ -204,6 +204,23 @@ says_what_is_so v Ack now sound may = record {
   small = window_small v sound;
   urgent = refl;
 }
+says_what_is_so v KeepAlive now sound may = record {
+  source = refl;
+  destination = refl;
+  octets = λ i below. absurd (omega (arith, below));
+  fin = λ ends. cc;
+  psh = ((λ psh. cc), (λ p. let some = p.0 in absurd (omega (arith, some))));
+  acknowledgement = λ acks. refl;
+  window = λ plain acks. told v v (after_emitted v KeepAlive now).receiving.edge refl refl;
+  syn_window = λ syn acks. cc;
+  unacknowledging = λ none. cc;
+  first = λ syn none. cc;
+  syn = λ syn. cc;
+  plain = λ none. refl;
+  rst = λ rst. cc;
+  small = window_small v sound;
+  urgent = refl;
+}
 
 -- The octets that go out spell it.
 
@@ -213,6 +230,7 @@ number_fits v Syn sound = sound.una
 number_fits v (Text stretch) sound = omega arith
 number_fits v Probe sound = sound.una
 number_fits v Ack sound = ack_fits v sound
+number_fits v KeepAlive sound = omega arith
 
 pub window_fits : (v : View) (due : Due) → IsSound v → window_of v due < 2 ^ 16
 window_fits v Rst sound = omega arith
@@ -220,6 +238,7 @@ window_fits v Syn sound = omega arith
 window_fits v (Text stretch) sound = window_small v sound
 window_fits v Probe sound = window_small v sound
 window_fits v Ack sound = window_small v sound
+window_fits v KeepAlive sound = window_small v sound
 
 acknowledgement_fits : (acks : Bool) (rnext : ℕ) → rnext < 2 ^ 32 → (if acks then rnext else 0) < 2 ^ 32
 acknowledgement_fits true rnext small = small

@@ -6,7 +6,7 @@ use Rattle.clock.specs.declared.moment.Moment.{Moment}
 use Rattle.clock.specs.Moments.{after}
 use Rattle.retransmit.specs.declared.timers.Timers.{Timers}
 use Rattle.tcp_state.specs.declared.emission.Due.{Due}
-use Rattle.tcp_state.specs.declared.emission.Due.TheVariants.{Syn, Text, Probe, Ack}
+use Rattle.tcp_state.specs.declared.emission.Due.TheVariants.{Syn, Text, Probe, Ack, KeepAlive}
 use Rattle.tcp_state.specs.declared.state.State.{State}
 use Rattle.tcp_state.specs.declared.state.State.TheVariants.{SynSent, SynReceived, Established, FinWait1, FinWait2}
 use Rattle.tcp_state.specs.declared.timing.TheConstants.{DELAYED_ACK_WAIT}
@@ -151,7 +151,7 @@ pub owed_goes : (v : View) → IsSound v → v.owes_ack ≡ true → (due : Due)
 owed_goes v sound owed =
     let lives = opened (is_syn_sent v.state) (is_closed v.state) v.owes_ack v.delays_ack owed sound.ack in
     by_due (λ o. (due : Due) × (o ≡ Some due) × ((let f = flags_of v due in f.ack) ≡ true)) v (record {
-      nothing = λ quiet. clash (is_ack_due v) (or_left v.owes_ack _ owed) quiet;
+      nothing = λ quiet heard. clash (is_ack_due v) (or_left v.owes_ack _ owed) quiet;
       rst = λ owes. clash (is_closed v.state) (owed_where_closed v.owes_reset (is_closed v.state) v.released sound.reset owes) lives.1;
       syn = λ opening goes. (Syn, refl, received v.state opening lives.0);
       once_more = λ opens_not mark is goes. (Text (again v mark), refl, refl);
@@ -159,4 +159,5 @@ owed_goes v sound owed =
       fin = λ opens_not sends. (Text (fin_alone v), refl, refl);
       probe = λ opens_not owes goes. (Probe, refl, refl);
       ack = λ owes. (Ack, refl, refl);
+      asks = λ quiet owes. (KeepAlive, refl, refl);
     })

@@ -1,5 +1,6 @@
 -- What a segment makes of a connection, case by case.
-use Rattle.std.proofs.Common.{◌≡◌, ℕ, ◌==◌, ◌||◌, ◌&&◌, not, Bool, true, false, if◌then◌else◌, length, refl, ◌∙◌, ap}
+use Rattle.std.proofs.Common.{◌≡◌, ℕ, ◌==◌, ◌||◌, ◌&&◌, not, Bool, true, false, if◌then◌else◌, length, arith, refl, ◌∙◌, ap}
+use Rattle.std.proofs.lemmas.Grind.{common_steps}
 use Rattle.tcp_segment.specs.Segment.{Segment}
 use Rattle.clock.specs.declared.moment.Moment.{Moment}
 use Rattle.tcp_state.specs.declared.connection.Fate.TheVariants.{Stays, Removed, Rejected}
@@ -152,18 +153,31 @@ read_tells v s e =
       on = and_right (is_taken v s) (is_read_on v s.acknowledgement) e;
     }
 
--- what an acceptable segment without RST and SYN makes of it past SYN-SENT
-accepts : (v : View) (s : Segment) → is_closed v.state ≡ false → s.flags.rst ≡ false → is_syn_sent v.state ≡ false → is_acceptable_to v s ≡ true → s.flags.syn ≡ false
-    → after_segment v s ≡ (if s.flags.ack then after_acknowledging_segment v s else v)
-accepts v s lives no_rst past_opening accepted no_syn =
+-- what an acceptable segment without RST makes of it past SYN-SENT
+arrives : (v : View) (s : Segment) → is_closed v.state ≡ false → s.flags.rst ≡ false → is_syn_sent v.state ≡ false → is_acceptable_to v s ≡ true → after_segment v s ≡ after_acceptable_segment v s
+arrives v s lives no_rst past_opening accepted =
     ap (λ b. if b then v else if s.flags.rst then (if is_syn_sent v.state then after_rst_in_syn_sent v s else after_rst v s) else rest) lives
     ∙ ap (λ b. if b then (if is_syn_sent v.state then after_rst_in_syn_sent v s else after_rst v s) else rest) no_rst
     ∙ ap (λ b. if b then (if is_simultaneous_syn v s then after_simultaneous_syn v s else after_syn_ack v s) else if is_acceptable_to v s then after_acceptable_segment v s else owing_ack v) past_opening
     ∙ ap (λ b. if b then after_acceptable_segment v s else owing_ack v) accepted
-    ∙ ap (λ b. if b then (if ends_by_syn v s then v else owing_ack v) else if s.flags.ack then after_acknowledging_segment v s else v) no_syn
   where
     rest : View
     rest = if is_syn_sent v.state then (if is_simultaneous_syn v s then after_simultaneous_syn v s else after_syn_ack v s) else if is_acceptable_to v s then after_acceptable_segment v s else owing_ack v
+
+-- .. without SYN
+accepts : (v : View) (s : Segment) → is_closed v.state ≡ false → s.flags.rst ≡ false → is_syn_sent v.state ≡ false → is_acceptable_to v s ≡ true → s.flags.syn ≡ false
+    → after_segment v s ≡ (if s.flags.ack then after_acknowledging_segment v s else v)
+accepts v s lives no_rst past_opening accepted no_syn =
+    arrives v s lives no_rst past_opening accepted ∙ ap (λ b. if b then (if ends_by_syn v s then v else owing_ack v) else if s.flags.ack then after_acknowledging_segment v s else v) no_syn
+
+-- .. with SYN: it ends what a listener opened and is not established, and else draws an acknowledgement
+pub another_syn : (v : View) (s : Segment) → is_closed v.state ≡ false → s.flags.rst ≡ false → is_syn_sent v.state ≡ false → is_acceptable_to v s ≡ true → s.flags.syn ≡ true
+    → after_segment v s ≡ (if v.passive && is_syn_received v.state then v else owing_ack v)
+another_syn v s lives no_rst past_opening accepted syn =
+    arrives v s lives no_rst past_opening accepted
+    ∙ ap (λ b. if b then (if ends_by_syn v s then v else owing_ack v) else if s.flags.ack then after_acknowledging_segment v s else v) syn
+    ∙ (ap (λ a. if a && s.flags.syn && v.passive && is_syn_received v.state then v else owing_ack v) accepted
+    ∙ ap (λ b. if b && v.passive && is_syn_received v.state then v else owing_ack v) syn)
 
 pub acknowledging : (v : View) (s : Segment) → is_closed v.state ≡ false → s.flags.rst ≡ false → is_syn_sent v.state ≡ false → is_acceptable_to v s ≡ true → s.flags.syn ≡ false → s.flags.ack ≡ true
     → after_segment v s ≡ after_acknowledging_segment v s
@@ -186,6 +200,11 @@ fate_of_acknowledging false true ack accepted waits received new passive resets 
 fate_of_acknowledging false false false accepted waits received new passive resets r s k a w = cc
 fate_of_acknowledging false false true false waits received new passive resets r s k a w = cc
 fate_of_acknowledging false false true true true received new passive resets r s k a w = cc
+
+pub fate_of_syn : (rst syn ack accepted waits received new passive resets : Bool) → rst ≡ false → syn ≡ true → accepted ≡ true → waits ≡ false
+    → (if passive && received then Removed else Stays)
+    ≡ (if not rst && ack && not new && (waits || (received && accepted && not syn)) then Rejected else if not waits && (if rst then resets else accepted && syn && passive && received) then Removed else Stays)
+fate_of_syn rst syn ack accepted waits received new passive resets r s a w = grind (arith, common_steps)
 
 pub reads : (v : View) (s : Segment) → is_closed v.state ≡ false → is_syn_sent v.state ≡ false → IsRead v s → after_segment v s ≡ after_reading v s
 reads v s lives past_opening read =

@@ -15,6 +15,7 @@ use Rattle.tcp_state.specs.Resend.{Resend, is_timed_by, timeout_sampled, resend_
 use Rattle.tcp_state.specs.View.{View, IsSound, is_opening, is_fin_wait_2}
 use Rattle.tcp_state.specs.Timing.{probes, retransmits, awaits_second, awaits_more, running, clocked, retransmission_expired, probe_expired, after_expiry, after_timers}
 use Rattle.tcp_state.specs.Calls.{told_nodelay, latest}
+use Rattle.tcp_state.specs.Alive.{heard_now, after_silence}
 use Rattle.tcp_state.specs.Arrival.{after_heard, before, is_moved, since_after, resend_after, congestion_after, timed_by}
 use Rattle.tcp_state.specs.Due.{first_due, after_going_out}
 use Rattle.tcp_state.specs.Edges.{Event, moment_of, after_first, after_event}
@@ -120,7 +121,7 @@ heard_soon v s now few =
       | inl same ↦ subst (λ t. SetSoon now v.timers t) (sym same) (unset now v.timers)
       | inr none ↦ subst (λ t. SetSoon now v.timers t) (sym none.0) (stopped_soon now v.timers)
     ] in
-    clocked_soon (is_moved b w) (record w { since = since_after b w now; resend = resend_after b w now; congestion = congestion_after b w }) now v.timers (heard_few v s now few) kept
+    clocked_soon (is_moved b w) (record w { since = since_after b w now; resend = resend_after b w now; congestion = congestion_after b w; alive = heard_now w.alive now }) now v.timers (heard_few v s now few) kept
 
 -- Emissions.
 
@@ -173,10 +174,11 @@ SetsSoon v e w = (w.timers ≡ v.timers) ⊎ ((w.timers ≡ no_timers) ⊎ ((now
 sets_soon : (v : View) (e : Event) → SetsSoon v e (after_event v e)
 sets_soon v = by_event (SetsSoon v) v (record {
   same = λ e. inl refl;
+  asks = λ e alive. inl refl;
   heard = λ s now lives. inr (inr (now, refl, heard_soon v s now));
   over = λ now ends. inr (inl refl);
   given_up = λ now waits expired. inr (inl refl);
-  acts = λ now. inr (inr (now, refl, timers_soon v now));
+  acts = λ now. inr (inr (now, refl, timers_soon (after_silence v now) now));
   emits = λ now. inr (inr (now, refl, emission_soon v (first_due v) now));
   sends = λ octets taken now opened. inr (inr (now, refl, λ few. clocked_soon false (holding v taken) now v.timers few (unset now v.timers)));
   reads = λ len. inl refl;

@@ -19,11 +19,11 @@ use Rattle.tcp_halves.proofs.Choices.{either, by, clash, and_left, and_right, an
 use Rattle.tcp_state.specs.View.{View, IsSound, is_opening, is_syn_sent, is_syn_received, is_closed, is_write_finished, takes_flag_number, is_at_end, after_stop, after_reset}
 use Rattle.tcp_state.specs.Congestion.{Signal, after_signal}
 use Rattle.tcp_state.specs.Congestion.Signal.{Begins, Counts, Nothing}
-use Rattle.retransmit.specs.Deadlines.{next_of}
 use Rattle.tcp_state.specs.declared.calls.Refusal.TheVariants.{ETIMEDOUT}
-use Rattle.tcp_state.specs.Timing.{gives_up, after_timers, clocked, after_tick}
+use Rattle.tcp_state.specs.Timing.{gives_up, after_expiries, after_tick}
+use Rattle.tcp_state.specs.Alive.{after_silence}
 use Rattle.tcp_state.specs.Arrival.{owing_ack, may_delay, beyond_end, is_acceptable_to, is_read, is_read_on, is_of_fin, fin_acknowledged, after_new_ack as after_acknowledging, after_establishment, after_ack, after_window, is_receiving, after_text, after_fin, after_segment, brings_more, is_lost, after_lost, after_heard, is_rejected, before, octets_outstanding, is_duplicate, is_moved, congestion_event_of, timed_by}
-use Rattle.tcp_state.specs.Edges.{Event, Hears, Ticks, Emits, Sends, Receives, Shuts, SetsNoDelay, Closes, Aborts, Unreachable, LosesHop, after_event, congestion_event_by}
+use Rattle.tcp_state.specs.Edges.{Event, Hears, Ticks, Emits, Sends, Receives, Shuts, SetsNoDelay, SetsKeepAlive, Closes, Aborts, Unreachable, LosesHop, after_event, congestion_event_by}
 use Rattle.tcp_state.specs.Counted.{HasOctetOut, IsDuplicate}
 use Rattle.tcp_state.proofs.Segments.{IsRead, by_ack, by_hearing, reads, read_tells, reading_sends, not_rejected}
 use Rattle.tcp_state.proofs.Unchanged.{closed_plain}
@@ -284,7 +284,7 @@ pub goes_on : (v : View) (now : Moment) → is_closed (after_tick v now).state �
 goes_on v now alive = chosen (is_at_end v now) (gives_up v now) alive
   where
     acts : View
-    acts = if has_come (next_of v.timers) now then clocked false (after_timers v now) now else v
+    acts = after_expiries (after_silence v now) now
 
     chosen : (over gives : Bool) → is_closed (let w = if over then after_stop v else if gives then after_reset v (Some ETIMEDOUT) else acts in w.state) ≡ false → (over ≡ false) × (gives ≡ false)
     chosen true gives alive = cc
@@ -333,6 +333,7 @@ others_count_none v (Sends octets now) = inl (moves_by_events v (Sends octets no
 others_count_none v (Receives len) = inl (moves_by_events v (Receives len))
 others_count_none v (Shuts now) = inl (moves_by_events v (Shuts now))
 others_count_none v (SetsNoDelay on now) = inl (moves_by_events v (SetsNoDelay on now))
+others_count_none v (SetsKeepAlive every now) = inl (moves_by_events v (SetsKeepAlive every now))
 others_count_none v (Closes now) = inl (moves_by_events v (Closes now))
 others_count_none v (Aborts now) = inl (moves_by_events v (Aborts now))
 others_count_none v (Unreachable number) = inl (moves_by_events v (Unreachable number))

@@ -7,6 +7,7 @@ use Rattle.tcp_state.specs.declared.state.State.{State}
 use Rattle.tcp_state.specs.declared.state.State.TheVariants.{Closed, SynSent, SynReceived, Established, FinWait1, FinWait2, CloseWait, Closing, LastAck, TimeWait, Listen}
 use Rattle.tcp_halves.specs.Stream.{is_new_ack}
 use Rattle.tcp_state.specs.View.{View, IsSound, is_closed, is_read_closed, is_listening, end_of_wait}
+use Rattle.tcp_state.specs.Alive.{after_silence}
 use Rattle.tcp_state.specs.Arrival.{owing_ack, is_of_fin, reset_error, after_heard}
 use Rattle.tcp_state.specs.Due.{first_due}
 use Rattle.tcp_state.specs.Edges.{Event, after_event, is_last_ack}
@@ -67,10 +68,11 @@ seen_by_heard v s lives connection =
 seen_by_event : (v : View) (e : Event) → IsSound v → is_closed v.state ≡ false → IsSilentEnd (after_event v e) → is_read_closed v.state ≡ true
 seen_by_event v e sound lives = by_event (λ e w. IsSilentEnd w → is_read_closed v.state ≡ true) v (record {
   same = λ e. still v v refl lives;
+  asks = λ e alive. still v (record v { alive = alive }) refl lives;
   heard = λ s now comes k. seen_by_heard v s lives sound.connection (record { closed = k.closed; quiet = k.quiet; kept = k.kept });
   over = λ now ends k. seen_at_end v.state v.released v.since now ends k.kept;
   given_up = λ now waits expired k. let told = k.quiet in cc;
-  acts = λ now. still v _ (ap (λ (w : View). w.state) (timers_keep v now)) lives;
+  acts = λ now. still v _ (ap (λ (w : View). w.state) (timers_keep (after_silence v now) now)) lives;
   emits = λ now. still v _ (emitted-state v (first_due v) now) lives;
   sends = λ octets taken now opened. still v _ refl lives;
   reads = λ len. still v _ refl lives;

@@ -23,6 +23,7 @@ use Rattle.tcp_state.specs.New.{waits_no_longer}
 use Rattle.tcp_halves.specs.Windows.{window_in, updates_window, is_worth_sending, receive_room, has_grown, whole_units, after_advertisement, window_field, syn_window, after_syn_advertisement}
 use Rattle.tcp_state.specs.Resend.{Resend, first_resend, mark_past, resend_lost}
 use Rattle.tcp_state.specs.Timing.{waiting_since, clocked}
+use Rattle.tcp_state.specs.Alive.{asked}
 use Rattle.tcp_state.specs.View.{View, first_congestion, opened_actively}
 use Rattle.tcp_state.specs.Congestion.{after_signal}
 use Rattle.tcp_state.specs.Congestion.Signal.{Begins, Nothing}
@@ -89,12 +90,12 @@ record Settled : Type 0 where
 abbrev settled : Meeting → Settled
 settled m = record { scales = m.scales; sends = m.mine.size; peer = m.unit; takes = m.mine.size; own = m.unit; smss = 1460; heard = m.theirs.told; told = m.mine.told }
 
--- it has both SYNs
+-- it has both SYNs, and heard the other at a last moment
 abbrev receives : Meeting → ℕ → Receiving
 receives m window = record { readable = []; kept = (receiving_nothing m.mine.room).kept; rnext = wire m.other 1; edge = (wire m.other 1 + window) % 2 ^ 32; size = m.mine.size; capacity = m.mine.room.capacity; unit = m.unit }
 
-abbrev answering : Meeting → ℕ → Bool → Bool → Resend → Moment → View
-answering m window owes spoke resend first = record (opening m first) {
+abbrev answering : Meeting → ℕ → Bool → Bool → Resend → Moment → Moment → View
+answering m window owes spoke resend first last = record (opening m first) {
   state = SynReceived;
   scales = m.scales;
   sending = record { held = []; una = m.isn; nxt = wire m.isn 1; window = m.theirs.told; max_window = max 0 m.theirs.told; wl1 = m.other; wl2 = m.isn; smss = 1460; size = m.mine.size; unit = m.unit };
@@ -104,6 +105,7 @@ answering m window owes spoke resend first = record (opening m first) {
   resend = resend;
   timers = runs_from first;
   unheard = None;
+  alive = asked None last;
 }
 
 -- .. which settled this, of windows and sizes
@@ -120,22 +122,22 @@ taken m t out mark first = record (opening m first) {
 
 -- its SYN goes out again, with an acknowledgement ..
 abbrev again_due : Meeting → Moment → View
-again_due m first = answering m m.mine.told false false (record (timed_from m.isn first) { mark = Some 0 }) first
+again_due m first = answering m m.mine.told false false (record (timed_from m.isn first) { mark = Some 0 }) first first
 
 -- .. and went out twice, so that its round trip is not measured
 abbrev resent_once : Resend
 resent_once = record first_resend { resent = 1 }
 
-abbrev again_sent : Meeting → ℕ → Bool → Bool → Moment → View
-again_sent m window owes spoke first = answering m window owes spoke resent_once first
+abbrev again_sent : Meeting → ℕ → Bool → Bool → Moment → Moment → View
+again_sent m window owes spoke first last = answering m window owes spoke resent_once first last
 
 -- the other's window, in octets
 abbrev known : Meeting → ℕ
 known m = whole_units m.unit m.theirs.wide
 
 -- it is open, and its congestion window begins
-abbrev opened : Meeting → View
-opened m = record (opening m (record { 0 = 0 })) {
+abbrev opened : Meeting → Moment → View
+opened m last = record (opening m (record { 0 = 0 })) {
   state = Established;
   scales = m.scales;
   sending = record { held = []; una = wire m.isn 1; nxt = wire m.isn 1; window = known m; max_window = max (max 0 m.theirs.told) (known m); wl1 = wire m.other 1; wl2 = wire m.isn 1; smss = 1460; size = m.mine.size; unit = m.unit };
@@ -144,11 +146,12 @@ opened m = record (opening m (record { 0 = 0 })) {
   resend = resent_once;
   congestion = initial_window 1460 false;
   unheard = None;
+  alive = asked None last;
 }
 
 -- .. but for the clock
-abbrev heard : Meeting → Moment → View
-heard m first = record (opened m) { timers = runs_from first; congestion = first_congestion }
+abbrev heard : Meeting → Moment → Moment → View
+heard m first last = record (opened m last) { timers = runs_from first; congestion = first_congestion }
 
 -- the segments that each sends
 
@@ -159,7 +162,7 @@ abbrev syn_ack_of : Meeting → Moment → Segment
 syn_ack_of m first = sent_segment (head_of (again_due m first) Syn) []
 
 abbrev ack_of : Meeting → Segment
-ack_of m = sent_segment (head_of (again_sent m m.mine.told true false (record { 0 = 0 })) Ack) []
+ack_of m = sent_segment (head_of (again_sent m m.mine.told true false (record { 0 = 0 }) (record { 0 = 0 })) Ack) []
 
 -- What holds of them.
 
@@ -279,14 +282,14 @@ syn_goes m at now f =
     ∙ (ap (λ n. clocked false (record v { sending = record (sending_from (size_of m.mine.room) m.isn) { nxt = n }; resend = record first_resend { timed = Some (record { end = record { 0 = n }; since = now }) } }) now) (sent_first m.isn f.isn)
     ∙ ap (running_if (waiting m now) (Some at) now now) (one_out m.isn f.isn)))
 
-syn_comes : (m : Meeting) (first now : Moment) → Fits m → after_event (waiting m first) (Hears (syn_of (mirror m)) now) ≡ again_due m first
-syn_comes m first now f =
-    let v = waiting m first in
-    let w = again_due m first in
+syn_comes : (m : Meeting) (now : Moment) → Fits m → after_event (waiting m now) (Hears (syn_of (mirror m)) now) ≡ again_due m now
+syn_comes m now f =
+    let v = waiting m now in
+    let w = again_due m now in
     let b = before v (syn_of (mirror m)) in
-    ap (λ n. timed_by b (taken m (read_of m) n (mark_past 0 n) first) now) (one_out m.isn f.isn)
-    ∙ (ap (λ t. timed_by b (taken m t 1 (Some 0) first) now) f.settles
-    ∙ (timed_unmoved b w now (unmoved v) refl refl ∙ ap (running_if w None now first) (one_out m.isn f.isn)))
+    ap (λ n. timed_by b (taken m (read_of m) n (mark_past 0 n) now) now) (one_out m.isn f.isn)
+    ∙ (ap (λ t. timed_by b (taken m t 1 (Some 0) now) now) f.settles
+    ∙ (timed_unmoved b w now (unmoved v) refl refl ∙ ap (running_if w None now now) (one_out m.isn f.isn)))
 
 -- The SYN-ACK.
 
@@ -296,10 +299,10 @@ sent_again isn = either ℕ (λ n. n ≡ wire isn 1) (nat_le (past (wire isn 1) 
 first_is_syn_ack : (m : Meeting) (first : Moment) → Fits m → first_due (again_due m first) ≡ Some Syn
 first_is_syn_ack m first f = ap (λ n. if (n == 0) || true then Some Syn else None) (one_out m.isn f.isn)
 
-syn_ack_goes : (m : Meeting) (first now : Moment) → Fits m → after_event (again_due m first) (Emits now) ≡ again_sent m m.mine.told false false first
+syn_ack_goes : (m : Meeting) (first now : Moment) → Fits m → after_event (again_due m first) (Emits now) ≡ again_sent m m.mine.told false false first first
 syn_ack_goes m first now f =
     let v = again_due m first in
-    let w = again_sent m m.mine.told false false first in
+    let w = again_sent m m.mine.told false false first first in
     ap (λ d. after_first v d now) (first_is_syn_ack m first f)
     ∙ (ap (λ n. clocked false (after_syn_ack_paid (out_again v now n)) now) (one_out m.isn f.isn)
     ∙ (ap (λ n. clocked false (after_syn_ack_paid (record w { sending = record w.sending { nxt = n }; resend = record resent_once { mark = mark_past 1 (past n m.isn) } })) now) (sent_again m.isn)
@@ -321,10 +324,10 @@ unacceptable m f =
     kept n fits = omega (arith, fits)
 
 syn_ack_comes : (m : Meeting) (first now : Moment) → Fits m
-    → after_event (again_sent m m.mine.told false false first) (Hears (syn_ack_of (mirror m) first) now) ≡ again_sent m m.mine.told true false first
+    → after_event (again_sent m m.mine.told false false first first) (Hears (syn_ack_of (mirror m) first) now) ≡ again_sent m m.mine.told true false first now
 syn_ack_comes m first now f =
-    let v = again_sent m m.mine.told false false first in
-    let w = again_sent m m.mine.told true false first in
+    let v = again_sent m m.mine.told false false first first in
+    let w = again_sent m m.mine.told true false first now in
     let s = syn_ack_of (mirror m) first in
     let b = before v s in
     comes_to v s now refl (and_no (acknowledges_unsent v s) (is_acceptable_to v s && false) (and_no (is_acceptable_to v s) false refl))
@@ -332,14 +335,14 @@ syn_ack_comes m first now f =
 
 -- The acknowledgement.
 
-first_is_ack : (m : Meeting) (first : Moment) → Fits m → first_due (again_sent m m.mine.told true false first) ≡ Some Ack
-first_is_ack m first f = ap (λ n. if (n == 0) || false then Some Syn else Some Ack) (one_out m.isn f.isn)
+first_is_ack : (m : Meeting) (first last : Moment) → Fits m → first_due (again_sent m m.mine.told true false first last) ≡ Some Ack
+first_is_ack m first last f = ap (λ n. if (n == 0) || false then Some Syn else Some Ack) (one_out m.isn f.isn)
 
-ack_goes : (m : Meeting) (first now : Moment) → Fits m → after_event (again_sent m m.mine.told true false first) (Emits now) ≡ again_sent m m.mine.wide false true first
-ack_goes m first now f =
-    let v = again_sent m m.mine.told true false first in
-    let w = again_sent m m.mine.wide false true first in
-    ap (λ d. after_first v d now) (first_is_ack m first f)
+ack_goes : (m : Meeting) (first last now : Moment) → Fits m → after_event (again_sent m m.mine.told true false first last) (Emits now) ≡ again_sent m m.mine.wide false true first last
+ack_goes m first last now f =
+    let v = again_sent m m.mine.told true false first last in
+    let w = again_sent m m.mine.wide false true first last in
+    ap (λ d. after_first v d now) (first_is_ack m first last f)
     ∙ (ap (λ r. clocked false (record w { receiving = r }) now) (widened m f) ∙ ap (running_if w None now first) (one_out m.isn f.isn))
 
 in_order : (m : Meeting) → Fits m → is_acceptable (receives m m.mine.wide) (wire m.other 1) 0 ≡ true
@@ -360,23 +363,23 @@ later other fits = le-leb (2 ^ 31) (past other (wire other 1)) (omega (arith, on
 not_behind : (n : ℕ) → n < 2 ^ 32 → is_before n n ≡ false
 not_behind n fits = lt-leb (2 ^ 31) (past n n) (omega (arith, none_out n fits))
 
-updates : (m : Meeting) (first : Moment) → Fits m → (let e = after_establishment (again_sent m m.mine.wide false true first) in updates_window e.sending (wire m.other 1) (wire m.isn 1)) ≡ true
-updates m first f =
+updates : (m : Meeting) (first last : Moment) → Fits m → (let e = after_establishment (again_sent m m.mine.wide false true first last) in updates_window e.sending (wire m.other 1) (wire m.isn 1)) ≡ true
+updates m first last f =
     let same = is_before (wire m.isn 1) (wire m.isn 1) in
     both (not same) (is_before m.other (wire m.other 1) || (m.other == wire m.other 1 && not same))
     (ap not (not_behind (wire m.isn 1) (omega arith))) (or_left (is_before m.other (wire m.other 1)) (m.other == wire m.other 1 && not same) (later m.other f.other))
 
 -- what the acknowledgement makes of the connection without the clock
-ack_heard : (m : Meeting) (first : Moment) → Fits m → after_heard (again_sent m m.mine.wide false true first) (ack_of (mirror m)) ≡ heard m first
-ack_heard m first f =
-    let v = again_sent m m.mine.wide false true first in
+ack_heard : (m : Meeting) (first last : Moment) → Fits m → after_heard (again_sent m m.mine.wide false true first last) (ack_of (mirror m)) ≡ heard m first last
+ack_heard m first last f =
+    let v = again_sent m m.mine.wide false true first last in
     let s = ack_of (mirror m) in
-    let w = heard m first in
+    let w = heard m first last in
     let e = after_establishment v in
     let most = max 0 m.theirs.told in
     ap (λ b. if b then after_acceptable_segment v s else owing_ack v) (in_order m f)
     ∙ (ap (λ b. if b then after_fin (after_text (after_window (if b then e else v) s) s) s else (if b then e else v)) (acknowledges m.isn f.isn)
-    ∙ (ap (λ b. record w { sending = if b then record w.sending { window = window_in e.sending s.window; max_window = max most (window_in e.sending s.window) } else e.sending }) (updates m first f)
+    ∙ (ap (λ b. record w { sending = if b then record w.sending { window = window_in e.sending s.window; max_window = max most (window_in e.sending s.window) } else e.sending }) (updates m first last f)
     ∙ (ap (λ r. record w { sending = record w.sending { window = window_field r * m.unit; max_window = max most (window_field r * m.unit) } }) (widened (mirror m) (mirrored m f))
     ∙ ap (λ n. record w { sending = record w.sending { window = n / m.unit * m.unit; max_window = max most (n / m.unit * m.unit) } }) (window_is (mirror m) m.theirs.wide f.theirs.most))))
 
@@ -385,9 +388,9 @@ none_waits : (out window : ℕ) → nat_lt 0 (min (0 - out) window) ≡ false
 none_waits out window = le-ltb 0 (min (0 - out) window) (omega arith)
 
 -- .. and no timer runs
-at_rest : (m : Meeting) (first now : Moment) → clocked true (record (opened m) { timers = runs_from first }) now ≡ opened m
+at_rest : (m : Meeting) (first now : Moment) → clocked true (record (opened m now) { timers = runs_from first }) now ≡ opened m now
 at_rest m first now =
-    let w = opened m in
+    let w = opened m now in
     let n = outstanding w.sending in
     let open_window = min w.sending.window w.congestion.cwnd - n in
     let worth = is_worth_sending w.sending w.congestion.cwnd (waits_no_longer w) in
@@ -412,23 +415,24 @@ at_rest m first now =
       unheard = if (k == 0) && false then Some now else None;
     }) (none_out (wire m.isn 1) (omega arith)))
 
-ack_comes : (m : Meeting) (first now : Moment) → Fits m → after_event (again_sent m m.mine.wide false true first) (Hears (ack_of (mirror m)) now) ≡ opened m
-ack_comes m first now f =
-    let v = again_sent m m.mine.wide false true first in
+ack_comes : (m : Meeting) (first last now : Moment) → Fits m → after_event (again_sent m m.mine.wide false true first last) (Hears (ack_of (mirror m)) now) ≡ opened m now
+ack_comes m first last now f =
+    let v = again_sent m m.mine.wide false true first last in
     let s = ack_of (mirror m) in
     let b = before v s in
-    let w = heard m first in
+    let w = heard m first last in
     comes_to v s now refl (ap (λ a. not a && (is_acceptable_to v s && true)) (acknowledges m.isn f.isn))
-    ∙ (ap (λ x. timed_by b x now) (ack_heard m first f)
+    ∙ (ap (λ x. timed_by b x now) (ack_heard m first last f)
     ∙ (ap (λ x. clocked x (record w {
       resend = let resend = if x then resent_once else if answers_probe v s then resent_once else resent_once in if reveals_loss (if x then Begins else Nothing) w.congestion then resend_lost resend (outstanding w.sending) else resend;
       congestion = after_signal w.congestion (if x then Begins else Nothing) 1460 false;
+      alive = asked None now;
     }) now) (moves m.isn f.isn)
     ∙ at_rest m first now))
 
-none_left : (m : Meeting) → Fits m → first_due (opened m) ≡ None
-none_left m f =
-    let v = opened m in
+none_left : (m : Meeting) (last : Moment) → Fits m → first_due (opened m last) ≡ None
+none_left m last f =
+    let v = opened m last in
     let n = outstanding v.sending in
     ap (λ b. if b && is_worth_sending v.sending v.congestion.cwnd (waits_no_longer v) then Some (Text (new_octets v)) else ack_due v) (none_waits n (min v.sending.window v.congestion.cwnd - n))
     ∙ ap (λ b. if b then Some Ack else None) (full m f)
@@ -446,21 +450,21 @@ segment_due v due is = ap (λ o. option_map (λ d. sent_segment (head_of v d) (o
 syns_cross : (m : Meeting) (one two now : Moment) → Fits m → after_coming (after_event (opening m one) (Emits now)) (first_segment (opening (mirror m) two)) now ≡ again_due m now
 syns_cross m one two now f =
     crosses (opening m one) (opening (mirror m) two) (waiting m now) (syn_of (mirror m)) (again_due m now) now
-    (syn_goes m one now f) (segment_due (opening (mirror m) two) Syn (first_is_syn (mirror m) two (mirrored m f))) (syn_comes m now now f)
+    (syn_goes m one now f) (segment_due (opening (mirror m) two) Syn (first_is_syn (mirror m) two (mirrored m f))) (syn_comes m now f)
 
 syn_acks_cross : (m : Meeting) (first now : Moment) → Fits m
-    → after_coming (after_event (again_due m first) (Emits now)) (first_segment (again_due (mirror m) first)) now ≡ again_sent m m.mine.told true false first
+    → after_coming (after_event (again_due m first) (Emits now)) (first_segment (again_due (mirror m) first)) now ≡ again_sent m m.mine.told true false first now
 syn_acks_cross m first now f =
     let w = again_due (mirror m) first in
-    crosses (again_due m first) w (again_sent m m.mine.told false false first) (syn_ack_of (mirror m) first) (again_sent m m.mine.told true false first) now
+    crosses (again_due m first) w (again_sent m m.mine.told false false first first) (syn_ack_of (mirror m) first) (again_sent m m.mine.told true false first now) now
     (syn_ack_goes m first now f) (segment_due w Syn (first_is_syn_ack (mirror m) first (mirrored m f))) (syn_ack_comes m first now f)
 
-acks_cross : (m : Meeting) (first now : Moment) → Fits m
-    → after_coming (after_event (again_sent m m.mine.told true false first) (Emits now)) (first_segment (again_sent (mirror m) m.theirs.told true false first)) now ≡ opened m
-acks_cross m first now f =
-    let w = again_sent (mirror m) m.theirs.told true false first in
-    crosses (again_sent m m.mine.told true false first) w (again_sent m m.mine.wide false true first) (ack_of (mirror m)) (opened m) now
-    (ack_goes m first now f) (segment_due w Ack (first_is_ack (mirror m) first (mirrored m f))) (ack_comes m first now f)
+acks_cross : (m : Meeting) (first last now : Moment) → Fits m
+    → after_coming (after_event (again_sent m m.mine.told true false first last) (Emits now)) (first_segment (again_sent (mirror m) m.theirs.told true false first last)) now ≡ opened m now
+acks_cross m first last now f =
+    let w = again_sent (mirror m) m.theirs.told true false first last in
+    crosses (again_sent m m.mine.told true false first last) w (again_sent m m.mine.wide false true first last) (ack_of (mirror m)) (opened m now) now
+    (ack_goes m first last now f) (segment_due w Ack (first_is_ack (mirror m) first last (mirrored m f))) (ack_comes m first last now f)
 
 -- the two of a meeting
 abbrev pair : (Meeting → View) → Meeting → Ends
@@ -478,17 +482,17 @@ both_open m one two = record { one = opening m one; other = opening (mirror m) t
 first_crossing : (m : Meeting) (one two now : Moment) → Fits m → crossed (both_open m one two) now ≡ pair (λ m. again_due m now) m
 first_crossing m one two now f = together m (opening m one) (opening (mirror m) two) (λ m. again_due m now) now (syns_cross m one two now f) (syns_cross (mirror m) two one now (mirrored m f))
 
-second_crossing : (m : Meeting) (first now : Moment) → Fits m → crossed (pair (λ m. again_due m first) m) now ≡ pair (λ m. again_sent m m.mine.told true false first) m
+second_crossing : (m : Meeting) (first now : Moment) → Fits m → crossed (pair (λ m. again_due m first) m) now ≡ pair (λ m. again_sent m m.mine.told true false first now) m
 second_crossing m first now f =
-    together m (again_due m first) (again_due (mirror m) first) (λ m. again_sent m m.mine.told true false first) now (syn_acks_cross m first now f) (syn_acks_cross (mirror m) first now (mirrored m f))
+    together m (again_due m first) (again_due (mirror m) first) (λ m. again_sent m m.mine.told true false first now) now (syn_acks_cross m first now f) (syn_acks_cross (mirror m) first now (mirrored m f))
 
-third_crossing : (m : Meeting) (first now : Moment) → Fits m → crossed (pair (λ m. again_sent m m.mine.told true false first) m) now ≡ pair opened m
-third_crossing m first now f =
-    together m (again_sent m m.mine.told true false first) (again_sent (mirror m) m.theirs.told true false first) opened now (acks_cross m first now f) (acks_cross (mirror m) first now (mirrored m f))
+third_crossing : (m : Meeting) (first last now : Moment) → Fits m → crossed (pair (λ m. again_sent m m.mine.told true false first last) m) now ≡ pair (λ m. opened m now) m
+third_crossing m first last now f =
+    together m (again_sent m m.mine.told true false first last) (again_sent (mirror m) m.theirs.told true false first last) (λ m. opened m now) now (acks_cross m first last now f) (acks_cross (mirror m) first last now (mirrored m f))
 
-all_crossings : (m : Meeting) (one two first second third : Moment) → Fits m → crossed (crossed (crossed (both_open m one two) first) second) third ≡ pair opened m
+all_crossings : (m : Meeting) (one two first second third : Moment) → Fits m → crossed (crossed (crossed (both_open m one two) first) second) third ≡ pair (λ m. opened m third) m
 all_crossings m one two first second third f =
-    ap (λ ends. crossed (crossed ends second) third) (first_crossing m one two first f) ∙ (ap (λ ends. crossed ends third) (second_crossing m first second f) ∙ third_crossing m first third f)
+    ap (λ ends. crossed (crossed ends second) third) (first_crossing m one two first f) ∙ (ap (λ ends. crossed ends third) (second_crossing m first second f) ∙ third_crossing m first second third f)
 
 answers : (m : Meeting) (first : Moment) → Fits m → AnswersSyn m.isn m.other (again_due m first)
 answers m first f = record {
@@ -622,9 +626,9 @@ all_told true told size same (inr large) =
     ap (λ b. if b then whole_units 32 size else told) (le-leb (told + 1460) size (omega (arith, same, large.0))) ∙ omega (arith, large.0)
 all_told false told size same (inr large) = cc
 
-has_opened : (both : Bool) (room facing : Room) (here there : Endpoint) (isn other : ℕ) → CanBeMade room
-    → (let m = meeting both room facing here there isn other in Fits m → HasOpened both room.capacity isn other (opened m))
-has_opened both room facing here there isn other made f =
+has_opened : (both : Bool) (room facing : Room) (here there : Endpoint) (isn other : ℕ) (last : Moment) → CanBeMade room
+    → (let m = meeting both room facing here there isn other in Fits m → HasOpened both room.capacity isn other (opened m last))
+has_opened both room facing here there isn other last made f =
     let m = meeting both room facing here there isn other in
     let window = window_is m m.mine.wide f.mine.most in
     let sized = sizes both room.capacity made.least in
@@ -633,7 +637,7 @@ has_opened both room facing here there isn other made f =
       una = refl;
       nxt = refl;
       expects = refl;
-      due = none_left m f;
+      due = none_left m last f;
       scales = refl;
       sends = refl;
       takes = refl;
@@ -645,8 +649,8 @@ has_opened both room facing here there isn other made f =
     where_large true capacity large = refl
     where_large false capacity large = absurd (omega (arith, large))
 
-knows : (m : Meeting) → Fits m → KnowsWindow (opened m) (opened (mirror m))
-knows m f = record { unit = refl; window = ap (whole_units m.unit) (sym (window_is (mirror m) m.theirs.wide f.theirs.most)) }
+knows : (m : Meeting) (last : Moment) → Fits m → KnowsWindow (opened m last) (opened (mirror m) last)
+knows m last f = record { unit = refl; window = ap (whole_units m.unit) (sym (window_is (mirror m) m.theirs.wide f.theirs.most)) }
 
 pub both_answered : (here there : Endpoint) (room facing : Room) (isn other : ℕ) (one two first : Moment) → CanBeMade room → CanBeMade facing → isn < 2 ^ 32 → other < 2 ^ 32
     → (let ends = crossed (record { one = opened_actively room here there isn one; other = opened_actively facing there here other two }) first in
@@ -666,7 +670,7 @@ both_opened here there room facing isn other one two first second third made mad
     let m = meeting both room facing here there isn other in
     let f = fits room facing here there isn other made made_there few other_few in
     subst (λ (ends : Ends). HasOpened both room.capacity isn other ends.one × HasOpened both facing.capacity other isn ends.other) (sym (all_crossings m one two first second third f))
-    (has_opened both room facing here there isn other made f, has_opened both facing room there here other isn made_there (mirrored m f))
+    (has_opened both room facing here there isn other third made f, has_opened both facing room there here other isn third made_there (mirrored m f))
 
 pub both_know : (here there : Endpoint) (room facing : Room) (isn other : ℕ) (one two first second third : Moment) → CanBeMade room → CanBeMade facing → isn < 2 ^ 32 → other < 2 ^ 32
     → (let ends = crossed (crossed (crossed (record { one = opened_actively room here there isn one; other = opened_actively facing there here other two }) first) second) third in
@@ -674,4 +678,4 @@ pub both_know : (here there : Endpoint) (room facing : Room) (isn other : ℕ) (
 both_know here there room facing isn other one two first second third made made_there few other_few =
     let m = meeting (room.manner.scales && facing.manner.scales) room facing here there isn other in
     let f = fits room facing here there isn other made made_there few other_few in
-    subst (λ (ends : Ends). KnowsWindow ends.one ends.other × KnowsWindow ends.other ends.one) (sym (all_crossings m one two first second third f)) (knows m f, knows (mirror m) (mirrored m f))
+    subst (λ (ends : Ends). KnowsWindow ends.one ends.other × KnowsWindow ends.other ends.one) (sym (all_crossings m one two first second third f)) (knows m third f, knows (mirror m) third (mirrored m f))

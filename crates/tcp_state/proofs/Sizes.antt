@@ -2,7 +2,7 @@
 use Rattle.std.proofs.Common.{◌+◌, ◌*◌, ◌≤◌, if◌then◌else◌, Bool, true, false, length, drop, arith}
 use Rattle.std.proofs.lemmas.List.{length-take}
 use Rattle.tcp_state.specs.declared.emission.Due.{Due}
-use Rattle.tcp_state.specs.declared.emission.Due.TheVariants.{Rst, Syn, Text, Probe, Ack}
+use Rattle.tcp_state.specs.declared.emission.Due.TheVariants.{Rst, Syn, Text, Probe, Ack, KeepAlive}
 use Rattle.tcp_state.specs.declared.emission.Stretch.{Stretch}
 use Rattle.tcp_state.specs.View.{View}
 use Rattle.tcp_state.specs.Due.{MayGoOut, IsHeld, octets_of_stretch, emitted_len, probe_stretch}
@@ -21,3 +21,4 @@ emitted_short v Syn may = syn_short v.scales
 emitted_short v (Text stretch) may = stretch_short v stretch may
 emitted_short v Probe may = stretch_short v (probe_stretch v) may
 emitted_short v Ack may = omega (arith)
+emitted_short v KeepAlive may = omega (arith)

@@ -15,7 +15,7 @@ use Rattle.tcp_state.proofs.Emissions.{by_due}
 -- what holds of each stretch of new octets that goes out holds of any that is due
 by_new : (P : Stretch → Type 0) (v : View) → IsSound v → (sends_new v ≡ true → P (new_octets v)) → (stretch : Stretch) → first_due v ≡ Some (Text stretch) → outstanding v.sending ≤ stretch.offset → 0 < stretch.count → P stretch
 by_new P v sound new stretch first = by_due (λ o. (t : Stretch) → o ≡ Some (Text t) → outstanding v.sending ≤ t.offset → 0 < t.count → P t) v (record {
-  nothing = λ quiet t e. cc;
+  nothing = λ quiet heard t e. cc;
   rst = λ owes t e. cc;
   syn = λ opening goes t e. cc;
   once_more = λ opened mark is goes t e. let same : again v mark ≡ t = cc in subst (λ (u : Stretch). outstanding v.sending ≤ u.offset → 0 < u.count → P u) same (λ past. let within = sound.mark mark is in absurd (omega (arith, past, within)));
@@ -23,6 +23,7 @@ by_new P v sound new stretch first = by_due (λ o. (t : Stretch) → o ≡ Some 
   fin = λ opened sends t e. let same : fin_alone v ≡ t = cc in subst (λ (u : Stretch). outstanding v.sending ≤ u.offset → 0 < u.count → P u) same (λ past some. absurd (omega (arith, some)));
   probe = λ opened owes goes t e. cc;
   ack = λ owes t e. cc;
+  asks = λ quiet owes t e. cc;
 }) stretch first
 
 -- all that is held, or half of the largest window

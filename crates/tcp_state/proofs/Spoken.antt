@@ -5,13 +5,14 @@ use Rattle.clock.specs.declared.moment.Moment.{Moment}
 use Rattle.tcp_segment.specs.Segment.{Segment}
 use Rattle.tcp_segment.specs.Wire.{past}
 use Rattle.tcp_state.specs.declared.emission.Due.{Due}
-use Rattle.tcp_state.specs.declared.emission.Due.TheVariants.{Rst, Syn, Text, Probe, Ack}
+use Rattle.tcp_state.specs.declared.emission.Due.TheVariants.{Rst, Syn, Text, Probe, Ack, KeepAlive}
 use Rattle.tcp_state.specs.declared.state.State.{State}
 use Rattle.tcp_state.specs.declared.state.State.TheVariants.{Established, FinWait1, FinWait2}
 use Rattle.tcp_halves.specs.Stream.{receive_window}
 use Rattle.tcp_halves.specs.Windows.{receive_room, has_grown}
 use Rattle.tcp_halves.proofs.Choices.{either, clash, and_left, and_right, both, or_else, of_false}
 use Rattle.tcp_state.specs.View.{View, is_opening, is_syn_received, is_closed}
+use Rattle.tcp_state.specs.Alive.{after_silence}
 use Rattle.tcp_state.specs.Arrival.{beyond_fin, beyond_end, is_receiving, after_ack, after_window, after_text, after_heard}
 use Rattle.tcp_state.specs.Due.{first_due, flags_of, after_syn_ack_paid, after_resent, after_first_sent, after_numbers, after_syn_out, after_emitted}
 use Rattle.tcp_state.specs.Edges.{Event, Emits, after_first, after_event}
@@ -24,7 +25,7 @@ use Rattle.tcp_state.proofs.Segments.{by_ack, by_fin, by_hearing}
 
 pub alone : (v : View) → first_due v ≡ Some Ack → (v.owes_ack ≡ true) ⊎ ((v.spoke ≡ true) × (past v.receiving.edge v.receiving.rnext + 1460 + length v.receiving.readable ≤ v.receiving.size))
 alone v first = by_due (λ o. o ≡ Some Ack → Caused) v (record {
-  nothing = λ quiet e. cc;
+  nothing = λ quiet heard e. cc;
   rst = λ owes e. cc;
   syn = λ opening goes e. cc;
   once_more = λ opened mark is goes e. cc;
@@ -32,6 +33,7 @@ alone v first = by_due (λ o. o ≡ Some Ack → Caused) v (record {
   fin = λ opened sends e. cc;
   probe = λ opened owes goes e. cc;
   ack = λ due e. caused due;
+  asks = λ quiet owes e. cc;
 }) first
   where
     Caused : Type 0
@@ -89,14 +91,16 @@ emission_spoke v now = gone (first_due v) refl
     gone (Some (Text stretch)) first = inr (refl, (now, Text stretch, refl, first, refl, refl))
     gone (Some Probe) first = inr (refl, (now, Probe, refl, first, refl, refl))
     gone (Some Ack) first = inr (refl, (now, Ack, refl, first, refl, refl))
+    gone (Some KeepAlive) first = inr (refl, (now, KeepAlive, refl, first, refl, refl))
 
 spoken : (v : View) (e : Event) → Spoken v e (after_event v e)
 spoken v = by_event (λ e w. Spoken v e w) v (record {
   same = λ e. inl refl;
+  asks = λ e alive. inl refl;
   heard = λ s now lives. inl (heard_spoke v s);
   over = λ now ends. inl refl;
   given_up = λ now waits expired. inl refl;
-  acts = λ now. inl (ap (λ (w : View). w.spoke) (timers_keep v now));
+  acts = λ now. inl (ap (λ (w : View). w.spoke) (timers_keep (after_silence v now) now));
   emits = λ now. emission_spoke v now;
   sends = λ octets taken now opened. inl refl;
   reads = λ len. inl refl;
@@ -115,6 +119,7 @@ speaks_out v Syn now acks plain = cc
 speaks_out v (Text stretch) now acks plain = refl
 speaks_out v Probe now acks plain = refl
 speaks_out v Ack now acks plain = refl
+speaks_out v KeepAlive now acks plain = refl
 
 pub speaking : (v : View) (e : Event) → ((after_event v e).spoke ≡ true) ↔ ((v.spoke ≡ true) ⊎ Speaks v e)
 speaking v e = (
@@ -166,7 +171,7 @@ WaitsToSpeak w = is_closed w.state ≡ false → (w.delays_ack ≡ true) ⊎ (w.
 
 emission_waits : (v : View) (now : Moment) → is_opening v.state ≡ false → v.delays_ack ≡ true → WaitsToSpeak (after_first v (first_due v) now)
 emission_waits v now opened was = by_due (λ o. WaitsToSpeak (after_first v o now)) v (record {
-  nothing = λ quiet lives. inl was;
+  nothing = λ quiet heard lives. inl was;
   rst = λ owes lives. inl was;
   syn = λ opening goes. clash (is_opening v.state) opening opened;
   once_more = λ opened mark is goes lives. inr refl;
@@ -174,16 +179,18 @@ emission_waits v now opened was = by_due (λ o. WaitsToSpeak (after_first v o no
   fin = λ opened sends lives. inr refl;
   probe = λ opened owes goes lives. inr refl;
   ack = λ owes lives. inr refl;
+  asks = λ quiet owes lives. inr refl;
 })
 
 pub waits_to_speak : (v : View) (e : Event) → is_opening v.state ≡ false → v.delays_ack ≡ true → is_closed (after_event v e).state ≡ false
     → ((after_event v e).delays_ack ≡ true) ⊎ ((after_event v e).spoke ≡ true)
 waits_to_speak v e opened was = by_event (λ e w. WaitsToSpeak w) v (record {
   same = λ e lives. inl was;
+  asks = λ e alive lives. inl was;
   heard = λ s now lives after. inl (heard_waits v s was after);
   over = λ now ends lives. cc;
   given_up = λ now waits expired lives. cc;
-  acts = λ now lives. inl (ap (λ (w : View). w.delays_ack) (timers_keep v now) ∙ was);
+  acts = λ now lives. inl (ap (λ (w : View). w.delays_ack) (timers_keep (after_silence v now) now) ∙ was);
   emits = λ now. emission_waits v now opened was;
   sends = λ octets taken now open_yet lives. inl was;
   reads = λ len lives. inl was;

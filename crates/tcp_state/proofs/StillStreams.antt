@@ -5,12 +5,13 @@ use Rattle.clock.specs.Moments.{has_come}
 use Rattle.retransmit.specs.Deadlines.{next_of}
 use Rattle.tcp_state.specs.declared.calls.Refusal.TheVariants.{ETIMEDOUT}
 use Rattle.tcp_state.specs.declared.emission.Due.{Due}
-use Rattle.tcp_state.specs.declared.emission.Due.TheVariants.{Rst, Syn, Text, Probe, Ack}
+use Rattle.tcp_state.specs.declared.emission.Due.TheVariants.{Rst, Syn, Text, Probe, Ack, KeepAlive}
 use Rattle.tcp_halves.specs.Halves.{Sending, Receiving}
 use Rattle.tcp_halves.specs.Windows.{has_grown, after_advertisement, syn_window, after_syn_advertisement}
 use Rattle.tcp_halves.specs.Stream.{receive_window}
 use Rattle.tcp_halves.proofs.Choices.{either, clash}
 use Rattle.tcp_state.specs.View.{View, is_closed, is_syn_received, is_at_end, after_stop, after_reset}
+use Rattle.tcp_state.specs.Alive.{after_silence}
 use Rattle.tcp_state.specs.Timing.{clocked, gives_up, after_timers, after_tick}
 use Rattle.tcp_state.specs.Due.{first_due, after_syn_ack_paid, after_syn_out, after_stretch, after_probe, after_emitted}
 use Rattle.tcp_state.specs.Edges.{Ticks, Emits, after_first, after_event}
@@ -20,16 +21,17 @@ use Rattle.tcp_state.proofs.Emissions.{syn_sends, stretch_sends, probe_sends, nu
 
 -- A tick.
 
-by_tick : (P : View → Type 0) (v : View) (now : Moment) → P (after_stop v) → P (after_reset v (Some ETIMEDOUT)) → P (clocked false (after_timers v now) now) → P v → P (after_tick v now)
+pub by_tick : (P : View → Type 0) (v : View) (now : Moment) → P (after_stop v) → P (after_reset v (Some ETIMEDOUT)) → P (clocked false (after_timers (after_silence v now) now) now) → P (after_silence v now) → P (after_tick v now)
 by_tick P v now over gives acts rests =
+    let quiet = after_silence v now in
     either View P (is_at_end v now) (after_stop v) _ (λ ends. over)
     (λ waits. either View P (gives_up v now) (after_reset v (Some ETIMEDOUT)) _ (λ expired. gives)
-    (λ goes_on. either View P (has_come (next_of v.timers) now) (clocked false (after_timers v now) now) v (λ comes. acts) (λ early. rests)))
+    (λ goes_on. either View P (has_come (next_of v.timers) now) (clocked false (after_timers quiet now) now) quiet (λ comes. acts) (λ early. rests)))
 
 pub ticks_leave : (v : View) (now : Moment) → is_closed (after_event v (Ticks now)).state ≡ false
     → ((after_event v (Ticks now)).sending ≡ v.sending) × ((after_event v (Ticks now)).receiving ≡ v.receiving) × ((after_event v (Ticks now)).state ≡ v.state)
 ticks_leave v now =
-    let kept = timers_keep v now in
+    let kept = timers_keep (after_silence v now) now in
     by_tick (λ w. is_closed w.state ≡ false → (w.sending ≡ v.sending) × (w.receiving ≡ v.receiving) × (w.state ≡ v.state)) v now (λ alive. cc) (λ alive. cc)
     (λ alive. (ap (λ (w : View). w.sending) kept, ap (λ (w : View). w.receiving) kept, ap (λ (w : View). w.state) kept)) (λ alive. (refl, refl, refl))
 
@@ -37,7 +39,7 @@ pub ends_leave : (v : View) (now : Moment) → is_closed (after_event v (Ticks n
     → ((after_event v (Ticks now)).receiving ≡ v.receiving) × ((after_event v (Ticks now)).sending.held ≡ [])
 ends_leave v now =
     by_tick (λ w. is_closed w.state ≡ true → is_closed v.state ≡ false → (w.receiving ≡ v.receiving) × (w.sending.held ≡ [])) v now (λ closed lived. (refl, refl)) (λ closed lived. (refl, refl))
-    (λ closed lived. clash (is_closed v.state) (sym (ap (λ (w : View). is_closed w.state) (timers_keep v now)) ∙ closed) lived) (λ closed lived. clash (is_closed v.state) closed lived)
+    (λ closed lived. clash (is_closed v.state) (sym (ap (λ (w : View). is_closed w.state) (timers_keep (after_silence v now) now)) ∙ closed) lived) (λ closed lived. clash (is_closed v.state) closed lived)
 
 -- What goes out.
 
@@ -70,6 +72,7 @@ moves v Syn now =
 moves v (Text stretch) now = paid v (after_stretch v stretch now) _ after_advertisement advertised (stretch_sends v stretch now) (stretch_receives v stretch now)
 moves v Probe now = paid v (after_probe v) _ after_advertisement advertised (probe_sends v) (probe_receives v)
 moves v Ack now = paid v v _ after_advertisement advertised refl refl
+moves v KeepAlive now = (refl, advertised v.receiving)
 
 moves_first : (v : View) (o : Option Due) (now : Moment) → Moves v (after_first v o now)
 moves_first v None now = (refl, refl)

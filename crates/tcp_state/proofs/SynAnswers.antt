@@ -19,6 +19,7 @@ use Rattle.tcp_halves.specs.Stream.{outstanding, is_new_ack}
 use Rattle.tcp_state.specs.View.{View, IsSound, is_opening, is_syn_sent, is_syn_received, is_closed, is_over, is_write_closed, after_reset}
 use Rattle.tcp_state.specs.Resend.{mark_past}
 use Rattle.tcp_state.specs.Timing.{probes}
+use Rattle.tcp_state.specs.Alive.{heard_now}
 use Rattle.tcp_state.specs.Arrival.{reset_error, after_rst_in_syn_sent, after_rst, is_acting_reset, ends_by_reset, ends_by_syn, ends_opening, is_acceptable_to, is_simultaneous_syn, after_simultaneous_syn, after_syn_ack, after_segment, is_receiving, is_read, octets_outstanding, is_duplicate, brings_more, is_lost, after_lost, after_heard, before, is_moved, resend_after, timed_by, after_segment_at, is_rejected, fate}
 use Rattle.tcp_state.specs.Due.{first_due, ack_due}
 use Rattle.tcp_state.specs.Edges.{after_first}
@@ -148,8 +149,8 @@ refused v s now sound is quiet =
       recv = λ len. refl;
       held = refl;
       readable = none_listed v.receiving.readable (subst (λ t. length v.receiving.readable ≤ (if is_opening t then 0 else v.receiving.size)) is sound.readable);
-      due = silent v timed.resend quiet (marks_kept b w now (repeats_none v s (ap is_opening is))) (ap (λ b. b && probes (record w { resend = resend })) (probes_kept b w now));
-      timer = ap (λ t. sooner (next_of t) None) (at_rest v resend (is_moved b w) now sound.nxt);
+      due = silent (record v { alive = heard_now v.alive now }) timed.resend quiet (marks_kept b w now (repeats_none v s (ap is_opening is))) (ap (λ b. b && probes (record w { resend = resend })) (probes_kept b w now));
+      timer = ap (λ t. sooner (sooner (next_of t) None) None) (at_rest v resend (is_moved b w) now sound.nxt);
     }
 
 by_no_listener : (acts passive received : Bool) → passive ≡ false → (acts && passive && received) ≡ false

@@ -14,7 +14,8 @@ use Rattle.tcp_halves.specs.Numbers.{is_before}
 use Rattle.tcp_halves.proofs.Choices.{either, by, clash, and_left, and_right, both, not_true}
 use Rattle.tcp_state.specs.Resend.{Resend, stopped, timeout_sampled, resend_acknowledged}
 use Rattle.tcp_state.specs.View.{View, is_opening, is_closed, after_stop, after_reset}
-use Rattle.tcp_state.specs.Timing.{clocked, retransmission_expired, probe_expired, after_timers}
+use Rattle.tcp_state.specs.Alive.{after_silence}
+use Rattle.tcp_state.specs.Timing.{clocked, retransmission_expired, probe_expired, after_timers, after_expiries}
 use Rattle.tcp_state.specs.Arrival.{is_receiving, after_new_ack, after_ack, after_window, after_text, after_heard, is_rejected, before, is_moved, resend_heard, resend_after, timed_by}
 use Rattle.tcp_state.specs.Due.{first_due}
 use Rattle.tcp_state.specs.Edges.{Event, Hears, Ticks, after_first, after_event}
@@ -141,12 +142,13 @@ expiry_doubles v now comes =
 pub expiries_double : (v : View) (now : Moment) → has_come v.timers.retransmission now ≡ true → is_closed (after_event v (Ticks now)).state ≡ false → (after_event v (Ticks now)).resend.timeout ≡ doubled v
 expiries_double v now comes alive =
     let on = goes_on v now alive in
-    let acts = clocked false (after_timers v now) now in
+    let quiet = after_silence v now in
+    let acts = clocked false (after_timers quiet now) now in
     let next : has_come (next_of v.timers) now ≡ true = by (has_come (next_of v.timers) now ≡ true) (has_come (next_of v.timers) now) (λ has. has)
     (λ early. clash (has_come v.timers.retransmission now) comes (none_comes v now early)) in
-    ap₂ (λ a b. let w = if a then after_stop v else if b then after_reset v (Some ETIMEDOUT) else if has_come (next_of v.timers) now then acts else v in w.resend.timeout) on.0 on.1
-    ∙ ap (λ b. let w = if b then acts else v in w.resend.timeout) next
-    ∙ expiry_doubles v now comes
+    ap₂ (λ a b. let w = if a then after_stop v else if b then after_reset v (Some ETIMEDOUT) else after_expiries quiet now in w.resend.timeout) on.0 on.1
+    ∙ ap (λ b. let w = if b then acts else quiet in w.resend.timeout) next
+    ∙ expiry_doubles quiet now comes
 
 -- no other timer moves it
 early_keeps : (v : View) (now : Moment) → has_come v.timers.retransmission now ≡ false → (clocked false (after_timers v now) now).resend.timeout ≡ v.resend.timeout
@@ -202,11 +204,12 @@ emitted_keeps v (Some due) now = (goes_out v due now).timeout
 pub others_keep : (v : View) (e : Event) → ((after_event v e).resend.timeout ≡ v.resend.timeout) ⊎ Moved v e (after_event v e)
 others_keep v e = by_event (λ e w. (w.resend.timeout ≡ v.resend.timeout) ⊎ Moved v e w) v (record {
   same = λ e. inl refl;
+  asks = λ e alive. inl refl;
   heard = λ s now lives. heard_by v s now;
   over = λ now ends. inl refl;
   given_up = λ now waits expired. inl refl;
-  acts = λ now. by (((clocked false (after_timers v now) now).resend.timeout ≡ v.resend.timeout) ⊎ Moved v (Ticks now) (clocked false (after_timers v now) now)) (has_come v.timers.retransmission now)
-      (λ comes. inr (inr (now, refl, comes))) (λ early. inl (early_keeps v now early));
+  acts = λ now. let acted = clocked false (after_timers (after_silence v now) now) now in by ((acted.resend.timeout ≡ v.resend.timeout) ⊎ Moved v (Ticks now) acted) (has_come v.timers.retransmission now)
+      (λ comes. inr (inr (now, refl, comes))) (λ early. inl (early_keeps (after_silence v now) now early));
   emits = λ now. inl (emitted_keeps v (first_due v) now);
   sends = λ octets taken now opened. inl refl;
   reads = λ len. inl refl;

@@ -5,13 +5,14 @@ use Rattle.tcp_segment.specs.Segment.{Segment}
 use Rattle.tcp_segment.specs.Wire.{past}
 use Rattle.clock.specs.declared.moment.Moment.{Moment}
 use Rattle.tcp_state.specs.declared.emission.Due.{Due}
-use Rattle.tcp_state.specs.declared.emission.Due.TheVariants.{Rst, Syn, Text, Probe, Ack}
+use Rattle.tcp_state.specs.declared.emission.Due.TheVariants.{Rst, Syn, Text, Probe, Ack, KeepAlive}
 use Rattle.tcp_state.specs.declared.emission.Stretch.{Stretch}
 use Rattle.tcp_halves.specs.Halves.{Receiving}
 use Rattle.tcp_halves.specs.Stream.{receive_window}
 use Rattle.tcp_halves.specs.Windows.{receive_room, has_grown, whole_units, after_advertisement, syn_window, after_syn_advertisement}
 use Rattle.tcp_halves.proofs.Keeping.{in_units}
 use Rattle.tcp_state.specs.View.{View, IsSound, is_opening, is_syn_sent, is_syn_received, is_closed}
+use Rattle.tcp_state.specs.Alive.{after_silence}
 use Rattle.tcp_state.specs.Arrival.{is_receiving, after_ack, after_window, after_text, after_heard}
 use Rattle.tcp_state.specs.Due.{first_due, again, new_octets, fin_alone, after_ack_paid, after_syn_ack_paid, after_syn_out, after_stretch, after_probe, after_emitted}
 use Rattle.tcp_state.specs.Edges.{Event, Emits, after_first, after_event}
@@ -42,6 +43,7 @@ emitted v Syn now =
 emitted v (Text stretch) now = inr (inl (told v (after_stretch v stretch now) (stretch_receives v stretch now)))
 emitted v Probe now = inr (inl (told v (after_probe v) (probe_receives v)))
 emitted v Ack now = inr (inl refl)
+emitted v KeepAlive now = inr (inl refl)
 
 -- A step.
 
@@ -120,10 +122,11 @@ emission_steps v (Some due) now sound small = elim (emitted v due now) [
 pub in_steps : (v : View) (e : Event) → IsSound v → is_syn_sent v.state ≡ false → v.receiving.edge < 2 ^ 32 → Steps v (after_event v e)
 in_steps v e sound past_opening small = by_event (λ e w. Steps v w) v (record {
   same = λ e. inl refl;
+  asks = λ e alive. inl refl;
   heard = λ s now lives. inl (heard_edge v s past_opening);
   over = λ now ends. inl refl;
   given_up = λ now waits expired. inl refl;
-  acts = λ now. inl (ap (λ (w : View). w.receiving.edge) (timers_keep v now));
+  acts = λ now. inl (ap (λ (w : View). w.receiving.edge) (timers_keep (after_silence v now) now));
   emits = λ now. emission_steps v (first_due v) now sound small;
   sends = λ octets taken now opened. inl refl;
   reads = λ len. inl refl;
@@ -150,7 +153,7 @@ told_next v now sound opened goes_out much =
     let P : Option Due → Type 0 = λ o. (v.spoke ≡ true) ⊎ (o ≢ None) → (after_first v o now).receiving ≡ after_advertisement r in
     let text : (stretch : Stretch) → P (Some (Text stretch)) = λ stretch goes. told v (after_stretch v stretch now) (stretch_receives v stretch now) in
     let all : P (first_due v) = by_due P v (record {
-      nothing = λ quiet goes. elim goes [ inl spoke ↦ clash (is_ack_due v) (due spoke) quiet | inr some ↦ absurd (some refl) ];
+      nothing = λ quiet heard goes. elim goes [ inl spoke ↦ clash (is_ack_due v) (due spoke) quiet | inr some ↦ absurd (some refl) ];
       rst = λ owes goes. clash (is_closed v.state) (owed_where_closed v.owes_reset (is_closed v.state) v.released sound.reset owes) lives.1;
       syn = λ opening waits goes. clash (is_opening v.state) opening lives.0;
       once_more = λ past mark is again_goes. text (again v mark);
@@ -158,5 +161,6 @@ told_next v now sound opened goes_out much =
       fin = λ past sends. text (fin_alone v);
       probe = λ past owes probes goes. told v (after_probe v) (probe_receives v);
       ack = λ owes goes. refl;
+      asks = λ quiet owes goes. refl;
     }) in
     ap (λ (t : Receiving). t.edge) (all goes_out) ∙ ap (λ b. let t = if b then record r { edge = (r.rnext + whole_units r.unit (receive_room r)) % 2 ^ 32 } else r in t.edge) has

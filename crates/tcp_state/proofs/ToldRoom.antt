@@ -12,7 +12,7 @@ use Rattle.tcp_state.proofs.Emissions.{by_due}
 -- then no acknowledgement is
 pub none_owed : (v : View) → first_due v ≡ None → is_ack_due v ≡ false
 none_owed v = by_due (λ o. o ≡ None → is_ack_due v ≡ false) v (record {
-  nothing = λ quiet none. quiet;
+  nothing = λ quiet heard none. quiet;
   rst = λ owes none. cc;
   syn = λ opening goes none. cc;
   once_more = λ opened mark is goes none. cc;
@@ -20,6 +20,7 @@ none_owed v = by_due (λ o. o ≡ None → is_ack_due v ≡ false) v (record {
   fin = λ opened sends none. cc;
   probe = λ opened owes goes none. cc;
   ack = λ owes none. cc;
+  asks = λ quiet owes none. cc;
 })
 
 pub room_told : (v : View) → (is_opening v.state || is_closed v.state) ≡ false → v.spoke ≡ true → first_due v ≡ None → receive_room v.receiving < receive_window v.receiving + MSS

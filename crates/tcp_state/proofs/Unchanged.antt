@@ -5,7 +5,7 @@ use Rattle.tcp_segment.specs.Segment.{Segment}
 use Rattle.clock.specs.declared.moment.Moment.{Moment}
 use Rattle.tcp_state.specs.declared.connection.Fate.TheVariants.{Stays, Removed, Rejected}
 use Rattle.tcp_state.specs.declared.emission.Due.{Due}
-use Rattle.tcp_state.specs.declared.emission.Due.TheVariants.{Rst, Syn, Text, Probe, Ack}
+use Rattle.tcp_state.specs.declared.emission.Due.TheVariants.{Rst, Syn, Text, Probe, Ack, KeepAlive}
 use Rattle.tcp_state.specs.declared.state.State.{State}
 use Rattle.tcp_state.specs.declared.state.State.TheVariants.{Closed}
 use Rattle.tcp_halves.specs.Numbers.{is_before}
@@ -13,6 +13,7 @@ use Rattle.tcp_halves.specs.Stream.{outstanding, is_new_ack}
 use Rattle.tcp_halves.specs.Windows.{sendable, is_worth_sending, has_grown}
 use Rattle.tcp_state.specs.View.{View, IsSound, is_opening, is_syn_sent, is_syn_received, is_closed, is_over, awaits_fin_ack, is_write_finished, takes_flag_number}
 use Rattle.tcp_state.specs.Timing.{probes}
+use Rattle.tcp_state.specs.Alive.{may_rest, rests}
 use Rattle.tcp_state.specs.Arrival.{owing_ack, after_establishment, after_ack, is_read_on, after_acknowledging_segment, after_acceptable_segment, ends_opening, is_acceptable_to, is_right_syn_ack, after_syn_ack, is_simultaneous_syn, after_simultaneous_syn, after_segment, is_lost, after_lost, after_heard, acknowledges_unsent, is_rejected, before, timed_by, after_segment_at, fate}
 use Rattle.tcp_state.specs.New.{sends_fin, waits_no_longer}
 use Rattle.tcp_state.specs.Due.{first_due, again_from, new_due, ack_due, new_octets, fin_alone}
@@ -106,23 +107,34 @@ pub record IsQuiet (v : View) : Type 0 where
   pub closed : is_closed v.state ≡ true
   pub ack : v.owes_ack ≡ false
 
-none_new : (octets fin owed probe owes opened closed spoke grown : Bool) (text end : Due) → octets ≡ false → fin ≡ false → probe ≡ false → owes ≡ false → closed ≡ true
-    → (if octets then Some text else if fin then Some end else if owed && probe then Some Probe else if owes || (opened && not closed && spoke && grown) then Some Ack else None) ≡ None
-none_new false false true false false true true spoke grown text end o f p a c = refl
-none_new false false true false false false true spoke grown text end o f p a c = refl
-none_new false false false false false true true spoke grown text end o f p a c = refl
-none_new false false false false false false true spoke grown text end o f p a c = refl
-none_new true fin owed probe owes opened closed spoke grown text end o f p a c = cc
-none_new false true owed probe owes opened closed spoke grown text end o f p a c = cc
-none_new false false owed true owes opened closed spoke grown text end o f p a c = cc
-none_new false false owed false true opened closed spoke grown text end o f p a c = cc
-none_new false false owed false false opened false spoke grown text end o f p a c = cc
+none_new : (octets fin owed probe owes opened closed spoke grown asked rests : Bool) (text end : Due) → octets ≡ false → fin ≡ false → probe ≡ false → owes ≡ false → closed ≡ true → rests ≡ false
+    → (if octets then Some text else if fin then Some end else if owed && probe then Some Probe else if owes || (opened && not closed && spoke && grown) then Some Ack else if asked && rests then Some KeepAlive else None) ≡ None
+none_new false false true false false true true spoke grown true false text end o f p a c r = refl
+none_new false false true false false true true spoke grown false false text end o f p a c r = refl
+none_new false false true false false false true spoke grown true false text end o f p a c r = refl
+none_new false false true false false false true spoke grown false false text end o f p a c r = refl
+none_new false false false false false true true spoke grown true false text end o f p a c r = refl
+none_new false false false false false true true spoke grown false false text end o f p a c r = refl
+none_new false false false false false false true spoke grown true false text end o f p a c r = refl
+none_new false false false false false false true spoke grown false false text end o f p a c r = refl
+none_new true fin owed probe owes opened closed spoke grown asked rests text end o f p a c r = cc
+none_new false true owed probe owes opened closed spoke grown asked rests text end o f p a c r = cc
+none_new false false owed true owes opened closed spoke grown asked rests text end o f p a c r = cc
+none_new false false owed false true opened closed spoke grown asked rests text end o f p a c r = cc
+none_new false false owed false false opened false spoke grown asked rests text end o f p a c r = cc
+none_new false false owed false false opened true spoke grown asked true text end o f p a c r = cc
+
+-- what is closed waits for no peer
+closed_rests_not : (t : State) (empty : Bool) → is_closed t ≡ true → (may_rest t && empty) ≡ false
+closed_rests_not Closed empty e = refl
+closed_rests_not _ empty e = cc
 
 pub none_due : (v : View) → IsQuiet v → first_due v ≡ (if v.owes_reset then Some Rst else None)
 none_due v quiet =
     let octets = ap (λ n. nat_lt 0 n && is_worth_sending v.sending v.congestion.cwnd (waits_no_longer v)) quiet.octets in
     let fin = ap (λ b. b && (outstanding v.sending == length v.sending.held) && nat_lt (outstanding v.sending) v.sending.window) quiet.fin in
-    let new : new_due v ≡ None = none_new _ (sends_fin v) v.resend.owes_probe (probes v) v.owes_ack (not (is_opening v.state)) (is_closed v.state) v.spoke (has_grown v.receiving) (Text (new_octets v)) (Text (fin_alone v)) octets fin quiet.probe quiet.ack quiet.closed in
+    let new : new_due v ≡ None = none_new _ (sends_fin v) v.resend.owes_probe (probes v) v.owes_ack (not (is_opening v.state)) (is_closed v.state) v.spoke (has_grown v.receiving) v.alive.owed (rests v) (Text (new_octets v)) (Text (fin_alone v)) octets fin quiet.probe quiet.ack quiet.closed
+    (closed_rests_not v.state (length v.sending.held == 0) quiet.closed) in
     ap (λ b. if v.owes_reset then Some Rst else if b then (if (outstanding v.sending == 0) || is_some v.resend.mark then Some Syn else ack_due v) else option_or (again_from v v.resend.mark) (new_due v)) quiet.opened
     ∙ ap (λ m. if v.owes_reset then Some Rst else option_or (again_from v m) (new_due v)) quiet.mark
     ∙ ap (λ d. if v.owes_reset then Some Rst else d) new

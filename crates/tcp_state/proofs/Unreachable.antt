@@ -7,7 +7,7 @@ use Rattle.tcp_segment.specs.Wire.{past}
 use Rattle.tcp_state.specs.declared.timing.TheConstants.{OVERRIDE_WAIT}
 use Rattle.tcp_state.specs.declared.calls.Refusal.TheVariants.{ECONNREFUSED}
 use Rattle.tcp_state.specs.declared.connection.Fate.TheVariants.{Stays, Removed}
-use Rattle.tcp_state.specs.declared.emission.Due.TheVariants.{Rst, Text}
+use Rattle.tcp_state.specs.declared.emission.Due.TheVariants.{Rst, Text, KeepAlive}
 use Rattle.tcp_state.specs.declared.state.State.{State}
 use Rattle.tcp_state.specs.declared.state.State.TheVariants.{SynSent}
 use Rattle.tcp_halves.specs.Stream.{outstanding}
@@ -92,7 +92,8 @@ silent v resend quiet unmarked unprobed =
     let same : record (after_stop v) { resend = resend } ≡ w = rw unmarked (rw unprobed refl) in
     let least : sendable w.sending w.congestion.cwnd ≡ 0 = omega arith in
     let none_new : sends_new w ≡ false = ap (λ n. nat_lt 0 n && is_worth_sending w.sending w.congestion.cwnd (waits_no_longer w)) least in
-    ap first_due same ∙ (ap (λ b. if b then Some Rst else new_due w) quiet ∙ ap (λ b. if b then Some (Text (new_octets w)) else None) none_new)
+    ap first_due same ∙ (ap (λ b. if b then Some Rst else new_due w) quiet
+    ∙ (ap (λ b. if b then Some (Text (new_octets w)) else if v.alive.owed && false then Some KeepAlive else None) none_new ∙ ap (λ b. if b then Some KeepAlive else None) (and_no v.alive.owed false refl)))
 
 none_run : (resending probe overriding : Option Moment) → resending ≡ None → probe ≡ None → overriding ≡ None
     → record { retransmission = resending; probe = probe; delayed_ack = None; overriding = overriding } ≡ no_timers

@@ -1,6 +1,6 @@
 -- From when a connection's wait for its end is counted, and when it is over.
 use Rattle.std.proofs.Common.{◌≡◌, ◌≢◌, ℕ, ◌+◌, ◌-◌, ◌%◌, ◌^◌, ◌≤◌, ◌==◌, ◌&&◌, ◌||◌, ◌⊎◌, ◌↔◌, not, nat_lt, nat_le, max, min, if◌then◌else◌, Bool, true, false, length, [], Option, Some, None, is_some, inl, inr, arith, refl, sym, ◌∙◌, ap, ap₂, subst}
-use Rattle.std.proofs.lemmas.Bool.{eqb-true, eq-eqb, le-leb}
+use Rattle.std.proofs.lemmas.Bool.{eqb-true, eq-eqb, le-leb, lt-leb}
 use Rattle.std.proofs.lemmas.Bool.Decides.{leb_tells}
 use Rattle.tcp_segment.specs.Segment.{Segment, span_of}
 use Rattle.clock.specs.declared.moment.Moment.{Moment}
@@ -13,13 +13,15 @@ use Rattle.tcp_state.specs.declared.state.State.TheVariants.{Closed, Established
 use Rattle.tcp_halves.specs.Stream.{outstanding}
 use Rattle.tcp_halves.proofs.Choices.{either, by, clash, and_left, and_right, and_false, both, not_true, of_false}
 use Rattle.tcp_state.specs.View.{View, IsSound, is_opening, is_syn_sent, is_syn_received, is_closed, is_fin_wait_2, is_time_wait, is_write_finished, awaits_fin_ack, takes_flag_number, end_of_wait, is_at_end, after_stop, after_reset}
-use Rattle.tcp_state.specs.Timing.{KeepsTime, probes, retransmits, gives_up, after_timers, clocked, after_tick}
+use Rattle.tcp_state.specs.Alive.{IsPatient, after_silence, end_of_silence, is_silent, may_rest, rests}
+use Rattle.tcp_state.specs.Timing.{KeepsTime, probes, retransmits, expires_for_good, is_silent_for_good, gives_up, after_timers, clocked, after_expiries, after_tick}
 use Rattle.tcp_state.specs.Calls.{beyond_shutdown, is_removed_by_close, is_aborted_by_close, aborted_at, after_release, latest}
 use Rattle.tcp_state.specs.Arrival.{is_acceptable_to, is_receiving, after_ack, after_window, after_text, after_fin, after_heard, begins_wait, repeats_fin, before, timed_by}
 use Rattle.tcp_state.specs.Due.{first_due}
 use Rattle.tcp_state.specs.Edges.{Event, Hears, Ticks, Closes, moment_of, after_event, fate_by}
 use Rattle.tcp_state.specs.Counted.{WaitsForEnd, BringsFinAgain}
 use Rattle.tcp_state.proofs.Clocked.{timers_keep, emission_keeps, starts_none, comes_to}
+use Rattle.tcp_state.proofs.Deadlines.{busy}
 use Rattle.tcp_state.proofs.Edges.{emitted-state}
 use Rattle.tcp_state.proofs.Segments.{by_fin, by_ack, by_hearing, not_rejected}
 use Rattle.tcp_state.proofs.Events.{by_event}
@@ -55,10 +57,11 @@ begun v w s now waits apart =
 pub begins_with_event : (v : View) (e : Event) → WaitsForEnd (after_event v e).state → v.state ≢ (after_event v e).state → moment_of e ≡ Some (after_event v e).since
 begins_with_event v e = by_event (λ e w. WaitsForEnd w.state → v.state ≢ w.state → moment_of e ≡ Some w.since) v (record {
   same = λ e waits apart. absurd (apart refl);
+  asks = λ e alive waits apart. absurd (apart refl);
   heard = λ s now lives waits apart. ap Some (sym (begun v (after_heard v s) s now waits apart));
   over = λ now ends waits apart. never_waits waits;
   given_up = λ now going expired waits apart. never_waits waits;
-  acts = λ now waits apart. absurd (apart (sym (ap (λ (w : View). w.state) (timers_keep v now))));
+  acts = λ now waits apart. absurd (apart (sym (ap (λ (w : View). w.state) (timers_keep (after_silence v now) now))));
   emits = λ now waits apart. absurd (apart (sym (emitted-state v (first_due v) now)));
   sends = λ octets taken now opened waits apart. absurd (apart refl);
   reads = λ len waits apart. absurd (apart refl);
@@ -145,12 +148,13 @@ closed_apart _ waits e = cc
 moves : (v : View) (e : Event) → WaitsForEnd v.state → Moves v e (after_event v e)
 moves v e waits = by_event (λ e w. Moves v e w) v (record {
   same = λ e stays. inl refl;
+  asks = λ e alive stays. inl refl;
   heard = λ s now lives stays. by (Still s now) (repeats_fin v s)
       (λ again. inr (inl (s, now, refl, in_time_wait s again, fin_again v s again)))
       (λ new. inl (same_moment v s now waits stays new));
   over = λ now ends stays. closed_apart v.state waits stays;
   given_up = λ now going expired stays. closed_apart v.state waits stays;
-  acts = λ now stays. inl (ap (λ (w : View). w.since) (timers_keep v now));
+  acts = λ now stays. inl (ap (λ (w : View). w.since) (timers_keep (after_silence v now) now));
   emits = λ now stays. inl (ap (λ (w : View). w.since) (emission_keeps v (first_due v) now));
   sends = λ octets taken now opened stays. inl refl;
   reads = λ len stays. inl refl;
@@ -212,8 +216,8 @@ none_come None now e = refl
 none_come (Some moment) now e = cc
 
 -- nothing is outstanding or unsent, so that no timer expires
-never_gives_up : (v : View) (now : Moment) → IsSound v → KeepsTime v → WaitsForEnd v.state → gives_up v now ≡ false
-never_gives_up v now sound keeps waits =
+never_expires : (v : View) (now : Moment) → IsSound v → KeepsTime v → WaitsForEnd v.state → expires_for_good v now ≡ false
+never_expires v now sound keeps waits =
     let p = plain v.state waits in
     let held : length v.sending.held ≤ 0 = subst (λ b. length v.sending.held ≤ (if b then 0 else v.sending.size)) (ap (λ b. b || is_write_finished v.state) p.0 ∙ p.2) sound.held in
     let flight : outstanding v.sending ≤ length v.sending.held + 0 = subst (λ b. outstanding v.sending ≤ length v.sending.held + (if b then 1 else 0)) p.3 sound.flight in
@@ -225,47 +229,68 @@ never_gives_up v now sound keeps waits =
     let resends : retransmits v ≡ false = ap (λ n. nat_lt 0 n && not (probes v)) none in
     ap₂ (λ a b. (a || b) && nat_le 12 v.resend.expiries) (none_come v.timers.retransmission now (keeps.retransmission ∙ resends)) (none_come v.timers.probe now (keeps.probe ∙ unprobed))
 
+never_gives_up : (v : View) (now : Moment) → IsSound v → KeepsTime v → WaitsForEnd v.state → is_silent_for_good v now ≡ false → gives_up v now ≡ false
+never_gives_up v now sound keeps waits asked = ap₂ (λ a b. a || b) (never_expires v now sound keeps waits) asked
+
+-- in TIME-WAIT nobody is asked
+asks_nobody : (v : View) (now : Moment) → v.state ≡ TimeWait → is_silent_for_good v now ≡ false
+asks_nobody v now waits = ap (λ b. b && nat_le 12 v.alive.unanswered) (busy v now (ap (λ t. may_rest t && (length v.sending.held == 0)) waits))
+
+-- .. and no silence ends it where no peer is asked, or it was fewer than twelve times
+pub asked_few : (v : View) (now : Moment) → IsPatient v → is_silent_for_good v now ≡ false
+asked_few v now patient = elim patient [
+  | inl none ↦ ap (λ b. b && nat_le 12 v.alive.unanswered) (by (is_silent v now ≡ false) (rests v)
+      (λ quiet. ap (λ b. has_come (if b then end_of_silence v.alive.every v.alive else None) now) quiet ∙ ap (λ o. has_come (end_of_silence o v.alive) now) none) (busy v now))
+  | inr few ↦ ap (λ b. is_silent v now && b) (lt-leb 12 v.alive.unanswered few) ∙ and_false (is_silent v now)
+]
+
 -- a tick before the end leaves the state and the error
 ticked_on : (v : View) (now : Moment) → is_at_end v now ≡ false → gives_up v now ≡ false → ((after_tick v now).state ≡ v.state) × ((after_tick v now).pending_error ≡ v.pending_error)
 ticked_on v now early lives =
     let P : View → Type 0 = λ w. (w.state ≡ v.state) × (w.pending_error ≡ v.pending_error) in
+    let quiet = after_silence v now in
     either View P (is_at_end v now) (after_stop v) _ (λ ends. clash (is_at_end v now) ends early)
     (λ waits. either View P (gives_up v now) (after_reset v (Some ETIMEDOUT)) _ (λ gives. clash (gives_up v now) gives lives)
-    (λ going. either View P (has_come (next_of v.timers) now) (clocked false (after_timers v now) now) v
-    (λ acts. (ap (λ (w : View). w.state) (timers_keep v now), ap (λ (w : View). w.pending_error) (timers_keep v now))) (λ rests. (refl, refl))))
+    (λ going. either View P (has_come (next_of v.timers) now) (clocked false (after_timers quiet now) now) quiet
+    (λ acts. (ap (λ (w : View). w.state) (timers_keep quiet now), ap (λ (w : View). w.pending_error) (timers_keep quiet now))) (λ rests. (refl, refl))))
 
 ended : (v : View) (now : Moment) → is_at_end v now ≡ true → after_tick v now ≡ after_stop v
-ended v now ends = ap (λ b. if b then after_stop v else if gives_up v now then after_reset v (Some ETIMEDOUT) else if has_come (next_of v.timers) now then clocked false (after_timers v now) now else v) ends
+ended v now ends = ap (λ b. if b then after_stop v else if gives_up v now then after_reset v (Some ETIMEDOUT) else after_expiries (after_silence v now) now) ends
 
 -- exactly at its end
-at_end : (v : View) (now : Moment) (end : ℕ) → IsSound v → KeepsTime v → WaitsForEnd v.state → is_at_end v now ≡ nat_le end now.0 → ((after_tick v now).state ≡ Closed) ↔ (end ≤ now.0)
-at_end v now end sound keeps waits is = (
+at_end : (v : View) (now : Moment) (end : ℕ) → WaitsForEnd v.state → gives_up v now ≡ false → is_at_end v now ≡ nat_le end now.0 → ((after_tick v now).state ≡ Closed) ↔ (end ≤ now.0)
+at_end v now end waits lives is = (
   (λ closed. elim (leb_tells end now.0) [
     | inl comes ↦ comes.1
-    | inr early ↦ closed_apart v.state waits (sym closed ∙ (ticked_on v now (is ∙ early.0) (never_gives_up v now sound keeps waits)).0)
+    | inr early ↦ closed_apart v.state waits (sym closed ∙ (ticked_on v now (is ∙ early.0) lives).0)
   ]),
   (λ comes. ap (λ (w : View). w.state) (ended v now (is ∙ le-leb end now.0 comes))),
 )
 
 pub time_wait_ends : (v : View) (now : Moment) → IsSound v → KeepsTime v → v.state ≡ TimeWait → ((after_event v (Ticks now)).state ≡ Closed) ↔ ((after v.since 240000).0 ≤ now.0)
-time_wait_ends v now sound keeps waits = at_end v now (min (v.since.0 + 240000) (2 ^ 64 - 1)) sound keeps (inl waits) (ap (λ t. has_come (end_of_wait t v.released v.since) now) waits)
+time_wait_ends v now sound keeps waits = at_end v now (min (v.since.0 + 240000) (2 ^ 64 - 1)) (inl waits) (never_gives_up v now sound keeps (inl waits) (asks_nobody v now waits)) (ap (λ t. has_come (end_of_wait t v.released v.since) now) waits)
 
-pub fin_wait_2_ends : (v : View) (now : Moment) → IsSound v → KeepsTime v → v.state ≡ FinWait2 → v.released ≡ true → ((after_event v (Ticks now)).state ≡ Closed) ↔ ((after v.since 60000).0 ≤ now.0)
-fin_wait_2_ends v now sound keeps half left = at_end v now (min (v.since.0 + 60000) (2 ^ 64 - 1)) sound keeps (inr half) (ap₂ (λ t b. has_come (end_of_wait t b v.since) now) half left)
+pub fin_wait_2_ends : (v : View) (now : Moment) → IsSound v → KeepsTime v → v.state ≡ FinWait2 → v.released ≡ true → IsPatient v
+    → ((after_event v (Ticks now)).state ≡ Closed) ↔ ((after v.since 60000).0 ≤ now.0)
+fin_wait_2_ends v now sound keeps half left few = at_end v now (min (v.since.0 + 60000) (2 ^ 64 - 1)) (inr half) (never_gives_up v now sound keeps (inr half) (asked_few v now few)) (ap₂ (λ t b. has_come (end_of_wait t b v.since) now) half left)
 
-pub fin_wait_2_goes_on : (v : View) (now : Moment) → IsSound v → KeepsTime v → v.state ≡ FinWait2 → v.released ≡ false → (after_event v (Ticks now)).state ≡ FinWait2
-fin_wait_2_goes_on v now sound keeps half reads =
-    (ticked_on v now (ap₂ (λ t b. has_come (end_of_wait t b v.since) now) half reads) (never_gives_up v now sound keeps (inr half))).0 ∙ half
+pub fin_wait_2_goes_on : (v : View) (now : Moment) → IsSound v → KeepsTime v → v.state ≡ FinWait2 → v.released ≡ false → IsPatient v → (after_event v (Ticks now)).state ≡ FinWait2
+fin_wait_2_goes_on v now sound keeps half reads few =
+    (ticked_on v now (ap₂ (λ t b. has_come (end_of_wait t b v.since) now) half reads) (never_gives_up v now sound keeps (inr half) (asked_few v now few))).0 ∙ half
 
-pub ends_in_silence : (v : View) (now : Moment) → IsSound v → KeepsTime v → WaitsForEnd v.state → (after_event v (Ticks now)).pending_error ≡ None
-ends_in_silence v now sound keeps waits =
+pub ends_in_silence : (v : View) (now : Moment) → IsSound v → KeepsTime v → WaitsForEnd v.state → IsPatient v → (after_event v (Ticks now)).pending_error ≡ None
+ends_in_silence v now sound keeps waits few =
     let none = none_pending v.pending_error (is_closed v.state) (open_still v.state waits) sound.error in
     by ((after_tick v now).pending_error ≡ None) (is_at_end v now)
     (λ ends. ap (λ (w : View). w.pending_error) (ended v now ends) ∙ none)
-    (λ early. (ticked_on v now early (never_gives_up v now sound keeps waits)).1 ∙ none)
+    (λ early. (ticked_on v now early (never_gives_up v now sound keeps waits (asked_few v now few))).1 ∙ none)
 
 pub left_is_removed : (v : View) (now : Moment) → IsSound v → KeepsTime v → WaitsForEnd v.state → v.released ≡ true → (after_event v (Ticks now)).state ≡ Closed → fate_by v (Ticks now) ≡ Removed
 left_is_removed v now sound keeps waits left closed =
     by (fate_by v (Ticks now) ≡ Removed) (is_at_end v now)
     (λ ends. ap (λ b. if b then (if v.released then Removed else Stays) else if gives_up v now then (if v.released || (v.passive && is_syn_received v.state) then Removed else Stays) else Stays) ends ∙ ap (λ b. if b then Removed else Stays) left)
-    (λ early. closed_apart v.state waits (sym closed ∙ (ticked_on v now early (never_gives_up v now sound keeps waits)).0))
+    (λ early. by (fate_by v (Ticks now) ≡ Removed) (gives_up v now)
+    (λ gives.
+    ap (λ b. if b then (if v.released then Removed else Stays) else if gives_up v now then (if v.released || (v.passive && is_syn_received v.state) then Removed else Stays) else Stays) early
+    ∙ (ap (λ b. if b then (if v.released || (v.passive && is_syn_received v.state) then Removed else Stays) else Stays) gives ∙ ap (λ b. if b || (v.passive && is_syn_received v.state) then Removed else Stays) left))
+    (λ lives. closed_apart v.state waits (sym closed ∙ (ticked_on v now early lives).0)))

@@ -25,6 +25,7 @@ use Rattle.stream_buf.specs.Receiving.{ranges}
 use Rattle.tcp_segment.specs.Wire.{past}
 use Rattle.tcp_state.specs.declared.arrival.Before.{Before}
 use Rattle.tcp_state.specs.Calls.{aborted}
+use Rattle.tcp_state.specs.Alive.{heard_now}
 
 abbrev pub owing_ack : View → View
 owing_ack v = record v { owes_ack = true }
@@ -310,7 +311,7 @@ congestion_after b w = after_signal w.congestion (congestion_event_of b w) w.sen
 
 -- what the clock makes of the connection once a segment was heard
 abbrev pub timed_by : Before → View → Moment → View
-timed_by b w now = clocked (is_moved b w) (record w { since = since_after b w now; resend = resend_after b w now; congestion = congestion_after b w }) now
+timed_by b w now = clocked (is_moved b w) (record w { since = since_after b w now; resend = resend_after b w now; congestion = congestion_after b w; alive = heard_now w.alive now }) now
 
 -- a segment that is rejected, or comes to what is CLOSED, changes nothing
 abbrev pub after_segment_at : View → Segment → Moment → View

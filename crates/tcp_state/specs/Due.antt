@@ -6,7 +6,7 @@ use Rattle.tcp_segment.specs.declared.flags.Flags.{Flags}
 use Rattle.tcp_segment.specs.declared.head.Head.{Head}
 use Rattle.tcp_segment.specs.Sent.{sent_offset, sent_octets}
 use Rattle.tcp_state.specs.declared.emission.Due.{Due}
-use Rattle.tcp_state.specs.declared.emission.Due.TheVariants.{Rst, Syn, Text, Probe, Ack}
+use Rattle.tcp_state.specs.declared.emission.Due.TheVariants.{Rst, Syn, Text, Probe, Ack, KeepAlive}
 use Rattle.tcp_state.specs.declared.emission.Stretch.{Stretch}
 use Rattle.clock.specs.declared.moment.Moment.{Moment}
 use Rattle.tcp_state.specs.Resend.{resend_again, resend_sent, resend_probed, resend_syn_again}
@@ -16,6 +16,7 @@ use Rattle.tcp_halves.specs.Windows.{hears_next, open_window, next_count, has_gr
 use Rattle.tcp_state.specs.View.{View, is_opening, is_syn_sent, is_syn_received, is_closed, awaits_fin_ack}
 use Rattle.tcp_state.specs.New.{sends_new, takes_fin, sends_fin}
 use Rattle.tcp_state.specs.Timing.{probes, clocked}
+use Rattle.tcp_state.specs.Alive.{may_rest, is_alive_due}
 
 -- The segment that goes out for each thing that may be due.
 
@@ -49,11 +50,16 @@ flags_of v Syn = record { fin = false; syn = true; rst = false; psh = false; ack
 flags_of v (Text stretch) = flags_of_stretch v stretch
 flags_of v Probe = flags_of_stretch v (probe_stretch v)
 flags_of v Ack = record { fin = false; syn = false; rst = false; psh = false; ack = true; urg = false }
+flags_of v KeepAlive = record { fin = false; syn = false; rst = false; psh = false; ack = true; urg = false }
 
 -- The number of an acknowledgement alone: SND.NXT, as far as the peer hears that; or where a probe brought numbers past its window, the end of that window, since it hears nothing from
 -- further on (sections 3.8.6.1 and 3.10.7.4, RFC 7323 section 2.4). While the connection opens no window bounds it.
 abbrev pub ack_number : View → ℕ
 ack_number v = if is_opening v.state || hears_next v.sending then v.sending.nxt else (v.sending.una + v.sending.window) % 2 ^ 32
+
+-- The number before another: a probe of a silent peer has that before SND.NXT, which its window doesn't have any more, so that it answers (section 3.8.4).
+abbrev pub number_before : ℕ → ℕ
+number_before number = (number + (2 ^ 32 - 1)) % 2 ^ 32
 
 abbrev pub number_of : View → Due → ℕ
 number_of v Rst = v.sending.nxt
@@ -61,6 +67,7 @@ number_of v Syn = v.sending.una
 number_of v (Text stretch) = (v.sending.una + stretch.offset) % 2 ^ 32
 number_of v Probe = v.sending.una
 number_of v Ack = ack_number v
+number_of v KeepAlive = number_before v.sending.nxt
 
 abbrev pub octets_of_stretch : View → Stretch → List ℕ
 octets_of_stretch v stretch = take stretch.count (drop stretch.offset v.sending.held)
@@ -105,6 +112,7 @@ sends_again v Syn = nat_lt 0 (outstanding v.sending)
 sends_again v (Text stretch) = nat_lt stretch.offset (outstanding v.sending)
 sends_again v Probe = true
 sends_again v Ack = false
+sends_again v KeepAlive = false
 
 -- What it makes of the connection.
 
@@ -119,6 +127,10 @@ after_syn_ack_paid v = record v { receiving = after_syn_advertisement v.receivin
 -- a segment with ACK and without SYN went out: from then on the connection has spoken
 abbrev pub after_speaking : View → View
 after_speaking v = record (after_ack_paid v) { spoke = true }
+
+-- .. and so it has where the probe of a silent peer did, which isn't told by it what is acknowledged: no acknowledgement is paid by one
+abbrev pub after_asking : View → View
+after_asking v = record v { receiving = after_advertisement v.receiving; spoke = true; alive = record v.alive { owed = false } }
 
 -- so many numbers from SND.UNA on went out before, in part at least: once more
 abbrev pub after_resent : View → ℕ → View
@@ -178,12 +190,13 @@ after_going_out v Syn now = if is_syn_received v.state then after_syn_ack_paid (
 after_going_out v (Text stretch) now = after_speaking (after_stretch v stretch now)
 after_going_out v Probe now = after_speaking (after_probe v)
 after_going_out v Ack now = after_speaking v
+after_going_out v KeepAlive now = after_asking v
 
 abbrev pub after_emitted : View → Due → Moment → View
 after_emitted v due now = clocked false (after_going_out v due now) now
 
 -- Which segments may go out: the reset of an abort, the SYN while the connection opens, a stretch of the octets that are held and of the FIN behind them, at most as
--- many octets as one segment has room for, and an acknowledgement once the peer's SYN came, until all is closed.
+-- many octets as one segment has room for, an acknowledgement once the peer's SYN came, until all is closed, and a probe of a silent peer while that may be waited for.
 pub record IsHeld (v : View) (stretch : Stretch) : Type 0 where
   pub opened : is_opening v.state ≡ false
   pub joined : stretch.offset ≤ outstanding v.sending
@@ -198,6 +211,7 @@ MayGoOut v Syn = is_opening v.state ≡ true
 MayGoOut v (Text stretch) = IsHeld v stretch
 MayGoOut v Probe = IsHeld v (probe_stretch v)
 MayGoOut v Ack = (is_syn_sent v.state || is_closed v.state) ≡ false
+MayGoOut v KeepAlive = may_rest v.state ≡ true
 
 -- Which of them goes out first.
 
@@ -206,8 +220,9 @@ MayGoOut v Ack = (is_syn_sent v.state || is_closed v.state) ≡ false
 abbrev pub is_ack_due : View → Bool
 is_ack_due v = v.owes_ack || (not (is_opening v.state) && not (is_closed v.state) && v.spoke && has_grown v.receiving)
 
+-- an acknowledgement alone, or else a probe of a silent peer
 abbrev pub ack_due : View → Option Due
-ack_due v = if is_ack_due v then Some Ack else None
+ack_due v = if is_ack_due v then Some Ack else if is_alive_due v then Some KeepAlive else None
 
 -- What is outstanding from a mark on, once more: one segment's octets, with the FIN where it follows them and has gone out.
 abbrev pub again : View → ℕ → Stretch

@@ -16,6 +16,7 @@ use Rattle.tcp_state.specs.declared.calls.Refusal.TheVariants.{ECONNREFUSED, ECO
 use Rattle.tcp_halves.specs.Stream.{outstanding, is_new_ack}
 use Rattle.tcp_state.specs.View.{View, is_syn_sent, is_syn_received, is_closed, is_at_end, is_over}
 use Rattle.tcp_state.specs.Timing.{gives_up, after_tick, tick_fate}
+use Rattle.tcp_state.specs.Alive.{after_set_keepalive}
 use Rattle.tcp_state.specs.Hop.{unheard_until, after_hopless, hopless_fate}
 use Rattle.tcp_state.specs.Calls.{after_send, after_recv, shutdown_refusal, after_shutdown, after_set_nodelay, after_abort, abort_fate, is_removed_by_close, is_aborted_by_close, after_close, close_fate}
 use Rattle.tcp_state.specs.Arrival.{reset_error, is_acting_reset, ends_by_reset, ends_by_syn, is_of_fin, is_lost, is_read, is_rejected, before, after_heard, congestion_event_of, after_segment_at, fate}
@@ -66,6 +67,7 @@ pub data Event : Type 0 where
   Receives : ℕ → Event
   Shuts : Moment → Event
   SetsNoDelay : Bool → Moment → Event
+  SetsKeepAlive : Option ℕ → Moment → Event
   Closes : Moment → Event
   Aborts : Moment → Event
   Unreachable : ℕ → Event
@@ -79,6 +81,7 @@ moment_of (Emits now) = Some now
 moment_of (Sends octets now) = Some now
 moment_of (Shuts now) = Some now
 moment_of (SetsNoDelay on now) = Some now
+moment_of (SetsKeepAlive every now) = Some now
 moment_of (Closes now) = Some now
 moment_of (Aborts now) = Some now
 moment_of (LosesHop now) = Some now
@@ -98,6 +101,7 @@ after_event v (Sends octets now) = after_send v octets now
 after_event v (Receives len) = after_recv v len
 after_event v (Shuts now) = if is_some (shutdown_refusal v) then v else after_shutdown v now
 after_event v (SetsNoDelay on now) = after_set_nodelay v on now
+after_event v (SetsKeepAlive every now) = after_set_keepalive v every now
 after_event v (Closes now) = after_close v now
 after_event v (Aborts now) = after_abort v now
 after_event v (Unreachable number) = after_unreachable v number
@@ -125,6 +129,7 @@ fate_by v (Sends octets now) = Stays
 fate_by v (Receives len) = Stays
 fate_by v (Shuts now) = Stays
 fate_by v (SetsNoDelay on now) = Stays
+fate_by v (SetsKeepAlive every now) = Stays
 fate_by v (Closes now) = close_fate v
 fate_by v (Aborts now) = abort_fate v
 fate_by v (Unreachable number) = unreachable_fate v number
@@ -156,7 +161,7 @@ abbrev pub ends_by_ack : View → Segment → Bool
 ends_by_ack v s = is_last_ack v.state && is_read v s && is_new_ack v.sending s.acknowledgement && is_of_fin v s.acknowledgement
 
 -- What ends a connection: a `close` that takes it out or aborts it, and an abort; a reset that acts, a SYN before it is established,
--- octets after its caller closed it, or the acknowledgement of our FIN in LAST-ACK; the clock at the end of its wait, or at the thirteenth expiry without progress; the going out of
+-- octets after its caller closed it, or the acknowledgement of our FIN in LAST-ACK; the clock at the end of its wait, or at the thirteenth expiry without progress or silence without an answer; the going out of
 -- the reset of an abort; an error that tells that its SYN can't be delivered; and the clock, where what takes numbers waited for a hop as long as it may.
 abbrev pub is_cause : View → Event → Bool
 is_cause v (Closes now) = is_removed_by_close v || is_aborted_by_close v
@@ -168,6 +173,7 @@ is_cause v (Sends octets now) = false
 is_cause v (Receives len) = false
 is_cause v (Shuts now) = false
 is_cause v (SetsNoDelay on now) = false
+is_cause v (SetsKeepAlive every now) = false
 is_cause v (Unreachable number) = is_unreachable v number
 is_cause v (LosesHop now) = has_come (unheard_until v) now
 
@@ -200,6 +206,7 @@ may_raise v (Sends octets now) error = false
 may_raise v (Receives len) error = false
 may_raise v (Shuts now) error = false
 may_raise v (SetsNoDelay on now) error = false
+may_raise v (SetsKeepAlive every now) error = false
 may_raise v (Closes now) error = false
 may_raise v (Aborts now) error = false
 may_raise v (Unreachable number) error = is_unreachable v number && is_error_of v.state error

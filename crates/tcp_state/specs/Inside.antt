@@ -24,4 +24,5 @@ view_of c = record {
   unheard = c.unheard;
   nodelay = c.is_undelayed;
   minshall = c.minshall;
+  alive = c.alive;
 }

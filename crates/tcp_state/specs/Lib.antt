@@ -5,6 +5,7 @@ pub use Rattle.tcp_halves.specs.Windows
 pub mod Resend
 pub mod ResendInside
 pub mod View
+pub mod Alive
 pub mod Congestion
 pub mod New
 pub mod Timing

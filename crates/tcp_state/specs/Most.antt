@@ -16,6 +16,6 @@ left_from (Some mark) most = most - mark
 abbrev pub numbers_left : View → ℕ
 numbers_left v = (most_outstanding v - outstanding v.sending) + left_from v.resend.mark (most_outstanding v) + one_if v.resend.owes_probe
 
--- a segment each at most, with the reset and the acknowledgement that are owed, and the window that has grown
+-- a segment each at most, with the reset, the acknowledgement and the probe of a silent peer that are owed, and the window that has grown
 abbrev pub most_due : View → ℕ
-most_due v = one_if v.owes_reset + numbers_left v + one_if (is_ack_due v)
+most_due v = one_if v.owes_reset + numbers_left v + one_if (is_ack_due v) + one_if v.alive.owed

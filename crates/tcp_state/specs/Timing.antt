@@ -15,6 +15,7 @@ use Rattle.tcp_halves.specs.Stream.{outstanding}
 use Rattle.tcp_halves.specs.Windows.{waits_for_more}
 use Rattle.tcp_state.specs.New.{waits_no_longer, sends_new, sends_fin}
 use Rattle.tcp_state.specs.View.{View, is_opening, is_syn_received, is_closed, awaits_fin_ack, ends_at, is_at_end, after_stop, after_reset}
+use Rattle.tcp_state.specs.Alive.{alive_at, is_silent, after_silence}
 
 -- When each timer runs.
 
@@ -107,8 +108,15 @@ abbrev pub expires : View → Moment → Bool
 expires v now = has_come v.timers.retransmission now || has_come v.timers.probe now
 
 -- it expired as often as it may without progress: the next expiry ends the connection (RFC 9293 section 3.8.3)
+abbrev pub expires_for_good : View → Moment → Bool
+expires_for_good v now = expires v now && nat_le MOST_EXPIRIES v.resend.expiries
+
+-- and so does the next silence of a peer that was asked as often as that (section 3.8.4)
+abbrev pub is_silent_for_good : View → Moment → Bool
+is_silent_for_good v now = is_silent v now && nat_le MOST_EXPIRIES v.alive.unanswered
+
 abbrev pub gives_up : View → Moment → Bool
-gives_up v now = expires v now && nat_le MOST_EXPIRIES v.resend.expiries
+gives_up v now = expires_for_good v now || is_silent_for_good v now
 
 -- what is outstanding counts as lost, and the congestion window begins again with one segment (RFC 5681 section 3.1)
 abbrev pub retransmission_expired : View → View
@@ -138,17 +146,20 @@ override_expired v now =
 abbrev pub after_timers : View → Moment → View
 after_timers v now = override_expired (delayed_ack_expired (after_expiry v now) now) now
 
--- a tick ends the connection whose wait is over, and tells nobody, and the one that is given up; else it lets the timers act that have come
+-- the timers act that have come
+abbrev pub after_expiries : View → Moment → View
+after_expiries v now = if has_come (next_of v.timers) now then clocked false (after_timers v now) now else v
+
+-- A tick ends the connection whose wait is over, and tells nobody, and the one that is given up; else it asks a peer that said nothing for too long, and lets the timers act that have come.
 abbrev pub after_tick : View → Moment → View
 after_tick v now =
     if is_at_end v now then after_stop v
     else if gives_up v now then after_reset v (Some ETIMEDOUT)
-    else if has_come (next_of v.timers) now then clocked false (after_timers v now) now
-    else v
+    else after_expiries (after_silence v now) now
 
--- what a timer that acted left to be done: something goes out again, a probe or an acknowledgement goes out, or new octets wait no longer
+-- what a tick left to be done: something goes out again, a probe or an acknowledgement goes out, or new octets wait no longer
 abbrev pub wants_out : View → Bool
-wants_out v = is_some v.resend.mark || v.resend.owes_probe || v.owes_ack || v.resend.overridden
+wants_out v = is_some v.resend.mark || v.resend.owes_probe || v.owes_ack || v.resend.overridden || v.alive.owed
 
 -- taken out is what its caller closed, and what a listener opened and is not established
 abbrev pub tick_fate : View → Moment → Fate
@@ -159,4 +170,4 @@ tick_fate v now =
 
 -- the moment at which a tick does something
 abbrev pub deadline : View → Option Moment
-deadline v = sooner (next_of v.timers) (ends_at v)
+deadline v = sooner (sooner (next_of v.timers) (ends_at v)) (alive_at v)

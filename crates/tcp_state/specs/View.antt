@@ -7,6 +7,7 @@ use Rattle.tcp_state.specs.declared.state.State.{State}
 use Rattle.tcp_state.specs.declared.state.State.TheVariants.{Closed, Listen, SynSent, SynReceived, FinWait1, FinWait2, CloseWait, Closing, LastAck, TimeWait}
 use Rattle.tcp_state.specs.declared.ending.TheConstants.{TIME_WAIT, FIN_WAIT_2}
 use Rattle.clock.specs.declared.moment.Moment.{Moment}
+use Rattle.tcp_state.specs.declared.alive.KeepAlive.{KeepAlive}
 use Rattle.clock.specs.Moments.{after, has_come}
 use Rattle.tcp_state.specs.declared.calls.Refusal.{Refusal}
 use Rattle.retransmit.specs.declared.timers.Timers.{Timers}
@@ -54,6 +55,8 @@ pub record View : Type 0 where
   pub nodelay : Bool
   -- they wait for small ones only, and the FIN goes with the last octets (Minshall, RFC 9293 appendix A.3)
   pub minshall : Bool
+  -- what is known of a peer that says nothing
+  pub alive : KeepAlive
 
 -- SYN-SENT or SYN-RECEIVED
 abbrev pub is_opening : State → Bool
@@ -179,6 +182,7 @@ opened_actively room local peer isn now = record {
   unheard = Some now;
   nodelay = false;
   minshall = room.manner.minshall;
+  alive = record { every = None; since = record { 0 = 0 }; wait = 0; unanswered = 0; owed = false };
 }
 
 -- a SYN, or the FIN of a closed side behind all octets, may be outstanding

@@ -112,6 +112,7 @@ impl Connection {
         if before.starts_wait(self.state, self.owes_reset) {
             self.since = now;
         }
+        self.note_peer(now);
         self.update_timers(moved, now);
     }
 

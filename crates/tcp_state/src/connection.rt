@@ -4,6 +4,7 @@ ghost use Rattle.std.specs.Prelude.{◌≡◌};
 ghost use Rattle.tcp_state.specs.View.{View, IsSound, opened_actively, is_over, reset_since};
 ghost use Rattle.tcp_state.specs.Arrival.{opened_passively};
 
+use crate::alive::KeepAlive;
 use crate::calls::Refusal;
 use crate::resend::Resend;
 use crate::state::State;
@@ -71,6 +72,8 @@ pub struct Connection {
     pub(crate) is_undelayed: bool,
     /// Whether they wait for small ones only, and the FIN goes with the last octets (Minshall, RFC 9293 appendix A.3).
     pub(crate) minshall: bool,
+    /// What is known of a peer that says nothing.
+    pub(crate) alive: KeepAlive,
 }
 
 impl Model for Connection {
@@ -119,6 +122,7 @@ impl Connection {
             unheard: Some(now),
             is_undelayed: false,
             minshall: manner.minshall,
+            alive: KeepAlive::asked(None, Moment(0)),
         }
     }
 

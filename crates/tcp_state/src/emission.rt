@@ -4,10 +4,11 @@ ghost use Rattle.std.specs.Prelude.{◌≡◌, ◌+◌, ◌<◌, ◌≤◌, ◌+
 ghost use Rattle.inet_sum.specs.Sum.{sum_of};
 ghost use Rattle.tcp_state.specs.View.{is_opening, is_syn_sent, most_outstanding};
 ghost use Rattle.tcp_halves.specs.Stream.{outstanding};
+ghost use Rattle.tcp_halves.specs.Windows.{after_advertisement};
 ghost use Rattle.tcp_segment.specs.declared.TheConstants.{MSS};
 ghost use Rattle.tcp_state.specs.New.{takes_last, passes_full, waits_no_longer, sends_new, takes_fin, sends_fin};
 ghost use Rattle.tcp_state.specs.Timing.{probes};
-ghost use Rattle.tcp_state.specs.Due.{MayGoOut, IsHeld, first_due, ack_due, again, goes_again, again_from, new_octets, fin_alone, new_due, probe_stretch, numbers_of, end_of, flags_of, flags_of_stretch, ack_number, number_of, octets_of, window_of, head_of, segment_octets, emitted_len, after_emitted, after_going_out, after_ack_paid, after_syn_ack_paid, after_speaking, after_numbers, after_resent, after_first_sent, after_new_octets, small_with, brings_new_octets, after_stretch, after_probe, after_syn_out};
+ghost use Rattle.tcp_state.specs.Due.{MayGoOut, IsHeld, first_due, ack_due, again, goes_again, again_from, new_octets, fin_alone, new_due, probe_stretch, numbers_of, end_of, flags_of, flags_of_stretch, ack_number, number_of, octets_of, window_of, head_of, segment_octets, emitted_len, after_emitted, after_going_out, after_syn_ack_paid, after_speaking, after_asking, after_numbers, after_resent, after_first_sent, after_new_octets, small_with, brings_new_octets, after_stretch, after_probe, after_syn_out};
 
 use crate::connection::Connection;
 use crate::state::State;
@@ -32,6 +33,8 @@ pub enum Due {
     Probe,
     /// An acknowledgement alone.
     Ack,
+    /// A probe of a peer that says nothing: an acknowledgement at the number before SND.NXT, which the peer answers.
+    KeepAlive,
 }
 
 /// A stretch of the octets that are held and of the FIN behind them.
@@ -85,7 +88,8 @@ impl Connection {
         self.ack_due()
     }
 
-    /// An acknowledgement alone, where one is owed, or where the window to advertise has grown by enough and the connection has spoken.
+    /// An acknowledgement alone, where one is owed, or where the window to advertise has grown by enough and the connection has spoken; or
+    /// else a probe of a silent peer.
     fn ack_due(&self) -> Option<Due>
         ensures first { result ≡ ack_due self.now }
         ensures may { IfSome result (MayGoOut self.now) }
@@ -94,7 +98,10 @@ impl Connection {
             && self.state != State::Closed
             && self.has_spoken
             && self.receiver.has_grown();
-        (self.owes_ack || advertises_window).then_some(Due::Ack)
+        if self.owes_ack || advertises_window {
+            return Some(Due::Ack);
+        }
+        self.is_alive_due().then_some(Due::KeepAlive)
     }
 
     /// What goes out again from the resend mark on, within both windows.
@@ -296,7 +303,7 @@ impl Connection {
         match due {
             Due::Text(stretch) => stretch.count,
             Due::Probe => self.probe_stretch().count,
-            Due::Rst | Due::Syn | Due::Ack => 0,
+            Due::Rst | Due::Syn | Due::Ack | Due::KeepAlive => 0,
         }
     }
 
@@ -310,7 +317,7 @@ impl Connection {
         match due {
             Due::Text(stretch) => self.sender.copy_at(stretch.offset, out),
             Due::Probe => self.sender.copy_at(0, out),
-            Due::Rst | Due::Syn | Due::Ack => 0,
+            Due::Rst | Due::Syn | Due::Ack | Due::KeepAlive => 0,
         }
     }
 
@@ -345,6 +352,7 @@ impl Connection {
             Due::Text(stretch) => self.sender.una() + stretch.offset as u32,
             Due::Rst => self.sender.nxt(),
             Due::Ack => self.ack_number(),
+            Due::KeepAlive => self.sender.nxt() + u32::MAX,
         }
     }
 
@@ -366,7 +374,7 @@ impl Connection {
         match due {
             Due::Rst => 0,
             Due::Syn => self.receiver.next_syn_window(),
-            Due::Text(_) | Due::Probe | Due::Ack => self.receiver.next_window(),
+            Due::Text(_) | Due::Probe | Due::Ack | Due::KeepAlive => self.receiver.next_window(),
         }
     }
 
@@ -384,7 +392,7 @@ impl Connection {
             }
             Due::Text(stretch) => return self.flags_of(stretch),
             Due::Probe => return self.flags_of(self.probe_stretch()),
-            Due::Ack => flags.ack = true,
+            Due::Ack | Due::KeepAlive => flags.ack = true,
         }
         flags
     }
@@ -423,6 +431,7 @@ impl Connection {
                 self.speak();
             }
             Due::Ack => self.speak(),
+            Due::KeepAlive => self.ask_peer(),
         }
     }
 
@@ -519,13 +528,13 @@ impl Connection {
         }
     }
 
-    /// An acknowledgement went out, and advertised the window.
-    fn pay_ack(&mut self)
+    /// A segment with ACK and without SYN went out, and advertised the window.
+    fn tell_window(&mut self)
         requires { is_syn_sent self.old.state ≡ false }
-        ensures { self.new ≡ after_ack_paid self.old }
+        ensures { self.new ≡ record self.old { receiving = after_advertisement self.old.receiving; spoke = true } }
     {
         self.receiver.advertise();
-        self.owe_no_ack();
+        self.has_spoken = true;
     }
 
     /// A SYN-ACK went out, and advertised its window.
@@ -545,12 +554,21 @@ impl Connection {
         self.delays_ack = false;
     }
 
+    /// A probe of a silent peer went out, and told the window. It pays no acknowledgement: the peer's window has its number no more.
+    fn ask_peer(&mut self)
+        requires { is_syn_sent self.old.state ≡ false }
+        ensures { self.new ≡ after_asking self.old }
+    {
+        self.tell_window();
+        self.alive.owed = false;
+    }
+
     /// A segment with ACK and without SYN went out.
     fn speak(&mut self)
         requires { is_syn_sent self.old.state ≡ false }
         ensures { self.new ≡ after_speaking self.old }
     {
-        self.pay_ack();
-        self.has_spoken = true;
+        self.tell_window();
+        self.owe_no_ack();
     }
 }

@@ -1,9 +1,9 @@
 //! How a connection ends: at the end of its wait, by an error, by an abort, and after its caller closed it (RFC 9293 sections 3.6, 3.9.2.2, 3.10.4 and 3.10.5).
 
 ghost use Rattle.std.specs.Prelude.{◌≡◌, ◌&&◌, ◌||◌, ◌==◌, false, length, if◌then◌else◌};
-ghost use Rattle.tcp_state.specs.View.{is_opening, ends_at, is_at_end, after_stop, after_reset};
+ghost use Rattle.tcp_state.specs.View.{is_opening, is_fin_wait_2, ends_at, is_at_end, after_stop, after_reset};
 ghost use Rattle.tcp_state.specs.Unreachable.{is_unreachable, after_unreachable, unreachable_fate};
-ghost use Rattle.tcp_state.specs.Calls.{aborted, aborted_at, after_abort, abort_fate, after_release, after_close, close_fate};
+ghost use Rattle.tcp_state.specs.Calls.{aborted, aborted_at, after_abort, abort_fate, latest, after_release, after_close, close_fate};
 
 use crate::calls::Refusal;
 use crate::connection::{Connection, Fate};
@@ -153,11 +153,20 @@ impl Connection {
         requires { is_opening self.old.state ≡ false }
         ensures { self.new ≡ after_release self.old now }
     {
-        if self.state == State::FinWait2 && self.since < now {
-            self.since = now;
-        }
+        self.since = self.since_left(now);
         self.state = self.state.beyond_shutdown();
         self.is_released = true;
         self.update_timers(false, now);
+    }
+
+    /// From when a wait is counted where its caller leaves the connection at this moment: in FIN-WAIT-2 from then on at the earliest.
+    fn since_left(&self, now: Moment) -> Moment
+        ensures { result ≡ (if is_fin_wait_2 self.now.state then latest self.now.since now else self.now.since) }
+    {
+        if self.state == State::FinWait2 && self.since < now {
+            now
+        } else {
+            self.since
+        }
     }
 }

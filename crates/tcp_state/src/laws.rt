@@ -28,6 +28,7 @@ ghost use Rattle.retransmit.specs.Deadlines.{deadline_of};
 ghost use Rattle.tcp_state.specs.declared.resend.Timed.{Timed};
 ghost use Rattle.tcp_state.specs.declared.emission.Stretch.{Stretch};
 ghost use Rattle.tcp_state.specs.New.{passes_full, takes_fin};
+ghost use Rattle.tcp_state.specs.Alive.{is_silent};
 ghost use Rattle.tcp_state.specs.Timing.{KeepsTime, probes, awaits_more, expires, wants_out, after_tick, deadline};
 ghost use Rattle.congestion.specs.Window.{is_recovering, third_is_next};
 ghost use Rattle.tcp_state.specs.Congestion.{KeepsCongestion, after_signal};
@@ -122,7 +123,7 @@ pub fn errors_stay()
     ensures { (v : View) (e : Event) → IsSound v → KeepsTime v → is_some v.pending_error ≡ true → (after_event v e).pending_error ≡ v.pending_error }
 {}
 
-/// Where the clock has not come to a connection's deadline, a tick changes nothing; where it has, something goes out again, a probe or an acknowledgement is due, new octets
+/// Where the clock has not come to a connection's deadline, a tick changes nothing; where it has, something goes out again, a probe, also one of a silent peer, or an acknowledgement is due, new octets
 /// wait no longer, or the connection is CLOSED.
 pub fn deadlines_are_exact()
     ensures waits { (v : View) (now : Moment) → has_come (deadline v) now ≡ false → after_tick v now ≡ v }
@@ -168,14 +169,14 @@ pub fn released_takes_no_octets()
 {}
 
 /// Which segments are acceptable, by positions (RFC 9293 section 3.10.7.4, first): of those that take numbers the ones that meet the window advertised, from RCV.NXT
-/// up to its edge; of the others those at RCV.NXT and those in the window. What is not acceptable changes at most that an acknowledgement is owed, so that none is delayed, and the wait of TIME-WAIT.
+/// up to its edge; of the others those at RCV.NXT and those in the window. What is not acceptable changes at most that an acknowledgement is owed, so that none is delayed, the wait of TIME-WAIT, and when the peer was last heard.
 pub fn acceptable_segments_meet_the_window()
     ensures filled { (initial next edge first : ℕ) (v : View) (s : Segment) → ReceivesAt initial next edge v.receiving → s.number ≡ wire initial first → IsNear next first (span_of s)
         → 0 < span_of s → (is_acceptable_to v s ≡ true) ↔ MeetsWindow next edge first (span_of s) }
     ensures empty { (initial next edge first : ℕ) (v : View) (s : Segment) → ReceivesAt initial next edge v.receiving → s.number ≡ wire initial first → IsNear next first 0
         → span_of s ≡ 0 → (is_acceptable_to v s ≡ true) ↔ ((first ≡ next) ⊎ ((next ≤ first) × (first < edge))) }
     ensures others { (v : View) (s : Segment) (now : Moment) → KeepsTime v → is_syn_sent v.state ≡ false → is_acceptable_to v s ≡ false
-        → after_segment_at v s now ≡ record v { owes_ack = (after_segment_at v s now).owes_ack; since = (after_segment_at v s now).since; timers = record v.timers { delayed_ack = (after_segment_at v s now).timers.delayed_ack } } }
+        → after_segment_at v s now ≡ record v { owes_ack = (after_segment_at v s now).owes_ack; since = (after_segment_at v s now).since; timers = record v.timers { delayed_ack = (after_segment_at v s now).timers.delayed_ack }; alive = (after_segment_at v s now).alive } }
 {}
 
 /// What the octets of a segment make known, by positions (RFC 9293 section 3.10.7.4, seventh): of each position from RCV.NXT on the segment's octet, where it has one that lies before the
@@ -204,7 +205,8 @@ pub fn octets_in_the_window_are_taken()
 {}
 
 /// A reset acts only in SYN-SENT where it acknowledges all that was sent, and later only at RCV.NXT exactly, where one without octets always acts; any
-/// other changes at most that an acknowledgement is owed, so that none is delayed (RFC 9293 sections 3.10.7.3, second, and 3.10.7.4, second).
+/// other changes at most that an acknowledgement is owed, so that none is delayed, and when the peer was last heard (RFC 9293 sections
+/// 3.10.7.3, second, and 3.10.7.4, second).
 pub fn resets_act_at_the_next_number()
     ensures opening { (v : View) (s : Segment) (now : Moment) → IsSound v → s.acknowledgement < 2 ^ 32 → is_syn_sent v.state ≡ true → s.flags.rst ≡ true → ends_by v (Event.Hears s now) ≡ true
         → (s.flags.ack ≡ true) × (s.acknowledgement ≡ v.sending.nxt) }
@@ -213,7 +215,7 @@ pub fn resets_act_at_the_next_number()
     ensures acts { (v : View) (s : Segment) (now : Moment) → IsSound v → is_syn_sent v.state ≡ false → is_closed v.state ≡ false → s.flags.rst ≡ true
         → s.number ≡ v.receiving.rnext → span_of s ≡ 0 → ends_by v (Event.Hears s now) ≡ true }
     ensures others { (v : View) (s : Segment) (now : Moment) → KeepsTime v → is_syn_sent v.state ≡ false → s.flags.rst ≡ true → (s.number == v.receiving.rnext) ≡ false
-        → after_segment_at v s now ≡ record v { owes_ack = (after_segment_at v s now).owes_ack; timers = record v.timers { delayed_ack = (after_segment_at v s now).timers.delayed_ack } } }
+        → after_segment_at v s now ≡ record v { owes_ack = (after_segment_at v s now).owes_ack; timers = record v.timers { delayed_ack = (after_segment_at v s now).timers.delayed_ack }; alive = (after_segment_at v s now).alive } }
 {}
 
 /// A window is believed exactly from a segment that is no older than the one that updated it last, by the position of its first number and then by that of its
@@ -532,11 +534,11 @@ pub fn probes_wait_twice_as_long()
         → ((is ≡ was) × ((after_event v e).resend.interval ≡ v.resend.interval)) ⊎ ((now : Moment) × (e ≡ Event.Ticks now) × (was.0 ≤ now.0)) }
 {}
 
-/// The clock ends a connection, but at the end of its wait, at the thirteenth expiry without progress and at no other (RFC 9293 section 3.8.3), and then every call reports ETIMEDOUT. Each expiry counts,
-/// and only progress begins the count anew: SND.UNA moved, or a peer whose window is closed acknowledged. Either always does: a peer that answers the probes of its closed window is never given up.
+/// The clock ends a connection, but at the end of its wait, at the thirteenth expiry without progress and at no other (RFC 9293 section 3.8.3), or in the silence of a peer that was asked twelve times in vain whether it is there
+/// (section 3.8.4), and then every call reports ETIMEDOUT. Each expiry counts, and only progress begins the count anew: SND.UNA moved, or a peer whose window is closed acknowledged. Either always does: a peer that answers the probes of its closed window is never given up.
 pub fn the_thirteenth_expiry_ends()
     ensures ends { (v : View) (now : Moment) → IsSound v → is_closed v.state ≡ false → is_at_end v now ≡ false → is_closed (after_tick v now).state ≡ true
-        → (v.resend.expiries ≡ 12) × (expires v now ≡ true) × ((after_tick v now).pending_error ≡ Some Refusal.ETIMEDOUT) }
+        → (((v.resend.expiries ≡ 12) × (expires v now ≡ true)) ⊎ ((12 ≤ v.alive.unanswered) × (is_silent v now ≡ true))) × ((after_tick v now).pending_error ≡ Some Refusal.ETIMEDOUT) }
     ensures thirteenth { (v : View) (now : Moment) → v.resend.expiries ≡ 12 → expires v now ≡ true → is_closed (after_tick v now).state ≡ true }
     ensures each { (v : View) (now : Moment) → expires v now ≡ true → is_closed (after_tick v now).state ≡ false → (after_tick v now).resend.expiries ≡ v.resend.expiries + 1 }
     ensures counted { (v : View) (e : Event) → ((after_event v e).resend.expiries ≡ v.resend.expiries)

@@ -2,6 +2,7 @@
 //! make of it.
 #![tactic(auto)]
 
+mod alive;
 mod arrival;
 mod asking;
 mod calls;
@@ -15,10 +16,12 @@ mod info;
 pub mod laws;
 pub mod progress;
 mod resend;
+pub mod silence;
 mod state;
 pub mod telling;
 mod timing;
 
+pub use alive::{KeepAlive, MOST_KEEPALIVE};
 pub use calls::{Received, Refusal};
 pub use connection::{Connection, Fate};
 pub use emission::{Due, MOST_SEGMENT, Stretch};

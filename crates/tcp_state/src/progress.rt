@@ -11,6 +11,7 @@ ghost use Rattle.tcp_halves.specs.Stream.{size_of, outstanding, receive_window};
 ghost use Rattle.tcp_halves.specs.Windows.{receive_room};
 ghost use Rattle.tcp_state.specs.declared.emission.Due.{Due};
 ghost use Rattle.tcp_state.specs.View.{View, IsSound, opened_actively, is_opening, is_closed, is_time_wait, awaits_fin_ack};
+ghost use Rattle.tcp_state.specs.Alive.{IsPatient};
 ghost use Rattle.tcp_state.specs.Timing.{KeepsTime};
 ghost use Rattle.tcp_state.specs.Congestion.{KeepsCongestion};
 ghost use Rattle.tcp_state.specs.Arrival.{opened_passively, is_receiving, beyond_fin};
@@ -52,10 +53,11 @@ pub fn a_minute_brings_the_oldest_octet()
         → ((after_event v (Event.Ticks now)).sending ≡ v.sending) × ((after_event v (Event.Ticks now)).receiving ≡ v.receiving) × ((after_event v (Event.Ticks now)).state ≡ v.state) }
 {}
 
-/// A tick ends nothing of an open connection that rests: none of its own stream waits to be acknowledged, neither octets nor its FIN, its caller has not left it, and it is not in TIME-WAIT. Both streams and the state stay
-/// (RFC 9293 sections 3.8.3 and 3.10.8).
+/// A tick ends nothing of an open connection that rests: none of its own stream waits to be acknowledged, neither octets nor its FIN, its caller has not left it, it is not in TIME-WAIT, and its peer, where it is asked whether
+/// it is there, was asked fewer than twelve times since it last said something. Both streams and the state stay (RFC 9293 sections 3.8.3, 3.8.4 and 3.10.8).
 pub fn ticks_end_nothing_at_rest()
     ensures { (v : View) (now : Moment) → IsSound v → KeepsTime v → is_opening v.state ≡ false → is_time_wait v.state ≡ false → awaits_fin_ack v.state ≡ false → v.sending.held ≡ [] → v.released ≡ false
+        → IsPatient v
         → ((after_event v (Event.Ticks now)).sending ≡ v.sending) × ((after_event v (Event.Ticks now)).receiving ≡ v.receiving) × ((after_event v (Event.Ticks now)).state ≡ v.state) }
 {}
 

@@ -13,7 +13,7 @@ use tcp_segment::Seq;
 pub(crate) const MOST_EXPIRIES: u32 = 12;
 
 /// The longest wait for a probe's answer, in milliseconds.
-const MOST_INTERVAL: u32 = 60_000;
+pub(crate) const MOST_INTERVAL: u32 = 60_000;
 
 /// A segment whose round trip is measured.
 #[derive(Clone, Copy, Debug, PartialEq, Eq)]

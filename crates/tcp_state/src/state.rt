@@ -34,6 +34,7 @@ pub enum State {
 
 impl State {
     ghost use Rattle.tcp_state.specs.View.{is_opening, awaits_fin_ack, is_write_closed, is_read_closed};
+    ghost use Rattle.tcp_state.specs.Alive.{may_rest};
     ghost use Rattle.tcp_state.specs.Calls.{beyond_shutdown};
     ghost use Rattle.tcp_state.specs.Arrival.{beyond_fin, beyond_end, begins_wait, is_receiving, reset_error};
 
@@ -42,6 +43,16 @@ impl State {
         ensures { result ≡ is_opening self }
     {
         matches!(self, State::SynSent | State::SynReceived)
+    }
+
+    /// Whether a connection may wait for its peer as long as that likes: it is open, and our side is too, or our FIN is acknowledged.
+    pub(crate) fn may_rest(self) -> bool
+        ensures { result ≡ may_rest self }
+    {
+        matches!(
+            self,
+            State::Established | State::CloseWait | State::FinWait2
+        )
     }
 
     /// Whether our side is closed and our FIN is not acknowledged.

@@ -4,7 +4,8 @@ ghost use Rattle.std.specs.Prelude.{◌≡◌, ◌&&◌, ◌||◌, not, false, N
 ghost use Rattle.clock.specs.Moments.{has_come};
 ghost use Rattle.retransmit.specs.Deadlines.{next_of};
 ghost use Rattle.tcp_state.specs.View.{IsSound, is_opening};
-ghost use Rattle.tcp_state.specs.Timing.{has_unacknowledged, probes, awaits_more, running, retransmission_timer, probe_timer, override_timer, interval_of, awaits_first, unheard_since, clocked, expires, gives_up, retransmission_expired, probe_expired, after_expiry, delayed_ack_expired, override_expired, after_timers, after_tick, tick_fate, deadline};
+ghost use Rattle.tcp_state.specs.Alive.{after_silence};
+ghost use Rattle.tcp_state.specs.Timing.{has_unacknowledged, probes, awaits_more, running, retransmission_timer, probe_timer, override_timer, interval_of, awaits_first, unheard_since, clocked, expires_for_good, is_silent_for_good, gives_up, retransmission_expired, probe_expired, after_expiry, delayed_ack_expired, override_expired, after_timers, after_expiries, after_tick, tick_fate, deadline};
 
 use crate::calls::Refusal;
 use crate::connection::{Connection, Fate};
@@ -92,11 +93,18 @@ impl Connection {
     fn run_sending_timers(&mut self, moved: bool, now: Moment)
         ensures { self.new ≡ record self.old { resend = record self.old.resend { interval = interval_of self.old; owes_probe = self.old.resend.owes_probe && probes self.old }; timers = record self.old.timers { retransmission = retransmission_timer self.old moved now; probe = probe_timer self.old now; overriding = override_timer self.old now }; unheard = unheard_since self.old now } }
     {
+        self.update_unheard(now);
+        self.start_override(now);
+        self.run_expiry_timers(moved, now);
+    }
+
+    /// The timer of what is outstanding, and that of the probe.
+    fn run_expiry_timers(&mut self, moved: bool, now: Moment)
+        ensures { self.new ≡ record self.old { resend = record self.old.resend { interval = interval_of self.old; owes_probe = self.old.resend.owes_probe && probes self.old }; timers = record self.old.timers { retransmission = retransmission_timer self.old moved now; probe = probe_timer self.old now } } }
+    {
         let is_probing = self.probes();
         let retransmits = self.sender.outstanding() > 0 && !is_probing;
         let timeout = u64::from(self.resend.timeout());
-        self.update_unheard(now);
-        self.start_override(now);
         self.resend
             .update_probing(is_probing, self.timers.probe.is_some());
         if moved {
@@ -138,9 +146,9 @@ impl Connection {
         }
     }
 
-    /// Lets the timers act whose moment has come: what is outstanding goes out again, a closed window is probed, an acknowledgement or
-    /// octets that waited are due; or the connection's wait is over, and it is CLOSED without an error; or it is given up, and every
-    /// call reports ETIMEDOUT from now on.
+    /// Lets the timers act whose moment has come: what is outstanding goes out again, a closed window or a silent peer is probed, an
+    /// acknowledgement or octets that waited are due; or the connection's wait is over, and it is CLOSED without an error; or it is
+    /// given up, and every call reports ETIMEDOUT from now on.
     ///
     /// `Removed` where that was the end of one that its caller closed, or that a listener opened and that was not established.
     pub fn tick(&mut self, now: Moment) -> Fate
@@ -156,11 +164,28 @@ impl Connection {
             self.end_with(Some(Refusal::ETIMEDOUT));
             return left_if(is_left);
         }
+        self.tick_on(now);
+        Fate::Stays
+    }
+
+    /// Asks a peer that said nothing for too long, and lets the timers act whose moment has come.
+    fn tick_on(&mut self, now: Moment)
+        requires { gives_up self.old now ≡ false }
+        ensures { self.new ≡ after_expiries (after_silence self.old now) now }
+    {
+        self.tick_silence(now);
+        self.tick_expiries(now);
+    }
+
+    /// Lets the timers act whose moment has come.
+    fn tick_expiries(&mut self, now: Moment)
+        requires { expires_for_good self.old now ≡ false }
+        ensures { self.new ≡ after_expiries self.old now }
+    {
         if self.has_come(now) {
             self.tick_timers(now);
             self.update_timers(false, now);
         }
-        Fate::Stays
     }
 
     /// Whether the moment of a timer has come.
@@ -173,18 +198,32 @@ impl Connection {
         }
     }
 
-    /// Whether this would be one expiry without progress too many.
+    /// Whether this would be one expiry without progress too many, or one silence.
     fn gives_up(&self, now: Moment) -> bool
         ensures { result ≡ gives_up self.now now }
+    {
+        self.expires_for_good(now) || self.is_silent_for_good(now)
+    }
+
+    /// Whether this would be one expiry without progress too many.
+    fn expires_for_good(&self, now: Moment) -> bool
+        ensures { result ≡ expires_for_good self.now now }
     {
         let expires = self.timers.due(TimerKind::Retransmission, now)
             || self.timers.due(TimerKind::Probe, now);
         expires && MOST_EXPIRIES <= self.resend.expiries()
     }
 
+    /// Whether the peer would be asked once too often.
+    fn is_silent_for_good(&self, now: Moment) -> bool
+        ensures { result ≡ is_silent_for_good self.now now }
+    {
+        self.is_silent(now) && MOST_EXPIRIES <= self.alive.unanswered
+    }
+
     /// Lets each timer act whose moment has come, once.
     fn tick_timers(&mut self, now: Moment)
-        requires { gives_up self.old now ≡ false }
+        requires { expires_for_good self.old now ≡ false }
         ensures { self.new ≡ after_timers self.old now }
     {
         self.tick_expiry(now);
@@ -194,7 +233,7 @@ impl Connection {
 
     /// The retransmission timer or the probe timer expires.
     fn tick_expiry(&mut self, now: Moment)
-        requires { gives_up self.old now ≡ false }
+        requires { expires_for_good self.old now ≡ false }
         ensures { self.new ≡ after_expiry self.old now }
     {
         if self.timers.due(TimerKind::Retransmission, now) {
@@ -232,7 +271,7 @@ impl Connection {
     pub fn deadline(&self) -> Option<Moment>
         ensures { result ≡ deadline self.now }
     {
-        sooner(self.timers.next(), self.ends_at())
+        sooner(sooner(self.timers.next(), self.ends_at()), self.alive_at())
     }
 }
 

@@ -28,7 +28,7 @@ use Rattle.sockets.specs.declared.role.Role.{Role}
 use Rattle.sockets.specs.declared.role.Role.TheVariants.{Idle, Connected, Listener as RoleListener, Datagrams as RoleDatagrams}
 use Rattle.sockets.specs.declared.refusal.Refusal.{Refusal}
 use Rattle.sockets.specs.declared.refusal.Refusal.TheVariants.{EMFILE, ENOMEM}
-use Rattle.sockets.specs.Calls.{unless_refused, bind_refusal, listen_refusal, accept_answer, connect_refusal, send_answer, recv_answer, shutdown_refusal, nodelay_refusal, close_refusal, state_answer, sockname_answer, peername_answer}
+use Rattle.sockets.specs.Calls.{unless_refused, bind_refusal, listen_refusal, accept_answer, connect_refusal, send_answer, recv_answer, shutdown_refusal, nodelay_refusal, keepalive_refusal, close_refusal, state_answer, sockname_answer, peername_answer}
 use Rattle.sockets.specs.Causes as table
 use Rattle.sockets.specs.Datagrams.{sendto_answer, recvfrom_answer}
 use Rattle.sockets.specs.Order.{IsAllowed}
@@ -39,7 +39,7 @@ use Rattle.sockets.specs.Leaving.{EachLeavesAWindow}
 use Rattle.sockets.specs.Timing.{AreNear, IsNearIn}
 use Rattle.sockets.proofs.Followed.{some_same}
 use Rattle.sockets.proofs.Leaving.{room_wide, fresh_leaves, socket_leaves}
-use Rattle.sockets.proofs.Near.{fresh_near, deadline_near}
+use Rattle.sockets.proofs.Near.{fresh_near, deadline_near, deadline_in_a_day}
 use Rattle.sockets.proofs.Telling.{socket_told, role_tells}
 use Rattle.host.specs.Emission.{after_emission, emission_octets}
 use Rattle.host.specs.HostView.{HostView}
@@ -131,6 +131,7 @@ called i (call.SendTo id peer octets) h answer new small meets = answered i (sen
 called i (call.RecvFrom id len) h answer new small meets = read_from i h id (recv_len len) (recvfrom_answer h id (recv_len len)) refl answer new meets
 called i (call.Shutdown id) h answer new small meets = answered i _ _ h (table.Shuts id) answer new tt (λ latest. tt) (tt, tt) (unrefused (shutdown_refusal h id)) meets
 called i (call.SetNoDelay id on) h answer new small meets = answered i _ _ h (table.SetsNoDelay id on) answer new tt (λ latest. tt) (tt, tt) (unrefused (nodelay_refusal h id)) meets
+called i (call.SetKeepAlive id every) h answer new small meets = answered i _ _ h (table.SetsKeepAlive id every) answer new tt (λ latest. tt) (tt, tt) (unrefused (keepalive_refusal h id every)) meets
 called i (call.Close id) h answer new small meets = answered i _ _ h (table.Leaves Close id) answer new tt (λ latest. tt) (tt, tt) (unrefused (close_refusal h id)) meets
 called i (call.Abort id) h answer new small meets = answered i _ _ h (table.Leaves Abort id) answer new tt (λ latest. tt) (tt, tt) (unrefused (close_refusal h id)) meets
 called i (call.State id) h answer new small meets = asked i (state_answer h id) _ h answer new meets
@@ -324,7 +325,7 @@ nearer : (before after : Moment) (h : SocketsView) → before.0 ≤ after.0 → 
 nearer before after h on_clock near = record { kept = omega (arith, near.kept, on_clock); each = each h.entries near.each }
   where
     by_role : (r : Role) → IsNearIn before r → IsNearIn after r
-    by_role (Connected c l) near = record { since = omega (arith, near.since, on_clock); unheard = λ since is. omega (arith, near.unheard since is, on_clock); timers = λ kind end set. omega (arith, near.timers kind end set, on_clock) }
+    by_role (Connected c l) near = record { since = omega (arith, near.since, on_clock); unheard = λ since is. omega (arith, near.unheard since is, on_clock); timers = λ kind end set. omega (arith, near.timers kind end set, on_clock); asked = omega (arith, near.asked, on_clock) }
     by_role (Idle buffers bound) near = tt
     by_role (RoleListener local backlog) near = tt
     by_role (RoleDatagrams bound queues) near = tt
@@ -461,4 +462,6 @@ sockets-told limit es os w v side id c listener error reached run named pending 
     role_tells (table_of v.network side) id error role (tells-run limit es os w v reached run side id error first).0 now
 
 pub deadlines-near : EveryDeadlineLiesNear
-deadlines-near limit w side moment reached least = deadline_near (table_of w.network side) (clock_of w.network side) moment (tables-near limit w reached side) least
+deadlines-near limit w side moment reached least =
+    let near = tables-near limit w reached side in
+    (λ none. deadline_near (table_of w.network side) (clock_of w.network side) moment near none least, deadline_in_a_day (table_of w.network side) (clock_of w.network side) moment near least)

@@ -88,6 +88,7 @@ same_event (event.Call s c) = (refl, same_call c)
     same_call (call.RecvFrom i n) = refl
     same_call (call.Shutdown i) = refl
     same_call (call.SetNoDelay i on) = refl
+    same_call (call.SetKeepAlive i every) = refl
     same_call (call.Close i) = refl
     same_call (call.Abort i) = refl
     same_call (call.State i) = refl

@@ -10,4 +10,4 @@ pub mod ConnectIsMove
 pub mod CallsOfNetwork
 pub mod ErrorIsMove
 pub mod DatagramsMoveNothing
-pub mod NoDelayIsMove
+pub mod WishesAreMoves

@@ -24,7 +24,7 @@ use Rattle.sockets.specs.Order.{IsOrdered}
 use Rattle.sockets.specs.Sound.{NoneIsOver}
 use Rattle.sockets.specs.SocketsView.{SocketsView, role_of}
 use Rattle.sockets.specs.Ticks.{least_deadline}
-use Rattle.sockets.specs.Timing.{EachKeepsTime, AreNear}
+use Rattle.sockets.specs.Timing.{EachKeepsTime, AreNear, NoneAsks}
 use Rattle.host.specs.Arrival.{heard_by}
 use Rattle.host.specs.Causes.{IsAbout}
 use Rattle.host.specs.Runs as hosts
@@ -73,9 +73,10 @@ pub record IsKept (now : Moment) (h : SocketsView) : Type 0 where
 abbrev pub EveryTableIsKept : Type 0
 EveryTableIsKept = (limit : ℕ) (w : WorldView) → IsReached limit w → (side : Side) → IsKept (clock_of w.network side) (table_of w.network side)
 
--- So a deadline of the timers of a table lies no further past its host's clock than TIME-WAIT lasts.
+-- So a deadline of the timers of a table lies no further past its host's clock than a day, and than TIME-WAIT lasts where no silent peer is asked.
 abbrev pub EveryDeadlineLiesNear : Type 0
-EveryDeadlineLiesNear = (limit : ℕ) (w : WorldView) (side : Side) (moment : Moment) → IsReached limit w → least_deadline (table_of w.network side) ≡ Some moment → (let now = clock_of w.network side in moment.0 ≤ now.0 + 240000)
+EveryDeadlineLiesNear = (limit : ℕ) (w : WorldView) (side : Side) (moment : Moment) → IsReached limit w → least_deadline (table_of w.network side) ≡ Some moment
+    → let now = clock_of w.network side in (NoneAsks (table_of w.network side) → moment.0 ≤ now.0 + 240000) × (moment.0 ≤ now.0 + 86400000)
 
 -- whatever entry has this id, which was given, is one of a connection that tells this error
 abbrev pub IsTold : SocketsView → SocketId → Error → Type 0

@@ -5,6 +5,7 @@ use Rattle.arp.specs.declared.entry.Neighbour.{Neighbour}
 use Rattle.arp.specs.Cache.{is_pair_of}
 use Rattle.tcp_state.specs.declared.state.State.TheVariants.{Established, FinWait2, CloseWait}
 use Rattle.tcp_state.specs.View.{View, is_closed}
+use Rattle.tcp_state.specs.Alive.{IsPatient}
 use Rattle.sockets.specs.declared.entry.Entry.{Entry}
 use Rattle.sockets.specs.declared.entry.SocketId.{SocketId}
 use Rattle.sockets.specs.declared.role.Role.TheVariants.{Connected}
@@ -32,7 +33,8 @@ pub record IsQuiet (n : NetworkView) (side : Side) (id : SocketId) (c : View) : 
 
 -- What is asked of a world and of the connections of two of its sockets, the writer's and the reader's: both hosts are quiet but for them, and they are each other's
 -- ends. The one is in ESTABLISHED or CLOSE-WAIT, the other in ESTABLISHED or FIN-WAIT-2, and holds no octets of its own. The writer's timers expired
--- under 12 times since the last progress. More was sent on the one socket than was read on the other.
+-- under 12 times since the last progress, and where one asks a silent peer whether it is there, it did so under 12 times since that last said something. More was sent on the one socket
+-- than was read on the other.
 pub record MayMove (writer : Side) (writer_id reader_id : SocketId) (v d : View) (w : WorldView) : Type 0 where
   pub writes : IsQuiet w.network writer writer_id v
   pub reads : IsQuiet w.network (other_side writer) reader_id d
@@ -42,6 +44,7 @@ pub record MayMove (writer : Side) (writer_id reader_id : SocketId) (v d : View)
   pub receives : (d.state ≡ Established) ⊎ (d.state ≡ FinWait2)
   pub acknowledged : d.sending.held ≡ []
   pub few : v.resend.expiries < 12
+  pub patient : IsPatient v × IsPatient d
   pub unread : length (read_on (other_side writer) reader_id w.trace) < length (sent_on writer writer_id w.trace)
 
 -- What is promised between two worlds: both sockets have their connections yet, in the states in which they were, so neither is CLOSED; and more was read

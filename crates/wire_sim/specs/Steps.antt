@@ -29,7 +29,7 @@ use Rattle.wire_sim.specs.declared.world.bag.Note.{Note}
 use Rattle.wire_sim.specs.declared.world.station.Station.{Station}
 use Rattle.sockets.specs.Info.{info_answer}
 use Rattle.sockets.specs.Ready.{readiness}
-use Rattle.sockets.specs.Calls.{unless_refused, is_table_full, IsMade, bind_refusal, after_bind, listen_refusal, after_listen, accept_answer, after_accept, connect_refusal, after_connect, send_answer, after_send, recv_answer, after_recv, shutdown_refusal, after_shutdown, nodelay_refusal, after_nodelay, close_refusal, after_close, after_abort, state_answer, sockname_answer, peername_answer}
+use Rattle.sockets.specs.Calls.{unless_refused, is_table_full, IsMade, bind_refusal, after_bind, listen_refusal, after_listen, accept_answer, after_accept, connect_refusal, after_connect, send_answer, after_send, recv_answer, after_recv, shutdown_refusal, after_shutdown, nodelay_refusal, after_nodelay, keepalive_refusal, after_keepalive, close_refusal, after_close, after_abort, state_answer, sockname_answer, peername_answer}
 use Rattle.sockets.specs.Datagrams.{sendto_answer, after_sendto, recvfrom_answer, after_recvfrom}
 use Rattle.host.specs.Arrival.{IsDelivered}
 use Rattle.sockets.specs.SocketsView.{SocketsView, role_of}
@@ -115,6 +115,7 @@ MeetsCall routed (call.SendTo id peer octets) h answer new = Answers (sendto_ans
 MeetsCall routed (call.RecvFrom id len) h answer new = MeetsReceivedFrom h id (recvfrom_answer h id (recv_len len)) answer new
 MeetsCall routed (call.Shutdown id) h answer new = Answers (unless_refused (shutdown_refusal h id) (tt {0})) (λ _. reply.Done) (after_shutdown h id) h answer new
 MeetsCall routed (call.SetNoDelay id on) h answer new = Answers (unless_refused (nodelay_refusal h id) (tt {0})) (λ _. reply.Done) (after_nodelay h id on) h answer new
+MeetsCall routed (call.SetKeepAlive id every) h answer new = Answers (unless_refused (keepalive_refusal h id every) (tt {0})) (λ _. reply.Done) (after_keepalive h id every) h answer new
 MeetsCall routed (call.Close id) h answer new = Answers (unless_refused (close_refusal h id) (tt {0})) (λ _. reply.Done) (after_close h id) h answer new
 MeetsCall routed (call.Abort id) h answer new = Answers (unless_refused (close_refusal h id) (tt {0})) (λ _. reply.Done) (after_abort h id) h answer new
 MeetsCall routed (call.State id) h answer new = Answers (state_answer h id) (λ state. reply.State state) h h answer new

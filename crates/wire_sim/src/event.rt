@@ -66,6 +66,11 @@ pub enum Call {
         id: SocketId,
         on: bool,
     },
+    /// Has a silent peer of a connection asked whether it is there from now on, after so many milliseconds each, or no more.
+    SetKeepAlive {
+        id: SocketId,
+        every: Option<u64>,
+    },
     /// Closes a socket.
     Close {
         id: SocketId,

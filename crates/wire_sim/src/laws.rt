@@ -79,7 +79,8 @@ pub fn every_clock_is_kept()
     ensures hosts { EveryHostIsKept }
 {}
 
-/// So no deadline of the timers of a connection lies more than 240,000 ms past the moment that its host's clock shows, the time that TIME-WAIT lasts (RFC 9293 section 3.4.2), at whatever moments the host was ticked.
+/// So no deadline of the timers of a connection lies more than a day past the moment that its host's clock shows, and none more than 240,000 ms, the time that TIME-WAIT lasts (RFC 9293 section 3.4.2), where no connection of the host asks a silent
+/// peer whether it is there; at whatever moments the host was ticked.
 pub fn every_deadline_lies_near()
     ensures { EveryDeadlineLiesNear }
 {}

@@ -123,6 +123,7 @@ called-grows side (call.SendTo id peer octets) place i n answer routed new sound
 called-grows side (call.RecvFrom id len) place i n answer routed new sound meets = kept-grows n side new i
 called-grows side (call.Shutdown id) place i n answer routed new sound meets = kept-grows n side new i
 called-grows side (call.SetNoDelay id on) place i n answer routed new sound meets = kept-grows n side new i
+called-grows side (call.SetKeepAlive id every) place i n answer routed new sound meets = kept-grows n side new i
 called-grows side (call.Close id) place i n answer routed new sound meets = kept-grows n side new i
 called-grows side (call.Abort id) place i n answer routed new sound meets = kept-grows n side new i
 called-grows side (call.State id) place i n answer routed new sound meets = kept-grows n side new i

@@ -4,7 +4,7 @@ use Rattle.ipv4.specs.declared.addr.Addr.{Addr}
 use Rattle.sockets.specs.Info.{info_answer}
 use Rattle.sockets.specs.Ready.{readiness}
 use Rattle.sockets.specs.declared.role.Leave.TheVariants.{Close, Abort}
-use Rattle.sockets.specs.Calls.{unless_refused, bind_refusal, after_bind, listen_refusal, after_listen, accept_answer, after_accept, connect_refusal, after_connect, send_answer, after_send, after_recv, shutdown_refusal, after_shutdown, nodelay_refusal, after_nodelay, close_refusal, after_close, after_abort, state_answer, sockname_answer, peername_answer}
+use Rattle.sockets.specs.Calls.{unless_refused, bind_refusal, after_bind, listen_refusal, after_listen, accept_answer, after_accept, connect_refusal, after_connect, send_answer, after_send, after_recv, shutdown_refusal, after_shutdown, nodelay_refusal, after_nodelay, keepalive_refusal, after_keepalive, close_refusal, after_close, after_abort, state_answer, sockname_answer, peername_answer}
 use Rattle.sockets.specs.Datagrams.{sendto_answer, after_sendto, recvfrom_answer, after_recvfrom}
 use Rattle.sockets.specs.SocketsView.{SocketsView}
 use Rattle.datagram_law.specs.Accepted.{Accepted}
@@ -18,7 +18,7 @@ use Rattle.wire_sim.specs.Steps.{MeetsCall, recv_len}
 use Rattle.wire_sim.proofs.tables.CallsOnTable.{outcome}
 use Rattle.wire_sim.proofs.pairing.CallsAreMoves.{socket_outcome, recv_outcome, recvfrom_outcome}
 use Rattle.wire_sim.proofs.datagrams.TablesKeepToAccepted.{IsTableOf}
-use Rattle.wire_sim.proofs.datagrams.TablesOfCalls.{kept-made, kept-bind, kept-listen, kept-accept, kept-connect, kept-send, kept-recv, kept-shutdown, kept-nodelay, kept-leaving}
+use Rattle.wire_sim.proofs.datagrams.TablesOfCalls.{kept-made, kept-bind, kept-listen, kept-accept, kept-connect, kept-send, kept-recv, kept-shutdown, kept-nodelay, kept-keepalive, kept-leaving}
 use Rattle.wire_sim.proofs.datagrams.TablesOfDatagrams.{kept-sendto, kept-recvfrom}
 
 -- the table keeps to what was accepted with the call
@@ -92,6 +92,11 @@ call-kept own other routed (call.Shutdown id) old new answer width numbered m t 
 call-kept own other routed (call.SetNoDelay id on) old new answer width numbered m t =
     elim (outcome (unless_refused (nodelay_refusal old id) (tt {0})) (λ _. reply.Done) (after_nodelay old id on) old answer new m) [
       | inl x ↦ unadded own other (after_nodelay old id on) new (kept-nodelay own other old id on t) x.3
+      | inr x ↦ unadded own other old new t x.3
+    ]
+call-kept own other routed (call.SetKeepAlive id every) old new answer width numbered m t =
+    elim (outcome (unless_refused (keepalive_refusal old id every) (tt {0})) (λ _. reply.Done) (after_keepalive old id every) old answer new m) [
+      | inl x ↦ unadded own other (after_keepalive old id every) new (kept-keepalive own other old id every t) x.3
       | inr x ↦ unadded own other old new t x.3
     ]
 call-kept own other routed (call.Close id) old new answer width numbered m t =

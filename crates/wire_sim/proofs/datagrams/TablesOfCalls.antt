@@ -16,7 +16,7 @@ use Rattle.sockets.specs.declared.refusal.Refusal.TheVariants.{EINVAL, EADDRINUS
 use Rattle.sockets.specs.declared.role.Leave.{Leave}
 use Rattle.sockets.specs.declared.role.Role.{Role}
 use Rattle.sockets.specs.declared.role.Role.TheVariants.{Idle, Listener, Connected, Datagrams}
-use Rattle.sockets.specs.Calls.{of_socket, bound_of, last_port_after, IsMade, any_addr, free_port, port_at, port_bound, last_port_bound, after_bind, after_listen, is_next_at, after_accept, port_connected, after_connect, after_send, after_recv, after_shutdown, after_nodelay, after_socket_left, after_leaving}
+use Rattle.sockets.specs.Calls.{of_socket, bound_of, last_port_after, IsMade, any_addr, free_port, port_at, port_bound, last_port_bound, after_bind, after_listen, is_next_at, after_accept, port_connected, after_connect, after_send, after_recv, after_shutdown, after_nodelay, after_keepalive, after_socket_left, after_leaving}
 use Rattle.sockets.specs.Entries.{is_socket, new_socket as new_entry, new_datagram_socket, with_role, role_after_bind, role_after_listen, role_after_connect, role_after_accept, role_after_leaving, role_after_listener_close, listener_close_fate_of, leaving_fate_of, entries_after_step}
 use Rattle.sockets.specs.Lists.{change_first}
 use Rattle.sockets.specs.Ports.{first_port, is_free_datagram_port}
@@ -81,6 +81,9 @@ kept-shutdown own other h id t = kept-changed own other h id _ (keeps-connection
 
 pub kept-nodelay : (own other : List Accepted) (h : SocketsView) (id : SocketId) (on : Bool) → IsTableOf own other h → IsTableOf own other (after_nodelay h id on)
 kept-nodelay own other h id on t = kept-changed own other h id _ (keeps-connection _) t
+
+pub kept-keepalive : (own other : List Accepted) (h : SocketsView) (id : SocketId) (every : Option ℕ) → IsTableOf own other h → IsTableOf own other (after_keepalive h id every)
+kept-keepalive own other h id every t = kept-changed own other h id _ (keeps-connection _) t
 
 pub kept-accept : (own other : List Accepted) (h : SocketsView) (id : SocketId) → IsTableOf own other h → IsTableOf own other (after_accept h id)
 kept-accept own other h id t = record {

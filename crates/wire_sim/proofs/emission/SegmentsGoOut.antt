@@ -4,7 +4,7 @@ use Rattle.std.proofs.Common.{Option, Some}
 use Rattle.std.specs.List.{find}
 use Rattle.tcp_segment.specs.Sent.{sent_segment}
 use Rattle.tcp_state.specs.declared.emission.Due.{Due}
-use Rattle.tcp_state.specs.declared.emission.Due.TheVariants.{Rst, Syn, Text, Probe, Ack}
+use Rattle.tcp_state.specs.declared.emission.Due.TheVariants.{Rst, Syn, Text, Probe, Ack, KeepAlive}
 use Rattle.clock.specs.declared.moment.Moment.{Moment}
 use Rattle.tcp_state.specs.View.{View}
 use Rattle.tcp_state.specs.Due.{MayGoOut, first_due, head_of, octets_of, flags_of, after_emitted}
@@ -26,6 +26,7 @@ due-kind v Syn = inr refl
 due-kind v (Text stretch) = inr refl
 due-kind v Probe = inr refl
 due-kind v Ack = inr refl
+due-kind v KeepAlive = inr refl
 
 -- its going out leaves the state
 pub emitted-state : (v : View) (due : Due) (now : Moment) → (let w = after_emitted v due now in w.state) ≡ v.state
@@ -34,6 +35,7 @@ emitted-state v Syn now = (syn-out v now).state
 emitted-state v (Text stretch) now = (stretch-out v stretch now).state
 emitted-state v Probe now = (probe-out v now).state
 emitted-state v Ack now = (ack-out v now).state
+emitted-state v KeepAlive now = refl
 
 -- what may go out is of its width
 pub due-width : (v : View) (due : Due) → IsSoundConnection v → MayGoOut v due → IsOfWidth (sent_segment (head_of v due) (octets_of v due))

@@ -16,7 +16,7 @@ use Rattle.sockets.specs.Sound.{IsSoundRole, IsSoundTable}
 use Rattle.sockets.specs.SocketsView.{SocketsView, later_moment}
 use Rattle.sockets.proofs.Followed.{all_joined}
 use Rattle.sockets.proofs.KeptEnds.{keeps-event}
-use Rattle.sockets.proofs.Steps.{IsEventOf, sends_it, reads_it, shuts_it, delays_it, closes_it, resets_it, aborts_it, ticks_it, comes_to_it, goes_out, tells_it, loses_it, IsStepOf, stays, moves, opens, accepted, IsJoining, made, made_datagrams, called, IsStepped, entry, followed, joined, stepped}
+use Rattle.sockets.proofs.Steps.{IsEventOf, sends_it, reads_it, shuts_it, delays_it, asks_it, closes_it, resets_it, aborts_it, ticks_it, comes_to_it, goes_out, tells_it, loses_it, IsStepOf, stays, moves, opens, accepted, IsJoining, made, made_datagrams, called, IsStepped, entry, followed, joined, stepped}
 use Rattle.sockets.proofs.Timed.{all_left}
 use Rattle.wire_sim.proofs.hops.UnsentStaysSilent.{IsSilent, silent-on}
 
@@ -45,6 +45,7 @@ silent-moved leads h _ _ id c l where_to sound silent (sends_it named octets is)
 silent-moved leads h _ _ id c l where_to sound silent (reads_it named len is) = inl (silent-on c (edge.Receives len) sound (λ now out. cc) silent)
 silent-moved leads h _ _ id c l where_to sound silent (shuts_it named is) = inl (silent-on c (edge.Shuts h.kept) sound (λ now out. cc) silent)
 silent-moved leads h _ _ id c l where_to sound silent (delays_it named on is) = inl (silent-on c (edge.SetsNoDelay on h.kept) sound (λ now out. cc) silent)
+silent-moved leads h _ _ id c l where_to sound silent (asks_it named every is) = inl (silent-on c (edge.SetsKeepAlive every h.kept) sound (λ now out. cc) silent)
 silent-moved leads h _ _ id c l where_to sound silent (closes_it how named is so) = inl (silent-on c (edge.Closes h.kept) sound (λ now out. cc) silent)
 silent-moved leads h _ _ id c l where_to sound silent (resets_it how named is so) = inl (silent-on c (edge.Aborts h.kept) sound (λ now out. cc) silent)
 silent-moved leads h _ _ id c l where_to sound silent (aborts_it how named is) = inl (silent-on c (edge.Aborts h.kept) sound (λ now out. cc) silent)

@@ -12,7 +12,7 @@ use Rattle.tcp_state.specs.View.{View, IsSound, is_opening, is_closed}
 use Rattle.tcp_state.specs.Arrival.{after_ack, after_heard, after_text, after_window, beyond_end, counts_fin, is_receiving}
 use Rattle.tcp_state.specs.Calls.{beyond_shutdown}
 use Rattle.tcp_state.specs.Edges as edge
-use Rattle.tcp_state.proofs.Clocked.{timers_keep}
+use Rattle.tcp_state.proofs.Clocked.{ticks_keep}
 use Rattle.tcp_state.proofs.Events.{by_event}
 use Rattle.tcp_state.proofs.Segments.{by_ack, by_fin, by_hearing}
 use Rattle.sockets.proofs.KeptEnds.{keeps-event}
@@ -96,12 +96,13 @@ unsent-on c sound u =
     by_event LeavesSilent c
     (record {
       same = λ e other. inl u;
+      asks = λ e alive other. inl u;
       heard = λ s now lives other. heard-silent c s sound u;
       over = λ now ends other. inr refl;
       given_up = λ now waits gives other. inr refl;
       acts = λ now other.
-          let state = ap (λ (w : View). w.state) (timers_keep c now) in
-          let sending = ap (λ (w : View). w.sending) (timers_keep c now) in
+          let state = ap (λ (w : View). w.state) (ticks_keep c now) in
+          let sending = ap (λ (w : View). w.sending) (ticks_keep c now) in
           inl (ap is_opening state ∙ u.0, ap (λ (t : Sending). t.nxt) sending ∙ (u.1 ∙ sym (ap (λ (t : Sending). t.una) sending)));
       emits = λ now other. absurd (other now refl);
       sends = λ octets taken now open_ other. inl u;

@@ -16,6 +16,7 @@ use Rattle.tcp_state.specs.declared.emission.Due.{Due}
 use Rattle.clock.specs.declared.moment.Moment.{Moment}
 use Rattle.tcp_state.specs.View.{opened_actively, View, is_closed, is_opening}
 use Rattle.tcp_state.specs.Timing.{after_tick}
+use Rattle.tcp_state.specs.Alive.{after_set_keepalive}
 use Rattle.tcp_state.specs.Calls.{after_send, after_recv, after_shutdown, after_set_nodelay, after_abort}
 use Rattle.tcp_state.specs.Due.{first_due, after_emitted}
 use Rattle.tcp_state.specs.Arrival.{after_segment_at}
@@ -29,7 +30,7 @@ use Rattle.sockets.specs.declared.entry.Entry.{Entry}
 use Rattle.sockets.specs.declared.role.Leave.{Leave}
 use Rattle.sockets.specs.declared.role.Role.{Role}
 use Rattle.sockets.specs.declared.role.Role.TheVariants.{Idle, Listener, Connected, Datagrams}
-use Rattle.sockets.specs.Entries.{is_live_between, on_datagrams, is_datagrams_at, role_after_reception, role_after_connect, is_between, joins, is_of_pair, is_kept, entries_after_step, entries_after_steps, with_role, role_after_bind, role_after_listen, role_after_accept, role_after_tick, role_after_segment, role_after_unreachable, unreachable_fate_of, role_after_send, role_after_shutdown, role_after_nodelay, role_after_recv, role_after_emission, leaving_event, role_after_leaving, role_after_abort, role_after_listener_close, waits_at}
+use Rattle.sockets.specs.Entries.{is_live_between, on_datagrams, is_datagrams_at, role_after_reception, role_after_connect, is_between, joins, is_of_pair, is_kept, entries_after_step, entries_after_steps, with_role, role_after_bind, role_after_listen, role_after_accept, role_after_tick, role_after_segment, role_after_unreachable, unreachable_fate_of, role_after_send, role_after_shutdown, role_after_nodelay, role_after_keepalive, role_after_recv, role_after_emission, leaving_event, role_after_leaving, role_after_abort, role_after_listener_close, waits_at}
 use Rattle.sockets.specs.declared.datagrams.Reception.{Reception}
 use Rattle.sockets.specs.declared.datagrams.Reception.TheVariants.{Queued, NoRoom, NoSocket}
 use Rattle.sockets.specs.Datagrams.{reception, after_reception}
@@ -137,6 +138,12 @@ unheld_delayed on now pair (Idle b bound) out = refl
 unheld_delayed on now pair (Datagrams bound s) out = refl
 unheld_delayed on now pair (Listener x y) out = refl
 unheld_delayed on now pair (Connected c l) out = unjoined pair c (after_set_nodelay c on now) l l (keeps-event c (edge.SetsNoDelay on now)) out
+
+pub unheld_asked : (every : Option ℕ) (now : Moment) → KeepsUnheld (role_after_keepalive every now)
+unheld_asked every now pair (Idle b bound) out = refl
+unheld_asked every now pair (Datagrams bound s) out = refl
+unheld_asked every now pair (Listener x y) out = refl
+unheld_asked every now pair (Connected c l) out = unjoined pair c (after_set_keepalive c every now) l l (keeps-event c (edge.SetsKeepAlive every now)) out
 
 pub unheld_left : (how : Leave) (now : Moment) → KeepsUnheld (role_after_leaving how now)
 unheld_left how now pair (Idle b bound) out = refl

@@ -20,12 +20,12 @@ use Rattle.sockets.specs.declared.entry.Entry.{Entry}
 use Rattle.sockets.specs.declared.role.Role.TheVariants.{Idle, Connected, Datagrams}
 use Rattle.sockets.specs.declared.role.Leave.{Leave}
 use Rattle.sockets.specs.declared.role.Leave.TheVariants.{Close, Abort}
-use Rattle.sockets.specs.Calls.{unless_refused, IsMade, after_socket, after_datagram_socket, port_bound, bind_refusal, after_bind, listen_refusal, after_listen, is_next_at, accept_answer, after_accept, connect_refusal, after_connect, send_answer, after_send, after_recv, shutdown_refusal, after_shutdown, nodelay_refusal, after_nodelay, close_refusal, after_close, after_abort, after_leaving, after_socket_left, state_answer, sockname_answer, peername_answer}
+use Rattle.sockets.specs.Calls.{unless_refused, IsMade, after_socket, after_datagram_socket, port_bound, bind_refusal, after_bind, listen_refusal, after_listen, is_next_at, accept_answer, after_accept, connect_refusal, after_connect, send_answer, after_send, after_recv, shutdown_refusal, after_shutdown, nodelay_refusal, after_nodelay, keepalive_refusal, after_keepalive, close_refusal, after_close, after_abort, after_leaving, after_socket_left, state_answer, sockname_answer, peername_answer}
 use Rattle.sockets.specs.declared.refusal.Refusal.{Refusal}
 use Rattle.sockets.specs.Arrival.{local_end, peer_end, room_for}
 use Rattle.sockets.specs.Datagrams.{end_sent_from, sendto_answer, after_sendto, recvfrom_answer, after_recvfrom, after_reception}
 use Rattle.sockets.specs.Lists.{change_first}
-use Rattle.sockets.specs.Entries.{is_socket, is_between, with_role, role_after_sendto, role_after_recvfrom, role_after_segment, is_of_pair, sends, role_after_bind, role_after_listen, role_after_accept, role_after_send, role_after_recv, role_after_shutdown, role_after_nodelay, role_after_leaving, leaving_fate_of, role_after_listener_close, listener_close_fate_of, role_after_tick, tick_fate_of, role_after_emission, emission_fate_of, entries_after_step}
+use Rattle.sockets.specs.Entries.{is_socket, is_between, with_role, role_after_sendto, role_after_recvfrom, role_after_segment, is_of_pair, sends, role_after_bind, role_after_listen, role_after_accept, role_after_send, role_after_recv, role_after_shutdown, role_after_nodelay, role_after_keepalive, role_after_leaving, leaving_fate_of, role_after_listener_close, listener_close_fate_of, role_after_tick, tick_fate_of, role_after_emission, emission_fate_of, entries_after_step}
 use Rattle.sockets.specs.SocketsView.{SocketsView, holder_id, later_moment, room_of}
 use Rattle.sockets.specs.Ticks as table_ticks
 use Rattle.sockets.specs.Lost.{give_up_fate_of, role_after_giving_up, after_giving_up}
@@ -61,7 +61,7 @@ use Rattle.wire_sim.proofs.openings.OctetsAreCovered.{as_list}
 use Rattle.wire_sim.proofs.tables.SegmentArrived.{Arrived, Ignored, Heard, Began}
 use Rattle.wire_sim.proofs.fairness.CountedAsTraced.{same_unfair}
 use Rattle.wire_sim.proofs.lists.FoundAfterChange.{All-at, find-added_none}
-use Rattle.wire_sim.proofs.openings.HeldIsOpened.{joined, unheld-changed, unheld-settled, unheld-heard, unheld-told, unheld-all, unheld-received, unheld_datagrams, unheld_given_up, unheld_bound_to, unheld_listening, unheld_accepted, unheld_ticked, unheld_sent, unheld_received, unheld_write_shut, unheld_delayed, unheld_left, unheld_forsaken, unheld_emitted_at}
+use Rattle.wire_sim.proofs.openings.HeldIsOpened.{joined, unheld-changed, unheld-settled, unheld-heard, unheld-told, unheld-all, unheld-received, unheld_datagrams, unheld_given_up, unheld_bound_to, unheld_listening, unheld_accepted, unheld_ticked, unheld_sent, unheld_received, unheld_write_shut, unheld_delayed, unheld_asked, unheld_left, unheld_forsaken, unheld_emitted_at}
 use Rattle.wire_sim.proofs.tables.PairOfPorts.{unheld}
 use Rattle.wire_sim.proofs.carried.FramesCarry.{Carried}
 use Rattle.wire_sim.proofs.carried.FramesArrive.{segment_foreseen, IsToTable, Aside, Brings, Tells, Receives, frame-to_table}
@@ -178,6 +178,11 @@ call-keeps routed (call.Shutdown id) answer own own' other m =
 call-keeps routed (call.SetNoDelay id on) answer own own' other m =
     elim (outcome (unless_refused (nodelay_refusal own id) (tt {0})) (λ _. reply.Done) (after_nodelay own id on) own answer own' m) [
       | inl x ↦ keeps-next own (after_nodelay own id on) own' x.3 (λ pair none. unheld-changed (is_socket id) (role_after_nodelay on own.kept) pair own.entries (unheld_delayed on own.kept) none)
+      | inr x ↦ keeps-same own own' x.3
+    ]
+call-keeps routed (call.SetKeepAlive id every) answer own own' other m =
+    elim (outcome (unless_refused (keepalive_refusal own id every) (tt {0})) (λ _. reply.Done) (after_keepalive own id every) own answer own' m) [
+      | inl x ↦ keeps-next own (after_keepalive own id every) own' x.3 (λ pair none. unheld-changed (is_socket id) (role_after_keepalive every own.kept) pair own.entries (unheld_asked every own.kept) none)
       | inr x ↦ keeps-same own own' x.3
     ]
 call-keeps routed (call.Close id) answer own own' other m =

@@ -9,7 +9,7 @@ use Rattle.sockets.specs.Info.{info_answer}
 use Rattle.sockets.specs.Ready.{readiness}
 use Rattle.sockets.specs.declared.entry.SocketId.{SocketId}
 use Rattle.sockets.specs.declared.role.Leave.TheVariants.{Close, Abort}
-use Rattle.sockets.specs.Calls.{unless_refused, bind_refusal, after_bind, listen_refusal, after_listen, accept_answer, after_accept, connect_refusal, after_connect, pair_connected, send_answer, after_send, after_recv, shutdown_refusal, after_shutdown, nodelay_refusal, after_nodelay, close_refusal, after_close, after_abort, state_answer, sockname_answer, peername_answer}
+use Rattle.sockets.specs.Calls.{unless_refused, bind_refusal, after_bind, listen_refusal, after_listen, accept_answer, after_accept, connect_refusal, after_connect, pair_connected, send_answer, after_send, after_recv, shutdown_refusal, after_shutdown, nodelay_refusal, after_nodelay, keepalive_refusal, after_keepalive, close_refusal, after_close, after_abort, state_answer, sockname_answer, peername_answer}
 use Rattle.sockets.specs.Datagrams.{sendto_answer, after_sendto, recvfrom_answer, after_recvfrom}
 use Rattle.sockets.specs.Entries.{is_socket, role_after_listen}
 use Rattle.sockets.specs.SocketsView.{SocketsView}
@@ -36,8 +36,8 @@ use Rattle.wire_sim.proofs.pairing.CallsAreMoves.{socket_outcome, recv_outcome, 
 use Rattle.wire_sim.proofs.pairing.CloseIsMoves.{call-leaves}
 use Rattle.wire_sim.proofs.pairing.ConnectIsMove.{IsFirst, projects-connects, projects-socket_made}
 use Rattle.wire_sim.proofs.pairing.DatagramsMoveNothing.{projects-sent_to, projects-received_from}
-use Rattle.wire_sim.proofs.pairing.NoDelayIsMove.{projects-delayed}
-use Rattle.wire_sim.proofs.told.TraceAndOneMore.{IsQuiet, answered, tallies, tallies-counted, tallies-quiet, tallies-opened, quiet-everywhere, quiet-socket, quiet-bind, quiet-listen, quiet-accept, quiet-connect, quiet-state, quiet-sockname, quiet-peername, quiet-sendto, quiet-recvfrom, quiet-send_refused, quiet-recv_refused, quiet-shutdown_refused, quiet-close_refused, quiet-nodelay, quiet-abort, quiet-ready, quiet-info}
+use Rattle.wire_sim.proofs.pairing.WishesAreMoves.{projects-delayed, projects-asked}
+use Rattle.wire_sim.proofs.told.TraceAndOneMore.{IsQuiet, answered, tallies, tallies-counted, tallies-quiet, tallies-opened, quiet-everywhere, quiet-socket, quiet-bind, quiet-listen, quiet-accept, quiet-connect, quiet-state, quiet-sockname, quiet-peername, quiet-sendto, quiet-recvfrom, quiet-send_refused, quiet-recv_refused, quiet-shutdown_refused, quiet-close_refused, quiet-nodelay, quiet-keepalive, quiet-abort, quiet-ready, quiet-info}
 
 -- What a call made of the network: nothing beside its host, a count, or an opening.
 pub data CallGoes (limit : ℕ) (hs ts : Side) (a b : Addr) (host' : HostView) (other : SocketsView) (n : NetworkView) (bag : Bag) (c : Call) (answer : Answer) (place : ℕ) (trace : List Happening) : Type 0 where
@@ -195,6 +195,13 @@ projects-called limit hs ts a b host host' other n bag place trace (call.SetNoDe
     elim (outcome (unless_refused (nodelay_refusal own id) (tt {0})) (λ _. reply.Done) (after_nodelay own id on) own answer host'.sockets m) [
       | inl x ↦ plain limit hs ts a b host' other n bag (call.SetNoDelay id on) answer place trace refl quiet (kept limit hs ts a b (after_nodelay own id on) host'.sockets other bag n.openings trace x.3 (projects-delayed limit hs ts a b own other bag n.openings trace id on h))
       | inr x ↦ plain limit hs ts a b host' other n bag (call.SetNoDelay id on) answer place trace refl quiet (kept limit hs ts a b own host'.sockets other bag n.openings trace x.3 h)
+    ]
+projects-called limit hs ts a b host host' other n bag place trace (call.SetKeepAlive id every) answer sound opposite is_host is_other numbered fair m h =
+    let own = host.sockets in
+    let quiet = quiet-keepalive hs id every answer in
+    elim (outcome (unless_refused (keepalive_refusal own id every) (tt {0})) (λ _. reply.Done) (after_keepalive own id every) own answer host'.sockets m) [
+      | inl x ↦ plain limit hs ts a b host' other n bag (call.SetKeepAlive id every) answer place trace refl quiet (kept limit hs ts a b (after_keepalive own id every) host'.sockets other bag n.openings trace x.3 (projects-asked limit hs ts a b own other bag n.openings trace id every h))
+      | inr x ↦ plain limit hs ts a b host' other n bag (call.SetKeepAlive id every) answer place trace refl quiet (kept limit hs ts a b own host'.sockets other bag n.openings trace x.3 h)
     ]
 projects-called limit hs ts a b host host' other n bag place trace (call.Close id) answer sound opposite is_host is_other numbered fair m h =
     let own = host.sockets in

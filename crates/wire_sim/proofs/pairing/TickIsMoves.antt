@@ -10,6 +10,7 @@ use Rattle.clock.specs.declared.moment.Moment.{Moment}
 use Rattle.clock.specs.Moments.{has_come}
 use Rattle.tcp_state.specs.declared.calls.Refusal.TheVariants.{ETIMEDOUT}
 use Rattle.tcp_state.specs.View.{View, is_syn_received, is_at_end, after_stop, after_reset}
+use Rattle.tcp_state.specs.Alive.{after_silence}
 use Rattle.tcp_state.specs.Hop.{unheard_until, after_hopless, hopless_fate}
 use Rattle.tcp_state.specs.Timing.{clocked, gives_up, after_timers, after_tick}
 use Rattle.sides.specs.declared.side.Side.{Side}
@@ -106,7 +107,7 @@ role_goes limit now t (Connected c l) there out arrived = by_end (is_at_end c no
 
     -- its timers act, where the moment of one has come
     waiting : (come : Bool) → View
-    waiting come = if come then clocked false (after_timers c now) now else c
+    waiting come = if come then clocked false (after_timers (after_silence c now) now) now else after_silence c now
 
     by_expiry : (gone come : Bool) → Meets limit was
         → Meets limit (pairing (end_with (presence_in (cond (is_kept (if gone then (if c.released || (c.passive && is_syn_received c.state) then Removed else Stays) else Stays)) (Some (Connected (if gone then given_up else waiting come) l)) None)) t) there out arrived)

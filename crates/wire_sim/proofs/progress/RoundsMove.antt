@@ -95,7 +95,7 @@ module _ (limit : ℕ) (writer : Side) (writer_id reader_id : SocketId) (count :
           )
 
   asked : law.MayMove (hosts_from writer old) writer_id reader_id v d
-  asked = record { writer = quiet_writer; reader = quiet_reader; local = may.local; peer = may.peer; sends = may.sends; receives = may.receives; meet = met.meet; few = may.few; some = some_data }
+  asked = record { writer = quiet_writer; reader = quiet_reader; local = may.local; peer = may.peer; sends = may.sends; receives = may.receives; meet = met.meet; few = may.few; patient = may.patient; some = some_data }
 
   exchanged : IsExchange (hosts_from writer old) (hosts_from writer round.answered)
   exchanged = (round-exchange limit writer reader_id count old new met.some run round).1

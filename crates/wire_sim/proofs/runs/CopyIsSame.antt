@@ -1,4 +1,5 @@
 -- A copy of an event is the same event.
+use Rattle.std.proofs.Common.{Some, None}
 use Rattle.std.proofs.lemmas.List.Elements.{same_from_all_zip}
 use Rattle.wire_sim.specs.declared.event.Call.TheVariants as call
 use Rattle.wire_sim.specs.declared.event.Event.{Event}
@@ -19,6 +20,10 @@ cloned (event.Call s (call.SendTo ia pa oa)) (event.Call t (call.SendTo ib pb ob
 cloned (event.Call s (call.RecvFrom ia na)) (event.Call t (call.RecvFrom ib nb)) is = (is.0, let e0 = is.1.0 in let e1 = is.1.1 in cc)
 cloned (event.Call s (call.Shutdown ia)) (event.Call t (call.Shutdown ib)) is = (is.0, let e0 = is.1 in cc)
 cloned (event.Call s (call.SetNoDelay ia oa)) (event.Call t (call.SetNoDelay ib ob)) is = (is.0, let e0 = is.1.0 in let e1 = is.1.1 in cc)
+cloned (event.Call s (call.SetKeepAlive ia None)) (event.Call t (call.SetKeepAlive ib None)) is = (is.0, let e0 = is.1.0 in cc)
+cloned (event.Call s (call.SetKeepAlive ia (Some ea))) (event.Call t (call.SetKeepAlive ib (Some eb))) is = (is.0, let e0 = is.1.0 in let e1 = is.1.1 in cc)
+cloned (event.Call s (call.SetKeepAlive ia None)) (event.Call t (call.SetKeepAlive ib (Some eb))) is = absurd is.1.1
+cloned (event.Call s (call.SetKeepAlive ia (Some ea))) (event.Call t (call.SetKeepAlive ib None)) is = absurd is.1.1
 cloned (event.Call s (call.Close ia)) (event.Call t (call.Close ib)) is = (is.0, let e0 = is.1 in cc)
 cloned (event.Call s (call.Abort ia)) (event.Call t (call.Abort ib)) is = (is.0, let e0 = is.1 in cc)
 cloned (event.Call s (call.State ia)) (event.Call t (call.State ib)) is = (is.0, let e0 = is.1 in cc)

@@ -282,6 +282,10 @@ quiet-connect side isn id peer a i = (refl, refl, refl, refl)
 pub quiet-nodelay : (side : Side) (id : SocketId) (on : Bool) (a : Answer) (i : SocketId) → IsQuiet side i (answered side (call.SetNoDelay id on) a)
 quiet-nodelay side id on a i = (refl, refl, refl, refl)
 
+-- .. and the wish that a silent peer is asked
+pub quiet-keepalive : (side : Side) (id : SocketId) (every : Option ℕ) (a : Answer) (i : SocketId) → IsQuiet side i (answered side (call.SetKeepAlive id every) a)
+quiet-keepalive side id every a i = (refl, refl, refl, refl)
+
 -- an abort, whatever is answered
 pub quiet-abort : (side : Side) (id : SocketId) (a : Answer) (i : SocketId) → IsQuiet side i (answered side (call.Abort id) a)
 quiet-abort side id a i = (refl, refl, refl, refl)

@@ -9,13 +9,14 @@ use Rattle.tcp_halves.specs.Stream.{outstanding, is_new_ack, is_acceptable, rece
 use Rattle.tcp_halves.proofs.Choices.{either, by, both, and_false}
 use Rattle.tcp_state.specs.declared.calls.Refusal.TheVariants.{ECONNREFUSED}
 use Rattle.tcp_state.specs.declared.connection.Fate.TheVariants.{Stays, Removed, Rejected}
-use Rattle.tcp_state.specs.declared.emission.Due.TheVariants.{Rst, Syn, Text, Probe, Ack}
+use Rattle.tcp_state.specs.declared.emission.Due.TheVariants.{Rst, Syn, Text, Probe, Ack, KeepAlive}
 use Rattle.tcp_state.specs.declared.state.State.{State}
 use Rattle.tcp_state.specs.declared.state.State.TheVariants.{SynSent, SynReceived}
 use Rattle.tcp_state.specs.Arrival.{octets_outstanding, fate, is_lost, is_rejected, ends_opening, ends_by_reset, ends_by_syn, is_acceptable_to, is_receiving, is_read, brings_more, is_right_syn_ack, is_simultaneous_syn, after_simultaneous_syn, after_syn_ack, after_rst_in_syn_sent, after_rst, after_acceptable_segment, owing_ack, resend_after, after_segment, after_heard, after_lost, after_ack, after_window, after_text, after_segment_at, before, timed_by}
 use Rattle.tcp_state.specs.Edges.{Hears, after_event}
 use Rattle.tcp_state.specs.Said.{segment_of, IsClosedBy}
 use Rattle.tcp_state.specs.View.{View, IsSound, is_opening, is_closed, is_over, is_syn_sent, is_syn_received, awaits_fin_ack, is_write_closed}
+use Rattle.tcp_state.specs.Alive.{is_alive_due}
 use Rattle.tcp_state.specs.New.{sends_new, sends_fin, waits_no_longer}
 use Rattle.tcp_state.specs.Due.{ack_number, first_due, new_octets, fin_alone as fin_alone_of, ack_due, again_from, new_due}
 use Rattle.tcp_state.specs.Timing.{has_unacknowledged, probes}
@@ -88,7 +89,7 @@ ack_due_first w reset opened fin mark held owes =
     let no_fin : sends_fin w ≡ false = ap (λ b. b && (outstanding w.sending == length w.sending.held) && nat_lt (outstanding w.sending) w.sending.window) fin in
     let none_left : has_unacknowledged w ≡ false = ap (λ n. not (n == 0) || awaits_fin_ack w.state) (ap length held) ∙ fin in
     let unprobed : (w.resend.owes_probe && probes w) ≡ false = ap (λ b. w.resend.owes_probe && (not (is_opening w.state) && (w.sending.window == 0) && b)) none_left ∙ never w.resend.owes_probe (not (is_opening w.state)) (w.sending.window == 0) in
-    let acks : ack_due w ≡ Some Ack = ap (λ b. if b || (not (is_opening w.state) && not (is_closed w.state) && w.spoke && has_grown w.receiving) then Some Ack else None) owes in
+    let acks : ack_due w ≡ Some Ack = ap (λ b. if b || (not (is_opening w.state) && not (is_closed w.state) && w.spoke && has_grown w.receiving) then Some Ack else if is_alive_due w then Some KeepAlive else None) owes in
     ap (λ b. if b then Some Rst else later (is_opening w.state) w.resend.mark) reset
     ∙ (ap (λ b. later b w.resend.mark) opened
     ∙ (ap (λ m. later false m) mark

@@ -86,6 +86,9 @@ impl Station {
             Call::RecvFrom { id, .. } => received_from(host, *id, buffer),
             Call::Shutdown { id } => answered(host.shutdown_write(*id), |()| Answer::Done),
             Call::SetNoDelay { id, on } => answered(host.set_nodelay(*id, *on), |()| Answer::Done),
+            Call::SetKeepAlive { id, every } => {
+                answered(host.set_keepalive(*id, *every), |()| Answer::Done)
+            }
             Call::Close { id } => answered(host.close(*id), |()| Answer::Done),
             Call::Abort { id } => answered(host.abort(*id), |()| Answer::Done),
             Call::State { id } => answered(host.state(*id), Answer::State),
