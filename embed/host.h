@@ -334,6 +334,14 @@ int64_t host_shutdown_write(struct host *host, uint64_t id);
  * HOST_EBADF. HOST_EOPNOTSUPP: UDP, or listening. HOST_ENOTCONN: it has had no connection. */
 int64_t host_set_nodelay(struct host *host, uint64_t id, uint32_t on);
 
+/* Asks the peer of a connection whether it is there, from now on, after so many milliseconds each in which it said nothing, while nothing of
+ * ours waits to go out or to be acknowledged (SO_KEEPALIVE); with `milliseconds` 0 no more, as at first. Where it doesn't answer it is asked again,
+ * twelve times in all; then the connection is over, and its calls tell HOST_ETIMEDOUT. It answers 0.
+ *
+ * HOST_EBADF. HOST_EINVAL: `milliseconds` is neither 0 nor 10,000 to 86,400,000, which is a day. HOST_EOPNOTSUPP: UDP, or listening.
+ * HOST_ENOTCONN: it has had no connection. */
+int64_t host_set_keepalive(struct host *host, uint64_t id, uint64_t milliseconds);
+
 /* Takes the socket away: its id is HOST_EBADF from now on. What was given to a connection still goes out, and its end behind it, unless the peer
  * sends octets after this call: then it is reset, and what has not gone out is lost. So use host_shutdown_write and read to the end where the peer
  * may still send. A connection with octets that nobody read is reset at once. What waits at a listener is reset, and what waits in a UDP socket is

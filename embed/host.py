@@ -184,6 +184,7 @@ _CALLS = {
     "host_recv": [_U64, _OCTETS, _SIZE],
     "host_shutdown_write": [_U64],
     "host_set_nodelay": [_U64, _U32],
+    "host_set_keepalive": [_U64, _U64],
     "host_close": [_U64],
     "host_abort": [_U64],
     "host_sendto": [_U64, _U32, _U16, _OCTETS, _SIZE],
@@ -385,6 +386,10 @@ class Host:
     def set_nodelay(self, id: int, on: bool = True) -> None:
         """Lets small segments of a connection go out at once, and not wait until what went out before is acknowledged; or wait, as at first."""
         self._call("host_set_nodelay", _id(id), int(bool(on)))
+
+    def set_keepalive(self, id: int, milliseconds: Optional[int]) -> None:
+        """Asks the peer of a connection whether it is there, after so many milliseconds each in which it said nothing; None or 0: no more, as at first."""
+        self._call("host_set_keepalive", _id(id), _number(milliseconds or 0, 64, "a time"))
 
     def close(self, id: int) -> None:
         """Takes a socket away. (`free` ends the host.)"""

@@ -22,7 +22,7 @@ import threading
 import time
 
 import linux_pair
-from host import Host, Kind, Ready
+from host import Host, Kind, Ready, State
 
 OURS = "10.0.0.2"  # the host's address
 LINUX = "10.0.0.1"  # Linux's
@@ -195,6 +195,15 @@ def syn_frame(source, port, to_port):
     return MAC + bytes.fromhex(read_about_device("address").replace(":", "")) + b"\x08\x00" + ip + tcp
 
 
+def segment_in(frame):
+    """The number of the TCP segment in a frame, what it acknowledges, and how many octets it has; None where there is none."""
+    if frame[12:14] != b"\x08\x00" or frame[23] != 6:
+        return None
+    tcp = 14 + 4 * (frame[14] & 15)
+    size = 14 + int.from_bytes(frame[16:18], "big") - tcp - 4 * (frame[tcp + 12] >> 4)
+    return (*struct.unpack(">II", frame[tcp + 4:tcp + 12]), size)
+
+
 class OwnHost:
     """A host on the device in this process, in a `with`: its clock begins at 0, and `run` lets it go on. Each frame takes `late` seconds, either way."""
 
@@ -214,6 +223,10 @@ class OwnHost:
 
     def now(self):
         return int((time.monotonic() - self.began) * 1000)
+
+    def pass_over(self, seconds):
+        """So much time passes at once, of the host's clock alone."""
+        self.began -= seconds
 
     def deliver(self, frame):
         self.host.deliver(self.now(), 0, frame)
@@ -569,6 +582,51 @@ def no_delay():
     return f"{goes:.1f} ms at most; without {waits:.1f}"
 
 
+def told_alive(own, id):
+    """Linux says nothing for ten seconds of the host's clock, is asked, and answers. How long the silence was, in milliseconds."""
+    heard, asked, answers = [own.now()], [], []
+
+    def hear(frame):
+        own.deliver(frame)
+        if found := segment_in(frame):
+            (answers if asked else heard).append(found if asked else own.now())
+
+    own.pass_over(9)
+    for frame in own.run(until=lambda: answers, hear=hear):
+        asked.extend((own.now(), *found) for found in [segment_in(frame)] if found)
+    since = heard[-1]
+    want(len(asked) == 1 and len(answers) == 1, f"{len(asked)} segments of the host, {len(answers)} of Linux")
+    (moment, number, _, size), (_, acknowledged, of_linux) = asked[0], answers[0]
+    want((size, of_linux) == (0, 0), f"{size} octets ask, {of_linux} answer")
+    want(acknowledged == (number + 1) % 2**32, f"the number is {number}, and Linux waits for {acknowledged}")
+    want(moment - since >= 9500, f"Linux is asked after {moment - since} ms")
+    want(own.host.state(id) == State.ESTABLISHED, "the connection is over")
+    return moment - since
+
+
+def silent_peer():
+    """Linux is asked whether it is there, and answers. Then no frame comes any more, and the clock goes from one deadline of the host to the next."""
+    with listener() as server, OwnHost() as own:
+        id, connection = own.connected_to(server)
+        with connection:
+            own.host.set_keepalive(id, 10_000)
+            silences = [told_alive(own, id) for _ in range(2)]
+            own.host.send(id, b"hello")
+            own.runs(until=lambda: own.host.info(id).held == 0)
+            want(connection.recv(5) == b"hello", "other octets come")
+            began, probes = own.now(), 0
+            while Ready.FAILED not in own.host.ready(id):
+                now = own.host.next_deadline()
+                want(now is not None, "the host waits for nothing more of a peer that is gone")
+                own.host.tick(now)
+                while frame := own.host.next_frame(now):
+                    probes += segment_in(frame) is not None
+            expect_error(TimeoutError, own.host.recv, id, 1)
+    want(probes == 12, f"{probes} probes of a peer that is gone")
+    after = " and ".join(f"{silence / 1000:.1f}" for silence in silences)
+    return f"asked after {after} s, and answered; cut off, ETIMEDOUT after {probes} probes in {(now - began) / 1000:.0f} s"
+
+
 def linux_refuses():
     done = subprocess.run(command("--connect", LINUX, 9999), stdin=subprocess.DEVNULL, capture_output=True, timeout=10)
     status = (done.returncode, done.stderr.decode().strip())
@@ -810,8 +868,12 @@ def await_server(port):
 
 
 def forward_refused():
-    with Tap("--forward", 80, "127.0.0.1:9999"), connected(80) as client:
-        expect_error(ConnectionResetError, client.recv, 1)
+    def ask():
+        with connected(80) as client:
+            client.recv(1)
+
+    with Tap("--forward", 80, "127.0.0.1:9999"):
+        expect_error(ConnectionResetError, ask)
     return "accepted, and reset at once"
 
 
@@ -874,6 +936,7 @@ CHECKS = [
     ("TCP: the host opens, the host resets", host_resets_what_it_opened, (), ""),
     ("TCP: the host aborts", host_aborts, (), ""),
     ("TCP: write, turn, write, read, 1 ms late each way, no-delay", no_delay, (), ""),
+    ("TCP: a peer that falls silent is found by keep-alive", silent_peer, (), ""),
     ("TCP: a flood of openings from silent addresses", flood_of_openings, (), ""),
     ("TCP: four openings a second", bounded_openings, (), ""),
     ("TCP: 60 connections at once, by readiness alone", by_readiness, (60, 20000), ""),

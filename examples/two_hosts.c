@@ -163,6 +163,8 @@ static void connection(int64_t room)
     CHECK(info.smss == 1460 && info.rto >= 1000 && info.ends == -1 && info.error == 0);
     CHECK(host_info(&b, listener, &info) == HOST_EOPNOTSUPP && host_set_nodelay(&b, listener, 1) == HOST_EOPNOTSUPP);
     CHECK(host_set_nodelay(&a, caller, 1) == 0);
+    CHECK(host_set_keepalive(&b, listener, 10000) == HOST_EOPNOTSUPP && host_set_keepalive(&a, caller, 9999) == HOST_EINVAL);
+    CHECK(host_set_keepalive(&a, caller, 7200000) == 0); /* two hours */
 
     CHECK(host_shutdown_write(&a, caller) == 0);
     turns();

@@ -1,6 +1,6 @@
 /* Plays two hosts over the library, with each growth of memory refused in turn: a connection with octets both ways, a datagram in fragments, an echo
-   request, a close by each side, a connection that is aborted. A refused call changes nothing, and is made again; from then on all is to the octet what it
-   is without the refusal. */
+   request, a silence, a close by each side, a connection that is aborted. A refused call changes nothing, and is made again; from then on all is to the
+   octet what it is without the refusal. */
 #include "host.h"
 #include "refuse.h"
 
@@ -326,6 +326,22 @@ static void echo(void)
     turns();
 }
 
+/* b says nothing for ten seconds, a asks whether it is there, and it answers. */
+static void fall_silent(void)
+{
+    enum { DELAYED_ACK = 200, EVERY = 10000 };
+    uint64_t moment;
+    now += DELAYED_ACK;
+    turns();
+    done(PLAIN(host_set_keepalive(a, caller, EVERY)));
+    want(PLAIN(host_next_deadline(a, &moment)) == 1 && moment == now - 1 + EVERY, "it waits for another moment");
+    now = moment;
+    turns();
+    want(PLAIN(host_next_deadline(a, &moment)) == 1 && moment == now - 1 + EVERY, "it wasn't answered");
+    done(PLAIN(host_set_keepalive(a, caller, 0)));
+    want(PLAIN(host_next_deadline(a, &moment)) == 0, "it waits on");
+}
+
 /* Both sides close, and the one that did so first waits until no old segment can come. */
 static void close_connection(void)
 {
@@ -373,6 +389,7 @@ static void play(uint64_t first, uint64_t last, uint64_t calls)
     say(b, called, a, caller, "welcome");
     send_large();
     echo();
+    fall_silent();
     close_connection();
     abort_connection();
     end_hosts();

@@ -47,6 +47,7 @@ extern "C" {
     pub fn host_recv(host: *mut Host, id: u64, buffer: *mut u8, len: usize) -> i64;
     pub fn host_shutdown_write(host: *mut Host, id: u64) -> i64;
     pub fn host_set_nodelay(host: *mut Host, id: u64, on: u32) -> i64;
+    pub fn host_set_keepalive(host: *mut Host, id: u64, milliseconds: u64) -> i64;
     pub fn host_close(host: *mut Host, id: u64) -> i64;
     pub fn host_abort(host: *mut Host, id: u64) -> i64;
     pub fn host_sendto(host: *mut Host, id: u64, addr: u32, port: u16, octets: *const u8, len: usize) -> i64;

@@ -188,6 +188,16 @@ impl Host {
         done(unsafe { c::host_set_nodelay(&mut self.0, id.0, u32::from(on)) })
     }
 
+    /// Asks the peer of a connection whether it is there, from now on, after so many milliseconds each in which it said nothing, while nothing of ours waits
+    /// to go out or to be acknowledged; or no more, as at first. One that was asked twelve times in vain is given up: ETIMEDOUT.
+    ///
+    /// EINVAL: fewer than 10,000 or more than 86,400,000, a day.
+    pub fn set_keepalive(&mut self, id: SocketId, every: Option<u64>) -> Result<(), Error> {
+        // 0 would say that it isn't asked. 1 is refused as 0 is to be, in its turn.
+        let milliseconds = every.map_or(0, |every| every.max(1));
+        done(unsafe { c::host_set_keepalive(&mut self.0, id.0, milliseconds) })
+    }
+
     /// Takes a socket away. A connection with octets that nobody read is reset, and one whose peer sends more; else what was given still goes out.
     pub fn close(&mut self, id: SocketId) -> Result<(), Error> {
         done(unsafe { c::host_close(&mut self.0, id.0) })

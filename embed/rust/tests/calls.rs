@@ -59,11 +59,18 @@ fn refusals_have_their_names() {
     assert_eq!(host.sockname(stream), Ok(SocketAddrV4::new(Ipv4Addr::UNSPECIFIED, 0)));
     assert_eq!(host.listen(stream, 1), Err(Error::EDESTADDRREQ));
     assert_eq!(host.set_nodelay(stream, true), Err(Error::ENOTCONN));
+    assert_eq!(host.set_keepalive(stream, Some(10_000)), Err(Error::ENOTCONN));
+    assert_eq!(host.set_keepalive(stream, None), Err(Error::ENOTCONN));
+    for every in [0, 9_999, 86_400_001, u64::MAX] {
+        assert_eq!(host.set_keepalive(stream, Some(every)), Err(Error::EINVAL));
+        assert_eq!(host.set_keepalive(none, Some(every)), Err(Error::EBADF));
+    }
     let datagrams = host.socket(Kind::Udp).unwrap();
     assert_eq!(host.state(datagrams), Ok(State::Datagram));
     assert_eq!(host.accept(datagrams), Err(Error::EOPNOTSUPP));
     assert_eq!(host.send(datagrams, b"x"), Err(Error::EDESTADDRREQ));
     assert_eq!(host.set_nodelay(datagrams, true), Err(Error::EOPNOTSUPP));
+    assert_eq!(host.set_keepalive(datagrams, Some(86_400_000)), Err(Error::EOPNOTSUPP));
     assert_eq!(host.sendto(datagrams, SocketAddrV4::new(Ipv4Addr::new(192, 0, 2, 1), 9), b"x"), Err(Error::ENETUNREACH));
     assert_eq!(host.recvfrom(datagrams, &mut [0]), Err(Error::EAGAIN));
     for _ in 2..64 {
@@ -111,6 +118,50 @@ fn an_opening_is_foretold() {
     assert_eq!(host.sockname(id), Ok(ours));
     assert_eq!(host.peername(id), Ok(PEER));
     assert_eq!(host.connect(5, 9, id, PEER), Err(Error::EALREADY));
+}
+
+/// All that is due at the one goes to the other.
+fn carry(now: u64, from: &mut Host, to: &mut Host) {
+    let mut frame = [0; FRAME_SIZE];
+    while let Some(sent) = from.next_frame(now, &mut frame) {
+        to.deliver(now, 5, sent).unwrap();
+    }
+}
+
+#[test]
+fn a_silent_peer_is_asked_and_given_up() {
+    let mut host = host();
+    let mut peer = Host::new(&Config::new([2, 0, 0, 0, 0, 2], *PEER.ip(), &[LINK])).unwrap();
+    let listener = peer.socket(Kind::Tcp).unwrap();
+    peer.bind(listener, PEER).unwrap();
+    peer.listen(listener, 1).unwrap();
+    let id = host.socket(Kind::Tcp).unwrap();
+    host.connect(0, 9, id, PEER).unwrap();
+    for _ in 0..3 {
+        carry(0, &mut host, &mut peer);
+        carry(0, &mut peer, &mut host);
+    }
+    assert_eq!((host.state(id), host.next_deadline()), (Ok(State::Established), None));
+    // It is there, and its answer begins the time anew.
+    host.set_keepalive(id, Some(10_000)).unwrap();
+    assert_eq!(host.next_deadline(), Some(10_000));
+    host.tick(10_000);
+    carry(10_000, &mut host, &mut peer);
+    carry(10_000, &mut peer, &mut host);
+    assert_eq!(host.next_deadline(), Some(20_000));
+    // It is gone: 12 probes, of which the first is waited for as long as the timeout, a second.
+    let mut asked = 0;
+    let mut now = 0;
+    while let Some(moment) = host.next_deadline() {
+        now = moment;
+        host.tick(now);
+        while host.next_frame(now, &mut [0; FRAME_SIZE]).is_some() {
+            asked += 1;
+        }
+    }
+    assert_eq!((asked, now, host.state(id)), (12, 20_000 + 63_000 + 6 * 60_000, Ok(State::Closed)));
+    assert_eq!(host.recv(id, &mut [0]), Err(Error::ETIMEDOUT));
+    assert_eq!(host.set_keepalive(id, None), Ok(()));
 }
 
 /// A link on which one frame arrived, and that counts those that go out.
