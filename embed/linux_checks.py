@@ -195,11 +195,13 @@ def syn_frame(source, port, to_port):
     return MAC + bytes.fromhex(read_about_device("address").replace(":", "")) + b"\x08\x00" + ip + tcp
 
 
-def segment_in(frame):
-    """The number of the TCP segment in a frame, what it acknowledges, and how many octets it has; None where there is none."""
+def segment_in(frame, port):
+    """Of the TCP segment in a frame from or to this port its number, what it acknowledges, and how many octets it has; None where there is none."""
     if frame[12:14] != b"\x08\x00" or frame[23] != 6:
         return None
     tcp = 14 + 4 * (frame[14] & 15)
+    if port not in struct.unpack(">HH", frame[tcp:tcp + 4]):
+        return None
     size = 14 + int.from_bytes(frame[16:18], "big") - tcp - 4 * (frame[tcp + 12] >> 4)
     return (*struct.unpack(">II", frame[tcp + 4:tcp + 12]), size)
 
@@ -582,18 +584,18 @@ def no_delay():
     return f"{goes:.1f} ms at most; without {waits:.1f}"
 
 
-def told_alive(own, id):
-    """Linux says nothing for ten seconds of the host's clock, is asked, and answers. How long the silence was, in milliseconds."""
+def told_alive(own, id, port):
+    """Linux says nothing for ten seconds of the host's clock, is asked on the connection to this port, and answers. How many milliseconds it said nothing."""
     heard, asked, answers = [own.now()], [], []
 
     def hear(frame):
         own.deliver(frame)
-        if found := segment_in(frame):
+        if found := segment_in(frame, port):
             (answers if asked else heard).append(found if asked else own.now())
 
     own.pass_over(9)
     for frame in own.run(until=lambda: answers, hear=hear):
-        asked.extend((own.now(), *found) for found in [segment_in(frame)] if found)
+        asked.extend((own.now(), *found) for found in [segment_in(frame, port)] if found)
     since = heard[-1]
     want(len(asked) == 1 and len(answers) == 1, f"{len(asked)} segments of the host, {len(answers)} of Linux")
     (moment, number, _, size), (_, acknowledged, of_linux) = asked[0], answers[0]
@@ -610,7 +612,8 @@ def silent_peer():
         id, connection = own.connected_to(server)
         with connection:
             own.host.set_keepalive(id, 10_000)
-            silences = [told_alive(own, id) for _ in range(2)]
+            port = server.getsockname()[1]
+            silences = [told_alive(own, id, port) for _ in range(2)]
             own.host.send(id, b"hello")
             own.runs(until=lambda: own.host.info(id).held == 0)
             want(connection.recv(5) == b"hello", "other octets come")
@@ -620,7 +623,7 @@ def silent_peer():
                 want(now is not None, "the host waits for nothing more of a peer that is gone")
                 own.host.tick(now)
                 while frame := own.host.next_frame(now):
-                    probes += segment_in(frame) is not None
+                    probes += segment_in(frame, port) is not None
             expect_error(TimeoutError, own.host.recv, id, 1)
     want(probes == 12, f"{probes} probes of a peer that is gone")
     after = " and ".join(f"{silence / 1000:.1f}" for silence in silences)
