@@ -1,98 +1,167 @@
 -- The congestion window along lists of events: its range, and its growth by a new ACK.
-use Rattle.std.proofs.Common.{◌≡◌, ℕ, ◌+◌, ◌^◌, ◌<◌, ◌≤◌, Bool, true, false, List, [], ◌∷◌, ◌++◌, fold, if◌then◌else◌, refl, arith}
+use Rattle.std.proofs.Common.{◌≡◌, ℕ, ◌+◌, ◌*◌, ◌^◌, ◌<◌, ◌≤◌, min, Bool, true, false, List, [], ◌∷◌, ◌++◌, fold, if◌then◌else◌, refl, ◌/◌, arith}
+use Rattle.std.specs.List.{AllByRecursion}
 use Rattle.std.proofs.Math.Nat.{div-le_of_le-mul, mul-le-mul_right}
 use Rattle.std.proofs.lemmas.Bool.Decides.{nat_tests}
 use Rattle.std.proofs.lemmas.List.Sums.{fold-append}
-use Rattle.congestion.specs.Window.{Window, bounded, initial_window, is_recovering, growth, after_new_ack, after_expiry, after_duplicate}
-use Rattle.congestion.specs.Events.{Event, after_event, window_after}
-use Rattle.congestion.specs.Events.Event.{NewAck, Expiry, Duplicate}
+use Rattle.congestion.specs.declared.control.Control.{Control}
+use Rattle.congestion.specs.Control.{repairs, initial_segments}
+use Rattle.congestion.specs.Window.{Window, bounded, initial_window, is_recovering, most_counted, growth, after_new_ack, after_partial_ack, after_expiry, after_duplicate}
+use Rattle.congestion.specs.Events.{Event, IsNotPartial, after_event, window_after}
+use Rattle.congestion.specs.Events.Event.{NewAck, PartialAck, Expiry, Duplicate}
 
 -- what holds of every window with segments of this size
-record IsReached (smss : ℕ) (w : Window) : Type 0 where
+record IsReached (control : Control) (smss : ℕ) (w : Window) : Type 0 where
+  same : w.control ≡ control
   segment : w.smss ≡ smss
   least : smss ≤ w.cwnd
   most : w.cwnd ≤ 2 ^ 30
   threshold : smss ≤ w.ssthresh
-  -- a recovery ends no higher than it stands
-  recovery : is_recovering w ≡ true → bounded w.ssthresh ≤ w.cwnd
 
-new_ack_keeps : (smss octets : ℕ) (w : Window) → smss ≤ 1460 → IsReached smss w → IsReached smss (after_new_ack w octets)
-new_ack_keeps smss octets w most reached = record {
+new_ack_keeps : (control : Control) (smss octets flight : ℕ) (w : Window) → smss ≤ 1460 → IsReached control smss w → IsReached control smss (after_new_ack w octets flight)
+new_ack_keeps control smss octets flight w most reached = record {
+  same = reached.same;
   segment = reached.segment;
   least = grind (arith, nat_tests);
   most = omega arith;
   threshold = reached.threshold;
-  recovery = grind (arith, nat_tests);
 }
 
-expiry_keeps : (smss flight : ℕ) (w : Window) → smss ≤ 1460 → IsReached smss w → IsReached smss (after_expiry w flight)
-expiry_keeps smss flight w most reached = record {
+partial_ack_keeps : (control : Control) (smss octets : ℕ) (w : Window) → smss ≤ 1460 → IsReached control smss w → IsReached control smss (after_partial_ack w octets)
+partial_ack_keeps control smss octets w most reached = record {
+  same = reached.same;
+  segment = reached.segment;
+  least = omega arith;
+  most = grind (arith, nat_tests);
+  threshold = reached.threshold;
+}
+
+expiry_keeps : (control : Control) (smss flight : ℕ) (w : Window) → smss ≤ 1460 → IsReached control smss w → IsReached control smss (after_expiry w flight)
+expiry_keeps control smss flight w most reached = record {
+  same = reached.same;
   segment = reached.segment;
   least = omega arith;
   most = omega arith;
   threshold = grind (arith, nat_tests);
-  recovery = grind (arith, nat_tests);
 }
 
-duplicate_keeps : (smss flight : ℕ) (w : Window) → smss ≤ 1460 → IsReached smss w → IsReached smss (after_duplicate w flight)
-duplicate_keeps smss flight w most reached = record {
+duplicate_keeps : (control : Control) (smss flight : ℕ) (w : Window) → smss ≤ 1460 → IsReached control smss w → IsReached control smss (after_duplicate w flight)
+duplicate_keeps control smss flight w most reached = record {
+  same = grind (arith, nat_tests);
   segment = grind (arith, nat_tests);
   least = grind (arith, nat_tests);
   most = grind (arith, nat_tests);
   threshold = grind (arith, nat_tests);
-  recovery = grind (arith, nat_tests);
 }
 
-event_keeps : (smss : ℕ) (w : Window) (e : Event) → smss ≤ 1460 → IsReached smss w → IsReached smss (after_event w e)
-event_keeps smss w (NewAck octets) most reached = new_ack_keeps smss octets w most reached
-event_keeps smss w (Expiry flight) most reached = expiry_keeps smss flight w most reached
-event_keeps smss w (Duplicate flight) most reached = duplicate_keeps smss flight w most reached
+event_keeps : (control : Control) (smss : ℕ) (w : Window) (e : Event) → smss ≤ 1460 → IsReached control smss w → IsReached control smss (after_event w e)
+event_keeps control smss w (NewAck octets flight) most reached = new_ack_keeps control smss octets flight w most reached
+event_keeps control smss w (PartialAck octets) most reached = partial_ack_keeps control smss octets w most reached
+event_keeps control smss w (Expiry flight) most reached = expiry_keeps control smss flight w most reached
+event_keeps control smss w (Duplicate flight) most reached = duplicate_keeps control smss flight w most reached
 
-events_keep : (smss : ℕ) (events : List Event) (w : Window) → smss ≤ 1460 → IsReached smss w → IsReached smss (fold after_event w events)
-events_keep smss [] w most reached = reached
-events_keep smss (e ∷ events) w most reached =
-    events_keep smss events (after_event w e) most (event_keeps smss w e most reached)
+events_keep : (control : Control) (smss : ℕ) (events : List Event) (w : Window) → smss ≤ 1460 → IsReached control smss w → IsReached control smss (fold after_event w events)
+events_keep control smss [] w most reached = reached
+events_keep control smss (e ∷ events) w most reached =
+    events_keep control smss events (after_event w e) most (event_keeps control smss w e most reached)
 
-first_reached : (smss : ℕ) (resent : Bool) → smss ≤ 1460 → IsReached smss (initial_window smss resent)
-first_reached smss resent most = record {
-  segment = grind arith;
-  least = grind (arith, nat_tests);
-  most = grind (arith, nat_tests);
-  threshold = omega arith;
-  recovery = grind (arith, nat_tests);
-}
+-- a segment at least, and ten at most
+segments_few : (control : Control) (smss : ℕ) (resent : Bool) → (1 ≤ initial_segments control smss resent) × (initial_segments control smss resent ≤ 10)
+segments_few control smss resent = (grind (arith, nat_tests), grind (arith, nat_tests))
 
-reached : (smss : ℕ) (resent : Bool) (events : List Event) → smss ≤ 1460 → IsReached smss (window_after smss resent events)
-reached smss resent events most =
-    events_keep smss events (initial_window smss resent) most (first_reached smss resent most)
+product_fits : (segments smss : ℕ) → 1 ≤ segments → segments ≤ 10 → (smss ≤ segments * smss) × (segments * smss ≤ 10 * smss)
+product_fits segments smss least most = (let one : 1 * smss ≤ segments * smss = mul-le-mul_right smss least in omega arith, mul-le-mul_right smss most)
 
-pub window-least : (smss : ℕ) (resent : Bool) (events : List Event) → 64 ≤ smss → smss ≤ 1460
-    → smss ≤ (window_after smss resent events).cwnd
-window-least smss resent events least most = (reached smss resent events most).least
+first_reached : (control : Control) (smss : ℕ) (resent : Bool) → smss ≤ 1460 → IsReached control smss (initial_window control smss resent)
+first_reached control smss resent most =
+    let few = segments_few control smss resent in
+    let fits = product_fits (initial_segments control smss resent) smss few.0 few.1 in
+    record {
+      same = refl;
+      segment = refl;
+      least = fits.0;
+      most = omega (arith, fits.1);
+      threshold = omega arith;
+    }
 
-pub window-most : (smss : ℕ) (resent : Bool) (events : List Event) → 64 ≤ smss → smss ≤ 1460
-    → (window_after smss resent events).cwnd ≤ 2 ^ 30
-window-most smss resent events least most = (reached smss resent events most).most
+reached : (control : Control) (smss : ℕ) (resent : Bool) (events : List Event) → smss ≤ 1460 → IsReached control smss (window_after control smss resent events)
+reached control smss resent events most =
+    events_keep control smss events (initial_window control smss resent) most (first_reached control smss resent most)
 
--- no growth is over a segment
-growth_small : (smss octets : ℕ) (w : Window) → 0 < smss → IsReached smss w → growth w octets ≤ smss
-growth_small smss octets w positive reached =
+pub window-least : (control : Control) (smss : ℕ) (resent : Bool) (events : List Event) → 64 ≤ smss → smss ≤ 1460
+    → smss ≤ (window_after control smss resent events).cwnd
+window-least control smss resent events least most = (reached control smss resent events most).least
+
+pub window-most : (control : Control) (smss : ℕ) (resent : Bool) (events : List Event) → 64 ≤ smss → smss ≤ 1460
+    → (window_after control smss resent events).cwnd ≤ 2 ^ 30
+window-most control smss resent events least most = (reached control smss resent events most).most
+
+-- Without partial ACKs a recovery ends no higher than it stands.
+abbrev EndsNoHigher : Window → Type 0
+EndsNoHigher w = is_recovering w ≡ true → bounded w.ssthresh ≤ w.cwnd
+
+event_ends : (control : Control) (smss : ℕ) (w : Window) (e : Event) → IsNotPartial e → smss ≤ 1460 → IsReached control smss w → EndsNoHigher w → EndsNoHigher (after_event w e)
+event_ends control smss w (NewAck octets flight) whole most has ends = grind (arith, nat_tests)
+event_ends control smss w (PartialAck _) whole most has ends = elim whole [ ]
+event_ends control smss w (Expiry flight) whole most has ends = grind (arith, nat_tests)
+event_ends control smss w (Duplicate flight) whole most has ends = grind (arith, nat_tests)
+
+events_end : (control : Control) (smss : ℕ) (events : List Event) (w : Window) → AllByRecursion IsNotPartial events → smss ≤ 1460 → IsReached control smss w → EndsNoHigher w → EndsNoHigher (fold after_event w events)
+events_end control smss [] w whole most has ends = ends
+events_end control smss (e ∷ events) w whole most has ends =
+    events_end control smss events (after_event w e) whole.1 most (event_keeps control smss w e most has) (event_ends control smss w e whole.0 most has ends)
+
+-- what is divided by the window is no more than is counted
+quotient_small : (control : Control) (smss counted : ℕ) (w : Window) → 0 < smss → IsReached control smss w → w.smss * counted / w.cwnd ≤ counted
+quotient_small control smss counted w positive reached =
     let fits : w.smss ≤ w.cwnd = omega arith in
-    let quotient = div-le_of_le-mul w.cwnd (mul-le-mul_right w.smss fits) in
+    div-le_of_le-mul w.cwnd (mul-le-mul_right counted fits)
+
+-- no growth is over a segment where losses are not repaired ..
+growth_small : (control : Control) (smss octets : ℕ) (w : Window) → 0 < smss → repairs w.control ≡ false → IsReached control smss w → growth w octets ≤ smss
+growth_small control smss octets w positive plain reached =
+    let quotient = quotient_small control smss w.smss w positive reached in
     grind (arith, nat_tests)
 
 -- either way of a new ACK
-adds_small : (recovering : Bool) (ssthresh cwnd added smss : ℕ) → (recovering ≡ true → bounded ssthresh ≤ cwnd) → added ≤ smss
-    → bounded (if recovering then ssthresh else cwnd + added) ≤ cwnd + smss
-adds_small true ssthresh cwnd added smss ends small = omega (arith, ends refl)
-adds_small false ssthresh cwnd added smss ends small = omega arith
+adds_small : (recovering : Bool) (ending cwnd added smss : ℕ) → (recovering ≡ true → bounded ending ≤ cwnd) → added ≤ smss
+    → bounded (if recovering then ending else cwnd + added) ≤ cwnd + smss
+adds_small true ending cwnd added smss ends small = omega (arith, ends refl)
+adds_small false ending cwnd added smss ends small = omega arith
 
-new_ack_adds : (smss octets : ℕ) (w : Window) → 0 < smss → IsReached smss w → (after_new_ack w octets).cwnd ≤ w.cwnd + smss
-new_ack_adds smss octets w positive reached =
-    adds_small (is_recovering w) w.ssthresh w.cwnd (growth w octets) smss reached.recovery (growth_small smss octets w positive reached)
+new_ack_adds : (control : Control) (smss octets flight : ℕ) (w : Window) → 0 < smss → repairs w.control ≡ false → IsReached control smss w → EndsNoHigher w
+    → (after_new_ack w octets flight).cwnd ≤ w.cwnd + smss
+new_ack_adds control smss octets flight w positive plain reached ends =
+    let small = growth_small control smss octets w positive plain reached in
+    grind (arith, nat_tests)
 
-pub new_ack-adds : (smss : ℕ) (resent : Bool) (events : List Event) (octets : ℕ) → 64 ≤ smss → smss ≤ 1460
-    → (window_after smss resent (events ++ NewAck octets ∷ [])).cwnd ≤ (window_after smss resent events).cwnd + smss
-new_ack-adds smss resent events octets least most =
-    rw (fold-append after_event (initial_window smss resent) events (NewAck octets ∷ []))
-    (new_ack_adds smss octets (window_after smss resent events) (omega arith) (reached smss resent events most))
+pub new_ack-adds : (control : Control) (smss : ℕ) (resent : Bool) (events : List Event) (octets flight : ℕ) → 64 ≤ smss → smss ≤ 1460
+    → repairs control ≡ false → AllByRecursion IsNotPartial events
+    → (window_after control smss resent (events ++ NewAck octets flight ∷ [])).cwnd ≤ (window_after control smss resent events).cwnd + smss
+new_ack-adds control smss resent events octets flight least most plain whole =
+    let was = reached control smss resent events most in
+    let none : EndsNoHigher (initial_window control smss resent) = λ begins. let bad : false ≡ true = begins in cc in
+    let ends = events_end control smss events (initial_window control smss resent) whole most (first_reached control smss resent most) none in
+    rw (fold-append after_event (initial_window control smss resent) events (NewAck octets flight ∷ []))
+    (new_ack_adds control smss octets flight (window_after control smss resent events) (omega arith) (rw was.same plain) was ends)
+
+-- .. nor over two where they are
+growth_counted : (control : Control) (smss octets : ℕ) (w : Window) → 0 < smss → IsReached control smss w → growth w octets ≤ 2 * smss
+growth_counted control smss octets w positive reached =
+    let one = quotient_small control smss w.smss w positive reached in
+    let counted = quotient_small control smss (min octets (most_counted w)) w positive reached in
+    let few : most_counted w ≤ 2 * w.smss = grind (arith, nat_tests) in
+    grind (arith, nat_tests)
+
+new_ack_counts : (control : Control) (smss octets flight : ℕ) (w : Window) → 0 < smss → IsReached control smss w → is_recovering w ≡ false
+    → (after_new_ack w octets flight).cwnd ≤ w.cwnd + 2 * smss
+new_ack_counts control smss octets flight w positive reached stands =
+    let small = growth_counted control smss octets w positive reached in
+    grind (arith, nat_tests)
+
+pub new_ack-counts : (control : Control) (smss : ℕ) (resent : Bool) (events : List Event) (octets flight : ℕ) → 64 ≤ smss → smss ≤ 1460
+    → is_recovering (window_after control smss resent events) ≡ false
+    → (window_after control smss resent (events ++ NewAck octets flight ∷ [])).cwnd ≤ (window_after control smss resent events).cwnd + 2 * smss
+new_ack-counts control smss resent events octets flight least most stands =
+    rw (fold-append after_event (initial_window control smss resent) events (NewAck octets flight ∷ []))
+    (new_ack_counts control smss octets flight (window_after control smss resent events) (omega arith) (reached control smss resent events most) stands)

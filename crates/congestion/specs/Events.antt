@@ -1,21 +1,30 @@
--- The congestion window after a list of events (RFC 5681 sections 3.1 and 3.2).
-use Rattle.std.specs.Prelude.{ℕ, Bool, List, fold}
-use Rattle.congestion.specs.Window.{Window, initial_window, after_new_ack, after_expiry, after_duplicate}
+-- The congestion window after a list of events (RFC 5681 sections 3.1 and 3.2, RFC 6582 section 3.2).
+use Rattle.std.specs.Prelude.{ℕ, ⊤, Bool, List, fold}
+use Rattle.congestion.specs.declared.control.Control.{Control}
+use Rattle.congestion.specs.Window.{Window, initial_window, after_new_ack, after_partial_ack, after_expiry, after_duplicate}
 
 -- what happens to the window of a connection
 pub data Event : Type 0 where
-  -- an ACK of so many new octets
-  NewAck : ℕ → Event
+  -- an ACK of so many new octets, behind which so many are in flight
+  NewAck : ℕ → ℕ → Event
+  -- an ACK of so many new octets, in a recovery that goes on
+  PartialAck : ℕ → Event
   -- the retransmission timer expired with so many octets in flight
   Expiry : ℕ → Event
   -- a duplicate ACK with so many octets in flight
   Duplicate : ℕ → Event
 
 abbrev pub after_event : Window → Event → Window
-after_event w (NewAck octets) = after_new_ack w octets
+after_event w (NewAck octets flight) = after_new_ack w octets flight
+after_event w (PartialAck octets) = after_partial_ack w octets
 after_event w (Expiry flight) = after_expiry w flight
 after_event w (Duplicate flight) = after_duplicate w flight
 
+-- what comes also where no recovery goes on
+abbrev pub IsNotPartial : Event → Type 0
+IsNotPartial (PartialAck octets) = ⊥
+IsNotPartial _ = ⊤
+
 -- the window of a connection to which these events came, the first one first
-abbrev pub window_after : ℕ → Bool → List Event → Window
-window_after smss resent events = fold after_event (initial_window smss resent) events
+abbrev pub window_after : Control → ℕ → Bool → List Event → Window
+window_after control smss resent events = fold after_event (initial_window control smss resent) events

@@ -4,9 +4,11 @@ use Rattle.congestion.specs.Window.{Window}
 
 abbrev pub view_of : Inside → Window
 view_of c = record {
+  control = c.control;
   smss = c.smss;
   cwnd = c.cwnd;
   ssthresh = c.ssthresh;
   duplicates = c.duplicates;
   expired = c.expired;
+  restarts = c.restarts;
 }

@@ -1,3 +1,4 @@
+pub mod Control
 pub mod Window
 pub mod Events
 pub mod Inside

@@ -1,7 +1,11 @@
--- The congestion window in octets (RFC 5681 sections 3.1 and 3.2).
-use Rattle.std.specs.Prelude.{ℕ, ◌+◌, ◌*◌, ◌/◌, ◌^◌, ◌≤◌, ◌==◌, nat_le, nat_lt, min, max, Bool, true, false, if◌then◌else◌}
+-- The congestion window in octets (RFC 5681 sections 3.1 and 3.2); and where the set-up says that losses are repaired, as RFC 6582, RFC 3042 and RFC 3465 have it.
+use Rattle.std.specs.Prelude.{ℕ, ◌+◌, ◌-◌, ◌*◌, ◌/◌, ◌^◌, ◌≤◌, ◌==◌, ◌&&◌, not, nat_le, nat_lt, min, max, Bool, true, false, if◌then◌else◌}
+use Rattle.congestion.specs.declared.control.Control.{Control}
+use Rattle.congestion.specs.Control.{repairs, initial_cwnd, initial_ssthresh}
 
 pub record Window : Type 0 where
+  -- what the set-up says of it
+  pub control : Control
   -- the size of the largest segment that the sender sends, without headers
   pub smss : ℕ
   pub cwnd : ℕ
@@ -10,48 +14,86 @@ pub record Window : Type 0 where
   pub duplicates : ℕ
   -- whether the timer expired since the last new ACK
   pub expired : Bool
+  -- whether the slow start that runs began with an expiry
+  pub restarts : Bool
 
 -- no window is larger than 2 ^ 30
 abbrev pub bounded : ℕ → ℕ
 bounded octets = min octets (2 ^ 30)
 
--- two to four segments, or a single one where a SYN or a SYN-ACK went out again (section 3.1)
-abbrev pub initial_cwnd : ℕ → Bool → ℕ
-initial_cwnd smss resent =
-    if resent then smss
-    else if nat_lt 2190 smss then 2 * smss
-    else if nat_lt 1095 smss then 3 * smss
-    else 4 * smss
-
-abbrev pub initial_window : ℕ → Bool → Window
-initial_window smss resent = record {
+abbrev pub initial_window : Control → ℕ → Bool → Window
+initial_window control smss resent = record {
+  control = control;
   smss = smss;
-  cwnd = initial_cwnd smss resent;
-  ssthresh = 65535;
+  cwnd = initial_cwnd control smss resent;
+  ssthresh = initial_ssthresh control;
   duplicates = 0;
   expired = false;
+  restarts = false;
 }
 
--- Fast recovery runs from the third duplicate ACK to the next new ACK or expiry (section 3.2).
+-- Fast recovery runs from the third duplicate ACK to the ACK or the expiry that ends it (section 3.2).
 abbrev pub is_recovering : Window → Bool
 is_recovering w = nat_le 3 w.duplicates
 
+-- a recovery that an ACK of some of what was outstanding at its beginning doesn't end (RFC 6582 section 3.2, step 3)
+abbrev pub goes_on : Window → Bool
+goes_on w = repairs w.control && is_recovering w
+
+-- How much may be in flight: the window; and with limited transmit a segment more for each of the first two duplicate ACKs (RFC 3042 section 2).
+abbrev pub allowed : Window → ℕ
+allowed w = if repairs w.control && not (is_recovering w) then w.cwnd + w.duplicates * w.smss else w.cwnd
+
+abbrev pub in_slow_start : Window → Bool
+in_slow_start w = nat_lt w.cwnd w.ssthresh
+
 -- what an ACK of new octets adds: these in slow start, a segment at most; in congestion avoidance about a segment
 -- each round trip (section 3.1)
+abbrev pub segment_growth : Window → ℕ → ℕ
+segment_growth w octets = if in_slow_start w then min octets w.smss else max 1 (w.smss * w.smss / w.cwnd)
+
+-- .. and where octets are counted, of two segments at most, but of one in a slow start that follows an expiry (RFC 3465 sections 2.2 and 2.3)
+abbrev pub most_counted : Window → ℕ
+most_counted w = if w.restarts && in_slow_start w then w.smss else 2 * w.smss
+
+abbrev pub counted_growth : Window → ℕ → ℕ
+counted_growth w octets = let counted = min octets (most_counted w) in if in_slow_start w then counted else max 1 (w.smss * counted / w.cwnd)
+
 abbrev pub growth : Window → ℕ → ℕ
-growth w octets = if nat_lt w.cwnd w.ssthresh then min octets w.smss else max 1 (w.smss * w.smss / w.cwnd)
+growth w octets = if repairs w.control then counted_growth w octets else segment_growth w octets
+
+-- what no growth is over: a segment; or two where octets are counted
+abbrev pub most_growth : Window → ℕ
+most_growth w = if repairs w.control then 2 * w.smss else w.smss
 
 -- half of what is in flight, two segments at least (section 3.1, equation 4)
 abbrev pub half_of : ℕ → ℕ → ℕ
 half_of flight smss = max (flight / 2) (2 * smss)
 
--- an ACK of so many new octets; one that ends a recovery adds nothing
-abbrev pub after_new_ack : Window → ℕ → Window
-after_new_ack w octets = record w {
-  cwnd = bounded (if is_recovering w then w.ssthresh else w.cwnd + growth w octets);
+-- what is in flight without that which limited transmit sent past the window (section 3.2, step 2)
+abbrev pub flight_within : Window → ℕ → ℕ
+flight_within w flight = if repairs w.control then min flight w.cwnd else flight
+
+-- the window at the end of a recovery: the threshold (section 3.2, step 6), or no more than a segment past what is still in flight (RFC 6582 section 3.2, step 3)
+abbrev pub ending_cwnd : Window → ℕ → ℕ
+ending_cwnd w flight = if repairs w.control then min w.ssthresh (max flight w.smss + w.smss) else w.ssthresh
+
+-- an ACK of so many new octets, behind which so many are in flight; one that ends a recovery adds nothing
+abbrev pub after_new_ack : Window → ℕ → ℕ → Window
+after_new_ack w octets flight = record w {
+  cwnd = bounded (if is_recovering w then ending_cwnd w flight else w.cwnd + growth w octets);
   duplicates = 0;
   expired = false;
+  restarts = w.restarts && in_slow_start w;
 }
+
+-- less by what left the network, and more by the segment that goes out again where that was one or more (RFC 6582 section 3.2, step 3); a segment at least
+abbrev pub deflated : Window → ℕ → ℕ
+deflated w octets = max w.smss (w.cwnd - octets + (if nat_le w.smss octets then w.smss else 0))
+
+-- an ACK of so many new octets, at which the recovery goes on
+abbrev pub after_partial_ack : Window → ℕ → Window
+after_partial_ack w octets = record w { cwnd = deflated w octets; expired = false }
 
 -- the timer expired. A segment that is lost again leaves the threshold as it is.
 abbrev pub after_expiry : Window → ℕ → Window
@@ -60,6 +102,7 @@ after_expiry w flight = record w {
   ssthresh = if w.expired then w.ssthresh else half_of flight w.smss;
   duplicates = 0;
   expired = true;
+  restarts = true;
 }
 
 -- whether the next duplicate ACK is the third
@@ -68,10 +111,11 @@ third_is_next w = w.duplicates == 2
 
 -- the third duplicate ACK: a segment counts as lost, and three have left the network
 abbrev pub after_third : Window → ℕ → Window
-after_third w flight = let half = half_of flight w.smss in record w {
+after_third w flight = let half = half_of (flight_within w flight) w.smss in record w {
   cwnd = bounded (half + 3 * w.smss);
   ssthresh = half;
   duplicates = 3;
+  restarts = false;
 }
 
 -- a duplicate ACK; in a recovery it tells that one more segment has left the network

@@ -1,14 +1,14 @@
 //! How a host is set up.
 
-ghost use Rattle.std.specs.Prelude.{◌≡◌, ◌↔◌, true, false, IfOk, IfErr, IsOk, length};
-ghost use Rattle.host.specs.ConfigView.{IsOfOne};
+ghost use Rattle.std.specs.Prelude.{◌≡◌, ◌↔◌, true, IfOk, IfErr, IsOk, length};
+ghost use Rattle.host.specs.ConfigView.{IsOfOne, usual_manner};
 
 use ether::{Mac, is_whole_mac};
 use ipv4::Addr;
 use routes::Routes;
 use sockets::Refusal;
 use std::marker::Model;
-use tcp_state::Manner;
+use tcp_state::{Control, Manner, Recovery};
 
 /// How a host is set up: its MAC, its address and its routes, and how its connections behave.
 #[derive(Drop)]
@@ -38,7 +38,7 @@ impl Config {
     /// section 3.2.1.3), or the MAC is that of a group, with the low bit of its first octet set.
     pub fn new(mac: Mac, addr: Addr, routes: Routes) -> Result<Config, Refusal>
         ensures valid { IsOk result ↔ (IsUnicast addr × IsOfOne mac) }
-        ensures value { IfOk result (λ config. config ≡ record { mac = mac; addr = addr; routes = routes; manner = record { scales = true; minshall = false } }) }
+        ensures value { IfOk result (λ config. config ≡ record { mac = mac; addr = addr; routes = routes; manner = usual_manner }) }
         ensures refusal { IfErr result (λ refusal. refusal ≡ Refusal.EINVAL) }
     {
         if addr.is_unicast() && is_of_one(mac) {
@@ -49,6 +49,8 @@ impl Config {
                 manner: Manner {
                     scales: true,
                     minshall: false,
+                    control: Control::PLAIN,
+                    least_timeout: 1_000,
                 },
             })
         } else {
@@ -80,6 +82,54 @@ impl Config {
         Config { manner, ..self }
     }
 
+    /// The same set-up of a host whose connections repair losses so: by `Recovery::NewReno` with what RFC 6582, 3042 and 3465 have beside RFC 5681 section
+    /// 3.2, or by `Recovery::Plain` with that section alone, as one that `new` makes.
+    pub fn with_recovery(self, recovery: Recovery) -> Config
+        ensures { result ≡ record self { manner = record self.manner { control = record self.manner.control { recovery = recovery } } } }
+    {
+        let control = Control {
+            recovery,
+            ..self.manner.control
+        };
+        self.with_control(control)
+    }
+
+    /// The same set-up of a host whose connections begin with a slow start threshold of so many octets (RFC 5681 section 3.1): 65,535 at least and 2^30 at
+    /// most, and another number counts as the nearest of these. One that `new` makes has 65,535.
+    pub fn with_threshold(self, octets: u32) -> Config
+        ensures { result ≡ record self { manner = record self.manner { control = record self.manner.control { first_threshold = octets } } } }
+    {
+        let control = Control {
+            first_threshold: octets,
+            ..self.manner.control
+        };
+        self.with_control(control)
+    }
+
+    /// The same set-up of a host whose connections begin with a congestion window of so many segments: 10 at most (RFC 6928), and a larger number counts as
+    /// 10. With 0 they begin with two to four, by the size of a segment (RFC 5681 section 3.1), as those of one that `new` makes.
+    pub fn with_first_segments(self, segments: u8) -> Config
+        ensures { result ≡ record self { manner = record self.manner { control = record self.manner.control { first_segments = segments } } } }
+    {
+        let control = Control {
+            first_segments: segments,
+            ..self.manner.control
+        };
+        self.with_control(control)
+    }
+
+    /// The same set-up of a host whose retransmission timeouts are so many milliseconds at least: 200 to 1,000, and another number counts as the nearest of
+    /// these. One that `new` makes has 1,000, as RFC 6298 section 2.4 asks; on a real network that is long.
+    pub fn with_least_timeout(self, milliseconds: u16) -> Config
+        ensures { result ≡ record self { manner = record self.manner { least_timeout = milliseconds } } }
+    {
+        let manner = Manner {
+            least_timeout: milliseconds,
+            ..self.manner
+        };
+        Config { manner, ..self }
+    }
+
     /// The MAC of the host's interface.
     pub fn mac(&self) -> Mac
         ensures { result ≡ self.now.mac }
@@ -99,6 +149,17 @@ impl Config {
         ensures { IsConfig self.now }
     {
         is_whole_mac(self.mac);
+    }
+
+    /// The same set-up with this for the congestion control of its connections.
+    fn with_control(self, control: Control) -> Config
+        ensures { result ≡ record self { manner = record self.manner { control = control } } }
+    {
+        let manner = Manner {
+            control,
+            ..self.manner
+        };
+        Config { manner, ..self }
     }
 
     /// Its parts.

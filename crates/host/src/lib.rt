@@ -24,3 +24,4 @@ pub use given_up::GivenUp;
 pub use host::Host;
 pub use lack::Lack;
 pub use sockets::{Info, Kind, Ready, Refusal, SocketId, SocketState};
+pub use tcp_state::Recovery;

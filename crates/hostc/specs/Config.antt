@@ -1,6 +1,9 @@
 -- `struct host_config` by its octets. Its numbers have their lowest octet first.
-use Rattle.std.specs.Prelude.{◌≡◌, ◌≤◌, ◌==◌, ℕ, List, All, length, take, drop, slice_index}
+use Rattle.std.specs.Prelude.{◌≡◌, ◌≤◌, ◌==◌, ℕ, nat_lt, if◌then◌else◌, true, false, List, All, length, take, drop, slice_index}
 use Rattle.byteorder.specs.Endian.{little_number}
+use Rattle.congestion.specs.declared.control.Recovery.{Recovery}
+use Rattle.congestion.specs.declared.control.Recovery.TheVariants.{Plain, NewReno}
+use Rattle.ether.specs.declared.mac.Mac.{Mac}
 use Rattle.hostc.specs.declared.config.Config.{Config}
 
 -- the size that it gives itself
@@ -15,14 +18,56 @@ no_window_scale_in octets = slice_index octets 34
 abbrev pub minshall_in : List ℕ → ℕ
 minshall_in octets = slice_index octets 35
 
--- octets as many as they say, 40 at least, that ask for nothing that isn't known: each option is 0 or 1, and all behind the last are 0
+-- octet 36: 0 where losses are repaired as RFC 5681 has it alone, and 1 where by NewReno
+abbrev pub recovery_in : List ℕ → ℕ
+recovery_in octets = slice_index octets 36
+
+-- octet 37: of how many segments the first congestion window is, and 0 where of two to four
+abbrev pub first_segments_in : List ℕ → ℕ
+first_segments_in octets = slice_index octets 37
+
+-- octets 38 and 39: the least retransmission timeout in milliseconds, and 0 for the usual one
+abbrev pub least_timeout_in : List ℕ → ℕ
+least_timeout_in octets = little_number 2 (drop 38 octets)
+
+-- octets 40 to 43: the first slow start threshold in octets, and 0 for the usual one, as where there are fewer octets
+abbrev pub first_threshold_in : List ℕ → ℕ
+first_threshold_in octets = if nat_lt (length octets) 44 then 0 else little_number 4 (drop 40 octets)
+
+-- where the last option that is there ends
+abbrev pub options_end : List ℕ → ℕ
+options_end octets = if nat_lt (length octets) 44 then 40 else 44
+
+-- Octets as many as they say, 40 at least, that ask for nothing that isn't known: no octet that chooses between two is over 1, and all behind the last
+-- option are 0.
 pub record IsConfig (octets : List ℕ) : Type 0 where
   pub sized : size_in octets ≡ length octets
   pub least : 40 ≤ length octets
   pub scale : no_window_scale_in octets ≤ 1
   pub small : minshall_in octets ≤ 1
-  pub rest : All (λ octet. octet ≡ 0) (drop 36 octets)
+  pub repair : recovery_in octets ≤ 1
+  pub rest : All (λ octet. octet ≡ 0) (drop (options_end octets) octets)
+
+-- a number, or where it is 0 the usual one
+abbrev pub or_usual : ℕ → ℕ → ℕ
+or_usual usual number = if number == 0 then usual else number
+
+abbrev pub recovery_of : ℕ → Recovery
+recovery_of number = if number == 1 then NewReno else Plain
 
 -- what they say: the address from octet 24 on, and the MAC from octet 28 on. The routes between, from octet 8 on, are passed beside them.
 abbrev pub config_in : List ℕ → Config
-config_in octets = record { mac = record { 0 = take 6 (drop 28 octets) }; addr = little_number 4 (drop 24 octets); scales = no_window_scale_in octets == 0; minshall = minshall_in octets == 1 }
+config_in octets = record {
+  mac = record { 0 = take 6 (drop 28 octets) };
+  addr = little_number 4 (drop 24 octets);
+  scales = no_window_scale_in octets == 0;
+  minshall = minshall_in octets == 1;
+  recovery = recovery_of (recovery_in octets);
+  first_segments = first_segments_in octets;
+  least_timeout = or_usual 1000 (least_timeout_in octets);
+  first_threshold = or_usual 65535 (first_threshold_in octets);
+}
+
+-- what a config says whose options are 0
+abbrev pub usual_config : Mac → ℕ → Config
+usual_config mac addr = record { mac = mac; addr = addr; scales = true; minshall = false; recovery = Plain; first_segments = 0; least_timeout = 1000; first_threshold = 65535 }

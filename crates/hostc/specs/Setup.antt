@@ -7,7 +7,7 @@ use Rattle.routes.specs.declared.route.Route.{Route}
 use Rattle.routes.specs.Routes.{IsTable}
 use Rattle.sockets.specs.declared.refusal.Refusal.TheVariants.{EINVAL, ENOMEM}
 use Rattle.host.specs.HostView.{HostView, new_host}
-use Rattle.host.specs.ConfigView.{IsOfOne}
+use Rattle.host.specs.ConfigView.{ConfigView, IsOfOne}
 use Rattle.hostc.specs.Config.{IsConfig, config_in}
 use Rattle.hostc.specs.Numbers.{refused}
 use Rattle.hostc.specs.Types.{addr_of, hop_of}
@@ -25,9 +25,23 @@ said_by route = (addr_of route.prefix, route.length, hop_of route.gateway)
 abbrev pub IsTold : List HostRoute → List Route → Type 0
 IsTold given table = map said table ≡ map said_by given
 
+-- the set-up of a host by a config and a table of routes: its connections behave as the config says
+abbrev pub host_config : Config → List Route → ConfigView
+host_config c table = record {
+  mac = c.mac;
+  addr = addr_of c.addr;
+  routes = table;
+  manner = record {
+    scales = c.scales;
+    minshall = c.minshall;
+    control = record { recovery = c.recovery; first_threshold = c.first_threshold; first_segments = c.first_segments };
+    least_timeout = c.least_timeout;
+  };
+}
+
 -- a host with this set-up, on which nothing happened
 abbrev pub IsNew : Config → List HostRoute → HostView → Type 0
-IsNew c given h = (table : List Route) × IsTold given table × (h ≡ new_host (record { mac = c.mac; addr = addr_of c.addr; routes = table; manner = record { scales = c.scales; minshall = c.minshall } }))
+IsNew c given h = (table : List Route) × IsTold given table × (h ≡ new_host (host_config c table))
 
 -- routes that make a table: each prefix is one, no two routes have one prefix, and there are 32 at most
 abbrev pub IsValidTable : List HostRoute → Type 0

@@ -1,7 +1,8 @@
 //! The making of a host, and its end.
 
-ghost use Rattle.std.specs.Prelude.{◌≡◌, ◌⊎◌, ◌↔◌, true, false, None, Ok, Err, IfOk, IfErr, IsOk, MatchResult};
+ghost use Rattle.std.specs.Prelude.{◌≡◌, ◌⊎◌, ◌↔◌, None, Ok, Err, IfOk, IfErr, IsOk, MatchResult};
 ghost use Rattle.counters.specs.Counting.{new_counters};
+ghost use Rattle.hostc.specs.Config.{usual_config};
 ghost use Rattle.hostc.specs.Counters.{CountsAnew};
 ghost use Rattle.hostc.specs.Setup.{IsNew, IsTold, IsValidSetup, IsValidTable, Setup, SetupBy};
 
@@ -11,7 +12,7 @@ use crate::counted::Counted;
 use crate::handle::Handle;
 use crate::types::HostRoute;
 use ether::Mac;
-use host::{Host, Refusal};
+use host::{Host, Recovery, Refusal};
 use ipv4::Prefix;
 use routes::Routes;
 use std::alloc::{AllocFailed, Global};
@@ -28,7 +29,7 @@ pub extern "C" fn host_new(
     addr: u32,
     routes: &[HostRoute],
 ) -> i64
-    ensures made { Setup (record { mac = record { 0 = mac.now }; addr = addr; scales = true; minshall = false }) routes.now handle.old.host result handle.new.host }
+    ensures made { Setup (usual_config (record { 0 = mac.now }) addr) routes.now handle.old.host result handle.new.host }
     ensures counters { CountsAnew result handle.old.counters handle.new.counters }
 {
     let config = Config {
@@ -36,15 +37,21 @@ pub extern "C" fn host_new(
         addr,
         scales: true,
         minshall: false,
+        recovery: Recovery::Plain,
+        first_segments: 0,
+        least_timeout: 1_000,
+        first_threshold: 65_535,
     };
     set_up(alloc, handle, config, routes)
 }
 
-/// `host_new` by the octets of a `struct host_config`, and its routes: it uses the window scale option where the config's own is 0, and its small
-/// segments wait for small ones only where that option is 1 (RFC 9293 appendix A.3).
+/// `host_new` by the octets of a `struct host_config`, and its routes: it uses the window scale option where the config's own is 0, its small segments
+/// wait for small ones only where that option is 1 (RFC 9293 appendix A.3), and losses are repaired by NewReno where that one is (RFC 6582, 3042, 3465).
+/// The first window in segments (RFC 6928), the least timeout in milliseconds (RFC 6298 section 2.4) and the first slow start threshold in octets (RFC
+/// 5681 section 3.1) are numbers, where 0 is the usual one.
 ///
-/// EINVAL also where the octets are no config: not as many as its size says, fewer than 40, an option that is neither 0 nor 1, or another octet
-/// than 0 behind the last option.
+/// EINVAL also where the octets are no config: not as many as its size says, fewer than 40, one of those three options that is neither 0 nor 1, or
+/// another octet than 0 behind the last option. One of fewer than 44 octets has no first threshold, which is the usual one then.
 #[unsafe(no_mangle)]
 pub extern "C" fn host_new_from(
     alloc: Global,
@@ -99,7 +106,11 @@ fn made(alloc: Global, config: Config, routes: &[HostRoute]) -> Result<Host, Ref
     let table = table(routes)?;
     let set = host::Config::new(config.mac, addr_of(config.addr), table)?
         .with_scale(config.scales)
-        .with_minshall(config.minshall);
+        .with_minshall(config.minshall)
+        .with_recovery(config.recovery)
+        .with_threshold(config.first_threshold)
+        .with_first_segments(config.first_segments)
+        .with_least_timeout(config.least_timeout);
     Host::new(alloc, set)
 }
 

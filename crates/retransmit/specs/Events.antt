@@ -16,6 +16,6 @@ after_event t (Sample milliseconds) = after_sample t milliseconds
 after_event t Expiry = after_expiry t
 after_event t EstablishedAfterLostSyn = after_lost_syn t
 
--- the timeout of a connection to which these events came, the first one first
-abbrev pub timeout_after : List Event → Timeout
-timeout_after events = fold after_event first_timeout events
+-- the timeout of a connection whose set-up asks for this least timeout, in milliseconds, and to which these events came, the first one first
+abbrev pub timeout_after : ℕ → List Event → Timeout
+timeout_after least events = fold after_event (first_timeout least) events

@@ -8,10 +8,17 @@ pub record Timeout : Type 0 where
   -- what the samples tell, once there is one
   pub estimate : Option Estimate
   pub rto : ℕ
+  -- the least timeout, in milliseconds (section 2.4)
+  pub least : ℕ
 
--- before the first sample: a second (section 2.1)
-abbrev pub first_timeout : Timeout
-first_timeout = record { estimate = None; rto = 1000 }
+-- The least timeout of a connection whose set-up asks for this one, in milliseconds. Section 2.4 asks for a second, and grants that less may
+-- turn out to do: here 200 ms at least.
+abbrev pub least_of : ℕ → ℕ
+least_of milliseconds = max 200 (min 1000 milliseconds)
+
+-- before the first sample: a second (section 2.1), whatever the least
+abbrev pub first_timeout : ℕ → Timeout
+first_timeout least = record { estimate = None; rto = 1000; least = least_of least }
 
 -- what a round-trip time r makes of the estimate. The variation moves by the mean that was (sections 2.2 and 2.3).
 abbrev pub estimate_after : Option Estimate → ℕ → Estimate
@@ -21,15 +28,16 @@ estimate_after (Some e) r = record {
   v4 = e.v4 - e.v4 / 4 + abs_diff (e.s8 / 8) r;
 }
 
--- a second at least, a minute at most; the clock's granularity is a millisecond (sections 2.3 to 2.5)
-abbrev pub timeout_of : Estimate → ℕ
-timeout_of e = max 1000 (min 60000 (e.s8 / 8 + max 1 e.v4))
+-- the least timeout at least, a minute at most; the clock's granularity is a millisecond (sections 2.3 to 2.5)
+abbrev pub timeout_of : ℕ → Estimate → ℕ
+timeout_of least e = max least (min 60000 (e.s8 / 8 + max 1 e.v4))
 
 -- a measured round-trip time; one over a minute counts as a minute
 abbrev pub after_sample : Timeout → ℕ → Timeout
 after_sample t milliseconds = let e = estimate_after t.estimate (min 60000 milliseconds) in record {
   estimate = Some e;
-  rto = timeout_of e;
+  rto = timeout_of t.least e;
+  least = t.least;
 }
 
 -- the timer expired: the timeout backs off (section 5.5)
@@ -44,5 +52,7 @@ after_lost_syn t = record t { rto = 3000 }
 pub record IsSound (t : Timeout) : Type 0 where
   pub s8 : ForSome t.estimate (λ e. e.s8 ≤ 480000)
   pub v4 : ForSome t.estimate (λ e. e.v4 ≤ 240000)
-  pub least : 1000 ≤ t.rto
+  pub floor : 200 ≤ t.least
+  pub ceiling : t.least ≤ 1000
+  pub least : t.least ≤ t.rto
   pub most : t.rto ≤ 60000

@@ -8,26 +8,33 @@ ghost use Rattle.retransmit.specs.declared.timers.Timers.{Timers};
 ghost use Rattle.retransmit.specs.declared.timers.TimerKind.{TimerKind};
 ghost use Rattle.retransmit.specs.declared.timers.TimerKind.TheVariants.{Retransmission, Probe, DelayedAck, Override};
 ghost use Rattle.retransmit.specs.Deadlines.{deadline_of, with_deadline, is_due, next_of};
+ghost use Rattle.retransmit.specs.Timeout.{least_of};
 ghost use Rattle.retransmit.specs.Events.{Event, after_event, timeout_after};
 ghost use Rattle.retransmit.specs.Events.Event.{Expiry};
 
 /// What a call makes of the timeout is what one more event makes of it (RFC 6298 sections 2, 3 and 5).
 pub fn one_more_event()
-    ensures { (events : List Event) (event : Event)
-        → timeout_after (events ++ event ∷ []) ≡ after_event (timeout_after events) event }
+    ensures { (least : ℕ) (events : List Event) (event : Event)
+        → timeout_after least (events ++ event ∷ []) ≡ after_event (timeout_after least events) event }
 {}
 
-/// Whatever happens to a connection, its timeout lies between a second and a minute (RFC 6298 sections 2.4
-/// and 2.5).
+/// Whatever happens to a connection, its timeout lies between the least of its set-up and a minute; with the usual least it
+/// is a second at least (RFC 6298 sections 2.4 and 2.5).
 pub fn timeout_in_range()
-    ensures least { (events : List Event) → 1000 ≤ (timeout_after events).rto }
-    ensures most { (events : List Event) → (timeout_after events).rto ≤ 60000 }
+    ensures least { (least : ℕ) (events : List Event) → least_of least ≤ (timeout_after least events).rto }
+    ensures most { (least : ℕ) (events : List Event) → (timeout_after least events).rto ≤ 60000 }
+    ensures usual { (events : List Event) → 1000 ≤ (timeout_after 1000 events).rto }
+{}
+
+/// Whatever happens to a connection, its least timeout is that of its set-up (RFC 6298 section 2.4).
+pub fn least_is_of_the_set_up()
+    ensures { (least : ℕ) (events : List Event) → (timeout_after least events).least ≡ least_of least }
 {}
 
 /// Expiries in a row double the timeout, up to a minute (RFC 6298 section 5.5).
 pub fn expiries_in_a_row()
-    ensures { (events : List Event) (k : ℕ)
-        → (timeout_after (events ++ replicate k Expiry)).rto ≡ min 60000 (2 ^ k * (timeout_after events).rto) }
+    ensures { (least : ℕ) (events : List Event) (k : ℕ)
+        → (timeout_after least (events ++ replicate k Expiry)).rto ≡ min 60000 (2 ^ k * (timeout_after least events).rto) }
 {}
 
 /// The next deadline is the least: it has come exactly where that of some kind has (RFC 6298 section 5).

@@ -9,8 +9,11 @@ use std::marker::Model;
 /// The timeout before the first sample, in milliseconds (RFC 6298 section 2.1).
 const FIRST_RTO: u32 = 1_000;
 
-/// The least timeout, in milliseconds (RFC 6298 section 2.4).
+/// The usual least timeout, in milliseconds (RFC 6298 section 2.4). That of a connection is no greater.
 const LEAST_RTO: u32 = 1_000;
+
+/// The lowest that the least timeout of a connection may be, in milliseconds.
+const LOWEST_LEAST: u32 = 200;
 
 /// The greatest timeout and the greatest sample, in milliseconds (RFC 6298 section 2.5).
 const MOST_RTO: u32 = 60_000;
@@ -35,6 +38,7 @@ pub struct Estimate {
 pub struct Rto {
     estimate: Option<Estimate>,
     rto: u32,
+    least: u32,
 }
 
 impl Model for Rto {
@@ -50,21 +54,25 @@ impl Model for Rto {
 }
 
 impl Rto {
-    /// The timeout before the first sample (RFC 6298 section 2.1).
-    pub fn new() -> Rto
-        ensures { result ≡ first_timeout }
+    /// The timeout before the first sample: a second (RFC 6298 section 2.1). `least` is the least timeout that samples
+    /// make, in milliseconds, taken as 200 at least and 1,000 at most (section 2.4, which wants a second).
+    pub fn new(least: u32) -> Rto
+        ensures { result ≡ first_timeout least }
     {
         Rto {
             estimate: None,
             rto: FIRST_RTO,
+            least: least.clamp(LOWEST_LEAST, LEAST_RTO),
         }
     }
 
-    /// The timeout, in milliseconds (RFC 6298 section 2).
+    /// The timeout, in milliseconds (RFC 6298 section 2): the connection's least at least, a minute at most.
     pub fn rto(&self) -> u32
         ensures value { result ≡ self.now.rto }
-        ensures least { 1000 ≤ result }
+        ensures least { self.now.least ≤ result }
         ensures most { result ≤ 60000 }
+        ensures floor { 200 ≤ self.now.least }
+        ensures ceiling { self.now.least ≤ 1000 }
     {
         self.rto
     }
@@ -84,7 +92,7 @@ impl Rto {
         let round_trip = milliseconds.min(u64::from(MOST_RTO)) as u32;
         let estimate = Estimate::after(self.estimate, round_trip);
         self.estimate = Some(estimate);
-        self.rto = estimate.timeout();
+        self.rto = estimate.timeout(self.least);
     }
 
     /// Backs off: the retransmission timer expired (RFC 6298 section 5.5).
@@ -124,12 +132,13 @@ impl Estimate {
         }
     }
 
-    /// The timeout that the estimate asks for (RFC 6298 sections 2.3 to 2.5).
-    fn timeout(self) -> u32
+    /// The timeout that the estimate asks for, where the least is this many milliseconds (RFC 6298 sections 2.3 to 2.5).
+    fn timeout(self, least: u32) -> u32
         requires mean { self.s8 ≤ 480000 }
         requires variation { self.v4 ≤ 240000 }
-        ensures { result ≡ timeout_of self }
+        ensures { result ≡ timeout_of least self }
     {
-        (self.s8 / 8 + self.v4.max(CLOCK_GRANULARITY)).clamp(LEAST_RTO, MOST_RTO)
+        let asked = self.s8 / 8 + self.v4.max(CLOCK_GRANULARITY);
+        asked.min(MOST_RTO).max(least)
     }
 }

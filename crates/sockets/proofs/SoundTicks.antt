@@ -9,6 +9,7 @@ use Rattle.clock.specs.Moments.{has_come}
 use Rattle.retransmit.specs.Deadlines.{next_of}
 use Rattle.tcp_halves.specs.Stream.{outstanding}
 use Rattle.tcp_halves.proofs.Choices.{either, neither}
+use Rattle.congestion.specs.Control.{repairs}
 use Rattle.tcp_state.specs.declared.calls.Refusal.{Refusal as Error}
 use Rattle.tcp_state.specs.declared.calls.Refusal.TheVariants.{ETIMEDOUT}
 use Rattle.tcp_state.specs.Resend.{IsSoundResend, mark_past}
@@ -45,7 +46,8 @@ ended_sound v error sound = record {
   flight = none_out;
   mark = λ distance none. cc;
   small = omega arith;
-  resend = record { timeout_least = sound.resend.timeout_least; timeout_most = sound.resend.timeout_most; interval_least = sound.resend.timeout_least; interval_most = sound.resend.timeout_most; expiries = sound.resend.expiries };
+  recover = omega arith;
+  resend = record { floor = sound.resend.floor; ceiling = sound.resend.ceiling; timeout_least = sound.resend.timeout_least; timeout_most = sound.resend.timeout_most; interval_least = sound.resend.timeout_least; interval_most = sound.resend.timeout_most; expiries = sound.resend.expiries };
   connection = refl;
   segment = sound.segment;
   segment_least = sound.segment_least;
@@ -71,6 +73,7 @@ ended_sound v error sound = record {
 record Fits (v w : View) : Type 0 where
   mark : ForSome w.resend.mark (λ distance. distance < outstanding v.sending)
   small : w.resend.small ≡ v.resend.small
+  recover : w.resend.recover ≤ outstanding v.sending
   resend : IsSoundResend w.resend
   delays : w.delays_ack ≡ v.delays_ack
   ack : ((is_syn_sent v.state || is_closed v.state) && (w.owes_ack || v.delays_ack)) ≡ false
@@ -84,7 +87,10 @@ expiry_fits v now sound lives =
     (λ comes. let few : v.resend.expiries < 12 = grind (arith, nat_tests, common_steps) in record {
       mark = first_mark (outstanding v.sending);
       small = refl;
+      recover = either ℕ (λ n. n ≤ outstanding v.sending) (repairs v.congestion.control) (outstanding v.sending) v.resend.recover (λ repairs. omega arith) (λ plain. sound.recover);
       resend = record {
+        floor = sound.resend.floor;
+        ceiling = sound.resend.ceiling;
         timeout_least = grind (arith, sound.resend.timeout_least);
         timeout_most = omega arith;
         interval_least = sound.resend.interval_least;
@@ -98,7 +104,10 @@ expiry_fits v now sound lives =
     (λ comes. let few : v.resend.expiries < 12 = grind (arith, nat_tests, common_steps) in record {
       mark = sound.mark;
       small = refl;
+      recover = sound.recover;
       resend = record {
+        floor = sound.resend.floor;
+        ceiling = sound.resend.ceiling;
         timeout_least = sound.resend.timeout_least;
         timeout_most = sound.resend.timeout_most;
         interval_least = grind (arith, sound.resend.interval_least);
@@ -108,7 +117,7 @@ expiry_fits v now sound lives =
       delays = refl;
       ack = sound.ack;
     })
-    (λ late. record { mark = sound.mark; small = refl; resend = sound.resend; delays = refl; ack = sound.ack }))
+    (λ late. record { mark = sound.mark; small = refl; recover = sound.recover; resend = sound.resend; delays = refl; ack = sound.ack }))
 
 acks_once : (never owes delays : Bool) → (never && (owes || delays)) ≡ false → (never && ((owes || delays) || delays)) ≡ false
 acks_once never owes delays e = grind (arith, common_steps)
@@ -119,6 +128,7 @@ delayed_fits v w now f =
     (λ comes. record {
       mark = f.mark;
       small = f.small;
+      recover = f.recover;
       resend = f.resend;
       delays = f.delays;
       ack = ap (λ (d : Bool). (is_syn_sent v.state || is_closed v.state) && ((w.owes_ack || d) || v.delays_ack)) f.delays ∙ acks_once (is_syn_sent v.state || is_closed v.state) w.owes_ack v.delays_ack f.ack;
@@ -131,7 +141,8 @@ override_fits v w now f =
     (λ comes. let r = f.resend in record {
       mark = f.mark;
       small = f.small;
-      resend = record { timeout_least = r.timeout_least; timeout_most = r.timeout_most; interval_least = r.interval_least; interval_most = r.interval_most; expiries = r.expiries };
+      recover = f.recover;
+      resend = record { floor = r.floor; ceiling = r.ceiling; timeout_least = r.timeout_least; timeout_most = r.timeout_most; interval_least = r.interval_least; interval_most = r.interval_most; expiries = r.expiries };
       delays = f.delays;
       ack = f.ack;
     })
@@ -146,10 +157,13 @@ acted_fits v now sound lives =
     let r = f.resend in record {
       mark = f.mark;
       small = f.small;
+      recover = f.recover;
       resend = record {
+        floor = r.floor;
+        ceiling = r.ceiling;
         timeout_least = r.timeout_least;
         timeout_most = r.timeout_most;
-        interval_least = chosen (probes w && is_some w.timers.probe) w.resend.interval w.resend.timeout.rto (λ n. 1000 ≤ n) r.interval_least r.timeout_least;
+        interval_least = chosen (probes w && is_some w.timers.probe) w.resend.interval w.resend.timeout.rto (λ n. w.resend.timeout.least ≤ n) r.interval_least r.timeout_least;
         interval_most = chosen (probes w && is_some w.timers.probe) w.resend.interval w.resend.timeout.rto (λ n. n ≤ 60000) r.interval_most r.timeout_most;
         expiries = r.expiries;
       };
@@ -177,6 +191,7 @@ acted_sound v w sound kept f =
       flight = sound.flight;
       mark = f.mark;
       small = subst (λ n. n ≤ outstanding v.sending) (sym f.small) sound.small;
+      recover = f.recover;
       resend = f.resend;
       connection = sound.connection;
       segment = sound.segment;

@@ -9,6 +9,7 @@ ghost use Rattle.tcp_halves.specs.Stream.{size_in, own_unit, size_of, sending_fr
 
 use crate::receiver::Receiver;
 use crate::sender::Sender;
+use congestion::Control;
 use std::alloc::{AllocError, Global};
 use std::marker::Model;
 use stream_buf::{RecvBuf, SendBuf};
@@ -27,6 +28,10 @@ pub struct Manner {
     pub scales: bool,
     /// Whether a small segment waits for a small one only, and the FIN goes with the last octets (Minshall, RFC 9293 appendix A.3).
     pub minshall: bool,
+    /// How the congestion window begins, and how losses are repaired (RFC 5681, RFC 6582).
+    pub control: Control,
+    /// The least retransmission timeout, in milliseconds: 200 at least and a second at most (RFC 6298 section 2.4).
+    pub least_timeout: u16,
 }
 
 /// The empty buffers of one connection, made before it opens, so that an open one takes no memory.

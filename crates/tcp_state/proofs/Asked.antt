@@ -19,6 +19,7 @@ asked_sound v alive k = record {
   flight = k.flight;
   mark = k.mark;
   small = k.small;
+  recover = k.recover;
   resend = k.resend;
   connection = k.connection;
   segment = k.segment;

@@ -16,16 +16,18 @@ use Rattle.tcp_state.specs.declared.emission.Due.TheVariants.{Rst, Syn, Text, Pr
 use Rattle.tcp_state.specs.declared.emission.Stretch.{Stretch}
 use Rattle.tcp_halves.specs.Stream.{outstanding, after_sent}
 use Rattle.tcp_state.specs.View.{View, is_opening, is_syn_received, is_closed}
-use Rattle.tcp_state.specs.Resend.{Resend, resend_probed, resend_acknowledged, resend_lost}
+use Rattle.tcp_state.specs.Resend.{Resend, resend_probed, resend_acknowledged, resend_first, resend_lost}
 use Rattle.tcp_state.specs.Timing.{KeepsTime, probes, retransmits, awaits_more, running, retransmission_timer, probe_timer, delayed_ack_timer, override_timer, interval_of, awaits_first, unheard_since, clocked, retransmission_expired, probe_expired, after_expiry, delayed_ack_expired, override_expired, after_timers, after_expiries}
-use Rattle.tcp_state.specs.Arrival.{after_heard, is_rejected, begins_wait, answers_probe, is_duplicate, before, since_after, is_moved, resend_heard, resend_after, congestion_event_of, reveals_loss, congestion_after, timed_by, after_segment_at}
+use Rattle.tcp_state.specs.Arrival.{after_heard, is_rejected, begins_wait, answers_probe, is_counted_duplicate, before, since_after, is_moved, resend_heard, resend_after, congestion_event_of, acknowledged_event, resend_signalled, congestion_after, timed_by, after_segment_at}
 use Rattle.tcp_state.specs.Due.{probe_stretch, end_of, after_syn_ack_paid, after_resent, after_first_sent, after_numbers, after_new_octets, after_new_text, brings_new_octets, after_syn_again, after_syn_out, after_stretch, after_probe, after_going_out, after_emitted}
 use Rattle.tcp_state.specs.Edges.{after_first}
 use Rattle.tcp_state.specs.Congestion.{Signal, after_signal}
 use Rattle.tcp_state.specs.Congestion.Signal.{Begins, Counts, Nothing}
-use Rattle.congestion.specs.Window.{Window}
-use Rattle.congestion.specs.Events.Event.{NewAck, Duplicate}
-use Rattle.tcp_halves.proofs.Choices.{either}
+use Rattle.congestion.specs.Control.{repairs}
+use Rattle.congestion.specs.Window.{Window, goes_on as recovers_on, third_is_next}
+use Rattle.congestion.specs.Events.{Event}
+use Rattle.congestion.specs.Events.Event.{NewAck, PartialAck, Duplicate}
+use Rattle.tcp_halves.proofs.Choices.{either, clash, and_right}
 use Rattle.tcp_state.proofs.Segments.{by_clock}
 use Rattle.tcp_state.proofs.Awaited.{waits_on}
 
@@ -208,43 +210,65 @@ heard_paced b w now P moved answered same =
     either Resend P (is_moved b w) (resend_acknowledged w.resend w.sending.una (is_opening b.state) now) _ (λ moves. moved)
     (λ stays. either Resend P b.answers_probe (record w.resend { expiries = 0 }) w.resend (λ answers. answered) (λ other. same))
 
--- .. with the segment at SND.UNA lost or not
-pub after_paced : (b : Before) (w : View) (now : Moment) (P : Resend → Type 0) → P (resend_heard b w now) → P (resend_lost (resend_heard b w now) (outstanding w.sending)) → P (resend_after b w now)
-after_paced b w now P same lost =
-    either Resend P (reveals_loss (congestion_event_of b w) w.congestion) (resend_lost (resend_heard b w now) (outstanding w.sending)) (resend_heard b w now) (λ tells. lost) (λ other. same)
-
--- what a segment is to the congestion window: nothing, the beginning, an ACK, or a duplicate one
-pub signalled : (b : Before) (w : View) (P : Signal → Type 0) → P Nothing → P Begins → P (Counts (NewAck (b.held - length w.sending.held))) → (b.is_duplicate ≡ true → P (Counts (Duplicate (outstanding w.sending)))) → P (congestion_event_of b w)
-signalled b w P nothing begins acks repeats =
+-- what a segment is to the congestion window: nothing, the beginning, an ACK, a partial one, or a duplicate one
+pub signalled : (b : Before) (w : View) (P : Signal → Type 0) → P Nothing → P Begins → ((recovers_on w.congestion && nat_lt 0 w.resend.recover) ≡ false → P (Counts (NewAck (b.held - length w.sending.held) (outstanding w.sending))))
+    → (is_moved b w ≡ true → is_opening b.state ≡ false → (recovers_on w.congestion && nat_lt 0 w.resend.recover) ≡ true → P (Counts (PartialAck (b.held - length w.sending.held))))
+    → (is_moved b w ≡ false → b.is_duplicate ≡ true → P (Counts (Duplicate (outstanding w.sending)))) → P (congestion_event_of b w)
+signalled b w P nothing begins acks parts repeats =
     either Signal P (is_closed w.state) Nothing _ (λ closed. nothing)
-    (λ lives. either Signal P (is_moved b w) (if is_opening b.state then Begins else Counts (NewAck (b.held - length w.sending.held))) _
-    (λ moves. either Signal P (is_opening b.state) Begins (Counts (NewAck (b.held - length w.sending.held))) (λ opens. begins) (λ opened. acks))
-    (λ stays. either Signal P b.is_duplicate (Counts (Duplicate (outstanding w.sending))) Nothing (λ same. repeats same) (λ other. nothing)))
+    (λ lives. either Signal P (is_moved b w) (if is_opening b.state then Begins else Counts (acknowledged_event w (b.held - length w.sending.held))) _
+    (λ moves. either Signal P (is_opening b.state) Begins (Counts (acknowledged_event w (b.held - length w.sending.held))) (λ opens. begins)
+    (λ opened. either Event (λ e. P (Counts e)) (recovers_on w.congestion && nat_lt 0 w.resend.recover) (PartialAck (b.held - length w.sending.held)) (NewAck (b.held - length w.sending.held) (outstanding w.sending)) (parts moves opened) acks))
+    (λ stays. either Signal P b.is_duplicate (Counts (Duplicate (outstanding w.sending))) Nothing (λ same. repeats stays same) (λ other. nothing)))
 
--- no duplicate ACK tells of a loss ..
-pub tells_none : (b : Before) (w : View) → b.is_duplicate ≡ false → reveals_loss (congestion_event_of b w) w.congestion ≡ false
-tells_none b w first = signalled b w (λ e. reveals_loss e w.congestion ≡ false) refl refl refl (λ again. let bad : true ≡ false = sym again ∙ first in cc)
+-- what holds of the retransmission state that is left with the clock: the segment at SND.UNA goes out again as lost or as the next of a recovery, or doesn't
+pub after_paced : (b : Before) (w : View) (now : Moment) (P : Resend → Type 0) → P (resend_heard b w now) → P (resend_lost (resend_heard b w now) (repairs w.congestion.control) (outstanding w.sending))
+    → P (resend_first (resend_heard b w now) (outstanding w.sending)) → P (resend_after b w now)
+after_paced b w now P same lost next =
+    signalled b w (λ g. P (resend_signalled (resend_heard b w now) g w.congestion (outstanding w.sending))) same same (λ whole. same) (λ moves opened goes. next)
+    (λ stays twice. either Resend P (third_is_next w.congestion) (resend_lost (resend_heard b w now) (repairs w.congestion.control) (outstanding w.sending)) (resend_heard b w now) (λ third. lost) (λ other. same))
 
--- .. and of a segment that moves nothing either, the congestion window hears nothing
+-- the end of a recovery stays at its number where SND.UNA moves
+pub recover_kept : (b : Before) (w : View) (now : Moment) → is_moved b w ≡ true → (resend_after b w now).recover ≡ w.resend.recover
+recover_kept b w now moves =
+    let P : Resend → Type 0 = λ p. p.recover ≡ w.resend.recover in
+    let heard = heard_paced b w now P refl refl refl in
+    signalled b w (λ g. P (resend_signalled (resend_heard b w now) g w.congestion (outstanding w.sending))) heard heard (λ whole. heard) (λ still_moves opened goes. heard)
+    (λ stays twice. clash (is_moved b w) moves stays)
+
+-- past the opening, a segment that moves nothing and is no duplicate ACK tells the congestion window nothing
 pub event_none : (b : Before) (w : View) → is_moved b w ≡ false → b.is_duplicate ≡ false → congestion_event_of b w ≡ Nothing
 event_none b w same first =
     either Signal (λ e. e ≡ Nothing) (is_closed w.state) Nothing _ (λ closed. refl)
-    (λ lives. ap (λ t. if t then (if is_opening b.state then Begins else Counts (NewAck (b.held - length w.sending.held))) else if b.is_duplicate then Counts (Duplicate (outstanding w.sending)) else Nothing) same
+    (λ lives. ap (λ t. if t then (if is_opening b.state then Begins else Counts (acknowledged_event w (b.held - length w.sending.held))) else if b.is_duplicate then Counts (Duplicate (outstanding w.sending)) else Nothing) same
     ∙ ap (λ t. if t then Counts (Duplicate (outstanding w.sending)) else Nothing) first)
 
-pub resend_unlost : (b : Before) (w : View) (now : Moment) → b.is_duplicate ≡ false → resend_after b w now ≡ resend_heard b w now
-resend_unlost b w now first = ap (λ t. if t then resend_lost (resend_heard b w now) (outstanding w.sending) else resend_heard b w now) (tells_none b w first)
+-- .. and puts nothing out again, nor does one that opens the connection, nor one at or past the end of a recovery
+abbrev pub IsNotPartial : Before → View → Type 0
+IsNotPartial b w = (is_moved b w ≡ false) ⊎ ((is_opening b.state ≡ true) ⊎ (w.resend.recover ≡ 0))
 
--- what an acknowledgement tells of time leaves what goes out again, but for the third duplicate
-pub marks_kept : (b : Before) (w : View) (now : Moment) → b.is_duplicate ≡ false → (resend_after b w now).mark ≡ w.resend.mark
-marks_kept b w now first = ap (λ (p : Resend). p.mark) (resend_unlost b w now first) ∙ heard_paced b w now (λ p. p.mark ≡ w.resend.mark) refl refl refl
+pub resend_unlost : (b : Before) (w : View) (now : Moment) → IsNotPartial b w → b.is_duplicate ≡ false → resend_after b w now ≡ resend_heard b w now
+resend_unlost b w now none first =
+    signalled b w (λ g. resend_signalled (resend_heard b w now) g w.congestion (outstanding w.sending) ≡ resend_heard b w now) refl refl (λ whole. refl)
+    (λ moves opened goes. elim none [
+      | inl still ↦ clash (is_moved b w) moves still
+      | inr other ↦ elim other [
+        | inl opening ↦ clash (is_opening b.state) opening opened
+        | inr reached ↦ clash (nat_lt 0 w.resend.recover) (and_right (recovers_on w.congestion) (nat_lt 0 w.resend.recover) goes) (ap (nat_lt 0) reached)
+      ]
+    ])
+    (λ stays twice. clash b.is_duplicate twice first)
+
+-- what it tells of time leaves what goes out again
+pub marks_kept : (b : Before) (w : View) (now : Moment) → IsNotPartial b w → b.is_duplicate ≡ false → (resend_after b w now).mark ≡ w.resend.mark
+marks_kept b w now none first = ap (λ (p : Resend). p.mark) (resend_unlost b w now none first) ∙ heard_paced b w now (λ p. p.mark ≡ w.resend.mark) refl refl refl
 
 -- .. and whether a probe is due
 pub probes_kept : (b : Before) (w : View) (now : Moment) → (resend_after b w now).owes_probe ≡ w.resend.owes_probe
 probes_kept b w now =
     let P : Resend → Type 0 = λ p. p.owes_probe ≡ w.resend.owes_probe in
     let heard = heard_paced b w now P refl refl refl in
-    after_paced b w now P heard heard
+    after_paced b w now P heard heard heard
 
 -- nothing changed but what is owed
 abbrev pub Owing : View → View → Type 0
@@ -265,7 +289,7 @@ timed_unmoved b w now same quiet first =
     let since = since_after b w now in
     let alive = heard_now w.alive now in
     let resend : resend_after b w now ≡ w.resend =
-    resend_unlost b w now first
+    resend_unlost b w now (inl same) first
     ∙ (ap (λ t. if t then resend_acknowledged w.resend w.sending.una (is_opening b.state) now else if b.answers_probe then record w.resend { expiries = 0 } else w.resend) same
     ∙ ap (λ t. if t then record w.resend { expiries = 0 } else w.resend) quiet) in
     let congestion : congestion_after b w ≡ w.congestion = ap (λ e. after_signal w.congestion e w.sending.smss w.resend.syn_resent) (event_none b w same first) in
@@ -273,14 +297,14 @@ timed_unmoved b w now same quiet first =
     ∙ (ap (λ (p : Resend). clocked false (record w { since = since; resend = p; congestion = congestion_after b w; alive = alive }) now) resend
     ∙ ap (λ (c : Window). clocked false (record w { since = since; congestion = c; alive = alive }) now) congestion)
 
-timed_owing : (v : View) (s : Segment) (owes : Bool) (now : Moment) → KeepsTime v → answers_probe v s ≡ false → is_duplicate v s ≡ false
+timed_owing : (v : View) (s : Segment) (owes : Bool) (now : Moment) → KeepsTime v → answers_probe v s ≡ false → is_counted_duplicate v s ≡ false
     → OwingAt v (timed_by (before v s) (record v { owes_ack = owes }) now)
 timed_owing v s owes now keeps quiet first =
     let w = record v { owes_ack = owes } in
     subst (λ x. OwingAt v x) (sym (timed_unmoved (before v s) w now (unmoved v) quiet first)) (settles v owes (since_after (before v s) w now) (heard_now v.alive now) now keeps)
 
 -- a segment that draws an acknowledgement, or nothing
-pub owing_timed : (v : View) (s : Segment) (now : Moment) → KeepsTime v → answers_probe v s ≡ false → is_duplicate v s ≡ false → Owing v (after_heard v s) → OwingAt v (after_segment_at v s now)
+pub owing_timed : (v : View) (s : Segment) (now : Moment) → KeepsTime v → answers_probe v s ≡ false → is_counted_duplicate v s ≡ false → Owing v (after_heard v s) → OwingAt v (after_segment_at v s now)
 owing_timed v s now keeps quiet first same =
     by_clock (OwingAt v) v s now refl
     (λ heard. subst (λ w. OwingAt v (timed_by (before v s) w now)) (sym same) (timed_owing v s (after_heard v s).owes_ack now keeps quiet first))

@@ -8,8 +8,10 @@ use Rattle.tcp_segment.specs.Wire.{past}
 use Rattle.clock.specs.declared.moment.Moment.{Moment}
 use Rattle.clock.specs.Moments.{has_come}
 use Rattle.retransmit.specs.Deadlines.{next_of}
-use Rattle.congestion.specs.Window.{Window, is_recovering}
-use Rattle.congestion.specs.Events.Event.{NewAck, Expiry, Duplicate}
+use Rattle.congestion.specs.Control.{repairs}
+use Rattle.congestion.specs.Window.{Window, is_recovering, goes_on, most_growth}
+use Rattle.congestion.specs.Events.{Event as WindowEvent}
+use Rattle.congestion.specs.Events.Event.{Expiry, Duplicate}
 use Rattle.tcp_state.specs.declared.arrival.Before.{Before}
 use Rattle.tcp_state.specs.declared.calls.Refusal.TheVariants.{ECONNREFUSED, ETIMEDOUT}
 use Rattle.tcp_state.specs.declared.emission.Due.{Due}
@@ -25,7 +27,7 @@ use Rattle.tcp_state.specs.Congestion.Signal.{Begins, Counts, Nothing}
 use Rattle.tcp_state.specs.Timing.{clocked, gives_up, retransmission_expired, probe_expired, after_expiry, after_timers, after_tick}
 use Rattle.tcp_state.specs.Alive.{alive_after, after_silence}
 use Rattle.tcp_state.specs.Calls.{send_count, beyond_shutdown, shutdown_refusal, after_shutdown, aborted_at, after_release, is_removed_by_close, is_aborted_by_close}
-use Rattle.tcp_state.specs.Arrival.{opened_passively, is_receiving, beyond_fin, after_ack, after_window, after_text, after_fin, after_heard, is_rejected, before, is_moved, resend_heard, resend_after, congestion_event_of, congestion_after, timed_by, after_segment_at}
+use Rattle.tcp_state.specs.Arrival.{opened_passively, is_receiving, beyond_fin, after_ack, after_window, after_text, after_fin, after_heard, is_rejected, before, is_moved, resend_heard, resend_after, congestion_event_of, acknowledged_event, congestion_after, timed_by, after_segment_at}
 use Rattle.tcp_state.specs.Due.{after_syn_ack_paid, after_syn_out, after_going_out, first_due}
 use Rattle.tcp_state.specs.Unreachable.{is_unreachable}
 use Rattle.tcp_state.specs.Hop.{unheard_until}
@@ -36,7 +38,7 @@ use Rattle.tcp_state.proofs.Segments.{by_fin, by_ack, by_hearing, by_clock}
 use Rattle.tcp_state.proofs.Deadlines.{none_comes}
 use Rattle.tcp_state.proofs.Asked.{asked_sound, asked_congestion}
 use Rattle.tcp_state.proofs.Emissions.{syn_sends, stretch_sends, probe_sends}
-use Rattle.tcp_state.proofs.Growth.{IsSize, IsWindow, holds_segment, first_sound, new_ack_sound, expiry_sound, duplicate_sound, duplicate_segment, new_ack_adds, duplicate_adds}
+use Rattle.tcp_state.proofs.Growth.{IsSize, IsWindow, holds_segment, first_sound, new_ack_sound, partial_ack_sound, expiry_sound, duplicate_sound, duplicate_segment, new_ack_adds, duplicate_adds}
 
 -- Whether our SYN went out again.
 
@@ -46,7 +48,7 @@ syn_kept b w now = heard_paced b w now (λ p. p.syn_resent ≡ w.resend.syn_rese
 
 -- .. and so does the third duplicate ACK
 syn_kept_after : (b : Before) (w : View) (now : Moment) → (resend_after b w now).syn_resent ≡ w.resend.syn_resent
-syn_kept_after b w now = after_paced b w now (λ p. p.syn_resent ≡ w.resend.syn_resent) (syn_kept b w now) (syn_kept b w now)
+syn_kept_after b w now = after_paced b w now (λ p. p.syn_resent ≡ w.resend.syn_resent) (syn_kept b w now) (syn_kept b w now) (syn_kept b w now)
 
 -- What a segment leaves without the clock.
 
@@ -165,8 +167,8 @@ few w = omega arith
 -- its window is one that events lead to
 signal_sound : (b : Before) (w : View) → IsSize w.sending.smss → IsWindow w.congestion → IsWindow (congestion_after b w)
 signal_sound b w size sound =
-    signalled b w (λ g. IsWindow (after_signal w.congestion g w.sending.smss w.resend.syn_resent)) sound (first_sound w.sending.smss w.resend.syn_resent size)
-    (new_ack_sound w.congestion (b.held - length w.sending.held) sound) (λ twice. duplicate_sound w.congestion (outstanding w.sending) (few w) sound)
+    signalled b w (λ g. IsWindow (after_signal w.congestion g w.sending.smss w.resend.syn_resent)) sound (first_sound w.congestion.control w.sending.smss w.resend.syn_resent size)
+    (λ whole. new_ack_sound w.congestion (b.held - length w.sending.held) (outstanding w.sending) sound) (λ moves opened goes. partial_ack_sound w.congestion (b.held - length w.sending.held) sound) (λ stays twice. duplicate_sound w.congestion (outstanding w.sending) (few w) sound)
 
 -- it counts in segments of the peer's size, once it has begun
 signal_segment : (v : View) (s : Segment) → v.sending.una < 2 ^ 32 → is_closed v.state ≡ false → KeepsCongestion v
@@ -182,7 +184,8 @@ signal_segment v s fits lives keeps begun =
     by (is_opening v.state ≡ false) (is_opening v.state) (λ opening. clash (is_moved b w) (ap not (k.opens fits opening begun)) still) (λ opened. opened) in
     either Signal P (is_closed w.state) Nothing _ (λ closed. clash (is_idle w.state) (or_right (is_opening w.state) (is_closed w.state) closed) begun)
     (λ on. either Signal P (is_moved b w) _ _
-    (λ moved. either Signal P (is_opening b.state) Begins (Counts (NewAck (b.held - length w.sending.held))) (λ opens. refl) kept)
+    (λ moved. either Signal P (is_opening b.state) Begins (Counts (acknowledged_event w (b.held - length w.sending.held))) (λ opens. refl)
+    (λ opened. either WindowEvent (λ e. P (Counts e)) (goes_on w.congestion && nat_lt 0 w.resend.recover) _ _ (λ goes. kept opened) (λ whole. kept opened)))
     (λ still. either Signal P b.is_duplicate (Counts (Duplicate (outstanding w.sending))) Nothing
     (λ twice. duplicate_segment w.congestion (outstanding w.sending) ∙ kept (still_open still)) (λ other. kept (still_open still))))
   where
@@ -330,32 +333,34 @@ first_size : IsSize 536
 first_size = record { least = omega arith; most = omega arith }
 
 pub opened_kept : (room : Room) (local peer : Endpoint) (isn : ℕ) (now : Moment) → KeepsCongestion (opened_actively room local peer isn now)
-opened_kept room local peer isn now = record { sound = first_sound 536 false first_size; segment = λ begun. cc }
+opened_kept room local peer isn now = record { sound = first_sound room.manner.control 536 false first_size; segment = λ begun. cc }
 
 pub accepted_kept : (room : Room) (local peer : Endpoint) (isn : ℕ) (syn : Segment) (now : Moment) → KeepsCongestion (opened_passively room local peer isn syn now)
-accepted_kept room local peer isn syn now = record { sound = first_sound 536 false first_size; segment = λ begun. cc }
+accepted_kept room local peer isn syn now = record { sound = first_sound room.manner.control 536 false first_size; segment = λ begun. cc }
 
 pub one_segment : (v : View) → KeepsCongestion v → is_idle v.state ≡ false → v.sending.smss ≤ v.congestion.cwnd
 one_segment v keeps begun = subst (λ n. n ≤ v.congestion.cwnd) (keeps.segment begun) (holds_segment v.congestion keeps.sound)
 
 -- One segment.
 
-signal_adds : (b : Before) (w : View) (c : Window) → IsWindow c → is_opening b.state ≡ false → is_recovering c ≡ false
-    → (let x = after_signal c (congestion_event_of b w) w.sending.smss w.resend.syn_resent in is_recovering x ≡ false → x.cwnd ≤ c.cwnd + c.smss)
-signal_adds b w c sound opened runs =
-    let P : Signal → Type 0 = λ g. (let x = after_signal c g w.sending.smss w.resend.syn_resent in is_recovering x ≡ false → x.cwnd ≤ c.cwnd + c.smss) in
+signal_adds : (b : Before) (w : View) (c : Window) → w.congestion ≡ c → IsWindow c → is_opening b.state ≡ false → is_recovering c ≡ false
+    → (let x = after_signal c (congestion_event_of b w) w.sending.smss w.resend.syn_resent in is_recovering x ≡ false → x.cwnd ≤ c.cwnd + most_growth c)
+signal_adds b w c same sound opened runs =
+    let P : Signal → Type 0 = λ g. (let x = after_signal c g w.sending.smss w.resend.syn_resent in is_recovering x ≡ false → x.cwnd ≤ c.cwnd + most_growth c) in
     let none : P Nothing = λ ends. omega arith in
     either Signal P (is_closed w.state) Nothing _ (λ closed. none)
     (λ lives. either Signal P (is_moved b w) _ _
-    (λ moved. either Signal P (is_opening b.state) Begins (Counts (NewAck (b.held - length w.sending.held))) (λ opens. clash (is_opening b.state) opens opened)
-    (λ past_opening ends. new_ack_adds c (b.held - length w.sending.held) sound runs))
-    (λ unmoved. either Signal P b.is_duplicate (Counts (Duplicate (outstanding w.sending))) Nothing (λ twice ends. duplicate_adds c (outstanding w.sending) runs ends) (λ other. none)))
+    (λ moved. either Signal P (is_opening b.state) Begins (Counts (acknowledged_event w (b.held - length w.sending.held))) (λ opens. clash (is_opening b.state) opens opened)
+    (λ past_opening. either WindowEvent (λ e. P (Counts e)) (goes_on w.congestion && nat_lt 0 w.resend.recover) _ _
+    (λ goes. clash (is_recovering c) (ap is_recovering (sym same) ∙ and_right (repairs w.congestion.control) (is_recovering w.congestion) (and_left (goes_on w.congestion) (nat_lt 0 w.resend.recover) goes)) runs)
+    (λ whole ends. new_ack_adds c (b.held - length w.sending.held) (outstanding w.sending) sound runs)))
+    (λ unmoved. either Signal P b.is_duplicate (Counts (Duplicate (outstanding w.sending))) Nothing (λ twice ends. duplicate_adds c (outstanding w.sending) sound runs ends) (λ other. none)))
 
 pub raised_by_one : (v : View) (s : Segment) (now : Moment) → KeepsCongestion v → is_opening v.state ≡ false → is_recovering v.congestion ≡ false
-    → is_recovering (after_segment_at v s now).congestion ≡ false → (after_segment_at v s now).congestion.cwnd ≤ v.congestion.cwnd + v.congestion.smss
+    → is_recovering (after_segment_at v s now).congestion ≡ false → (after_segment_at v s now).congestion.cwnd ≤ v.congestion.cwnd + most_growth v.congestion
 raised_by_one v s now keeps opened runs =
-    let P : Window → Type 0 = λ x. is_recovering x ≡ false → x.cwnd ≤ v.congestion.cwnd + v.congestion.smss in
+    let P : Window → Type 0 = λ x. is_recovering x ≡ false → x.cwnd ≤ v.congestion.cwnd + most_growth v.congestion in
     let w = after_heard v s in
     by_clock (λ x. P x.congestion) v s now (λ ends. omega arith)
     (λ lives. subst (λ c. P (after_signal c (congestion_event_of (before v s) w) w.sending.smss w.resend.syn_resent)) (sym (segment_leaves v s).congestion)
-    (signal_adds (before v s) w v.congestion keeps.sound opened runs))
+    (signal_adds (before v s) w v.congestion (segment_leaves v s).congestion keeps.sound opened runs))

@@ -2,6 +2,7 @@
 use Rattle.std.proofs.Common.{◌≡◌, ℕ, suc, ◌+◌, ◌<◌, ◌≤◌, ◌==◌, ◌&&◌, ◌||◌, not, nat_lt, min, if◌then◌else◌, Bool, true, false, length, Some, inl, inr, arith, refl, sym, ◌∙◌, ap, subst}
 use Rattle.std.proofs.lemmas.Bool.{eqb-true, eq-eqb, ltb-true, lt-ltb}
 use Rattle.std.proofs.lemmas.Bool.Decides.{leb_tells, eqb_tells}
+use Rattle.congestion.specs.Window.{allowed}
 use Rattle.tcp_state.specs.declared.emission.Due.{Due}
 use Rattle.tcp_state.specs.declared.emission.Due.TheVariants.{Rst, Syn, Text, Probe, Ack, KeepAlive}
 use Rattle.tcp_state.specs.declared.emission.Stretch.{Stretch}
@@ -56,12 +57,12 @@ held_again v mark sound opened within =
 -- no FIN goes with octets of a side that isn't closed
 pub without_fin : (v : View) (end : ℕ) → awaits_fin_ack v.state ≡ false → takes_fin v end ≡ false
 without_fin v end open_yet =
-    let rest = nat_lt end (open_window v.sending v.congestion.cwnd) in
+    let rest = nat_lt end (open_window v.sending (allowed v.congestion)) in
     ap (λ b. v.minshall && b && (end == length v.sending.held) && rest) open_yet ∙ ap (λ b. b && (end == length v.sending.held) && rest) (and_false v.minshall)
 
 pub held_new : (v : View) → IsSound v → is_opening v.state ≡ false → sends_new v ≡ true → IsHeld v (new_octets v)
 held_new v sound opened sends =
-    let some : 0 < sendable v.sending v.congestion.cwnd = ltb-true 0 (sendable v.sending v.congestion.cwnd) (and_left (nat_lt 0 (sendable v.sending v.congestion.cwnd)) (is_worth_sending v.sending v.congestion.cwnd (waits_no_longer v)) sends) in
+    let some : 0 < sendable v.sending (allowed v.congestion) = ltb-true 0 (sendable v.sending (allowed v.congestion)) (and_left (nat_lt 0 (sendable v.sending (allowed v.congestion))) (is_worth_sending v.sending (allowed v.congestion) (waits_no_longer v)) sends) in
     record {
       opened = opened;
       joined = omega arith;
@@ -69,10 +70,10 @@ held_new v sound opened sends =
       size = omega (arith, sound.segment);
       some = omega (arith, some, sound.segment_least);
       fin = λ ends.
-          let last = outstanding v.sending + next_count v.sending v.congestion.cwnd == length v.sending.held in
+          let last = outstanding v.sending + next_count v.sending (allowed v.congestion) == length v.sending.held in
           let two = and_left (v.minshall && awaits_fin_ack v.state && last) _ ends in (
             and_right v.minshall (awaits_fin_ack v.state) (and_left (v.minshall && awaits_fin_ack v.state) last two),
-            eqb-true (outstanding v.sending + next_count v.sending v.congestion.cwnd) (length v.sending.held) (and_right (v.minshall && awaits_fin_ack v.state) last two),
+            eqb-true (outstanding v.sending + next_count v.sending (allowed v.congestion)) (length v.sending.held) (and_right (v.minshall && awaits_fin_ack v.state) last two),
           );
     }
 

@@ -1,8 +1,10 @@
--- What one event makes of a congestion window: it stays sound, and grows by a segment at most.
-use Rattle.std.proofs.Common.{◌≡◌, ℕ, ◌+◌, ◌^◌, ◌<◌, ◌≤◌, Bool, false, arith}
+-- What one event makes of a congestion window: it stays sound, and grows by a segment at most, or by two.
+use Rattle.std.proofs.Common.{◌≡◌, ℕ, ◌+◌, ◌*◌, ◌/◌, ◌^◌, ◌<◌, ◌≤◌, min, Bool, false, arith}
 use Rattle.std.proofs.Math.Nat.{div-le_of_le-mul, mul-le-mul_right}
 use Rattle.std.proofs.lemmas.Bool.Decides.{nat_tests}
-use Rattle.congestion.specs.Window.{Window, IsSound, initial_window, is_recovering, growth, after_new_ack, after_expiry, after_duplicate}
+use Rattle.congestion.specs.declared.control.Control.{Control}
+use Rattle.congestion.specs.Control.{initial_segments}
+use Rattle.congestion.specs.Window.{Window, IsSound, allowed, initial_window, is_recovering, most_counted, growth, most_growth, after_new_ack, after_partial_ack, after_expiry, after_duplicate}
 
 -- so many octets as a segment may have
 pub record IsSize (smss : ℕ) : Type 0 where
@@ -16,19 +18,29 @@ IsWindow w = IsSound w
 pub holds_segment : (w : Window) → IsWindow w → w.smss ≤ w.cwnd
 holds_segment w sound = sound.cwnd_least
 
-pub first_sound : (smss : ℕ) (resent : Bool) → IsSize smss → IsSound (initial_window smss resent)
-first_sound smss resent size = record {
-  smss_least = size.least;
-  smss_most = size.most;
-  cwnd_least = grind (arith, nat_tests);
-  cwnd_most = grind (arith, nat_tests);
-  ssthresh_least = omega (arith, size.most);
-  ssthresh_most = omega arith;
-  duplicates = omega arith;
-}
+-- a segment at least, and ten at most
+segments_few : (control : Control) (smss : ℕ) (resent : Bool) → (1 ≤ initial_segments control smss resent) × (initial_segments control smss resent ≤ 10)
+segments_few control smss resent = (grind (arith, nat_tests), grind (arith, nat_tests))
 
-pub new_ack_sound : (w : Window) (octets : ℕ) → IsSound w → IsSound (after_new_ack w octets)
-new_ack_sound w octets sound = record {
+product_fits : (segments smss : ℕ) → 1 ≤ segments → segments ≤ 10 → (smss ≤ segments * smss) × (segments * smss ≤ 10 * smss)
+product_fits segments smss least most = (let one : 1 * smss ≤ segments * smss = mul-le-mul_right smss least in omega arith, mul-le-mul_right smss most)
+
+pub first_sound : (control : Control) (smss : ℕ) (resent : Bool) → IsSize smss → IsSound (initial_window control smss resent)
+first_sound control smss resent size =
+    let few = segments_few control smss resent in
+    let fits = product_fits (initial_segments control smss resent) smss few.0 few.1 in
+    record {
+      smss_least = size.least;
+      smss_most = size.most;
+      cwnd_least = fits.0;
+      cwnd_most = omega (arith, fits.1, size.most);
+      ssthresh_least = omega (arith, size.most);
+      ssthresh_most = omega arith;
+      duplicates = omega arith;
+    }
+
+pub new_ack_sound : (w : Window) (octets flight : ℕ) → IsSound w → IsSound (after_new_ack w octets flight)
+new_ack_sound w octets flight sound = record {
   smss_least = sound.smss_least;
   smss_most = sound.smss_most;
   cwnd_least = grind (arith, nat_tests);
@@ -36,6 +48,17 @@ new_ack_sound w octets sound = record {
   ssthresh_least = sound.ssthresh_least;
   ssthresh_most = sound.ssthresh_most;
   duplicates = omega arith;
+}
+
+pub partial_ack_sound : (w : Window) (octets : ℕ) → IsSound w → IsSound (after_partial_ack w octets)
+partial_ack_sound w octets sound = record {
+  smss_least = sound.smss_least;
+  smss_most = sound.smss_most;
+  cwnd_least = omega arith;
+  cwnd_most = grind (arith, nat_tests);
+  ssthresh_least = sound.ssthresh_least;
+  ssthresh_most = sound.ssthresh_most;
+  duplicates = sound.duplicates;
 }
 
 -- no more octets are in flight than there are numbers
@@ -65,18 +88,31 @@ duplicate_sound w flight small sound = record {
 pub duplicate_segment : (w : Window) (flight : ℕ) → (let x = after_duplicate w flight in x.smss) ≡ w.smss
 duplicate_segment w flight = grind (arith, nat_tests)
 
-growth_small : (w : Window) (octets : ℕ) → IsSound w → growth w octets ≤ w.smss
+-- what is divided by the window is no more than is counted
+quotient_small : (w : Window) (counted : ℕ) → IsSound w → w.smss * counted / w.cwnd ≤ counted
+quotient_small w counted sound = div-le_of_le-mul w.cwnd (mul-le-mul_right counted sound.cwnd_least)
+
+growth_small : (w : Window) (octets : ℕ) → IsSound w → growth w octets ≤ most_growth w
 growth_small w octets sound =
-    let quotient = div-le_of_le-mul w.cwnd (mul-le-mul_right w.smss sound.cwnd_least) in
+    let one = quotient_small w w.smss sound in
+    let counted = quotient_small w (min octets (most_counted w)) sound in
+    let few : most_counted w ≤ 2 * w.smss = grind (arith, nat_tests) in
     let least = sound.smss_least in
     grind (arith, nat_tests)
 
-pub new_ack_adds : (w : Window) (octets : ℕ) → IsSound w → is_recovering w ≡ false → (let x = after_new_ack w octets in x.cwnd) ≤ w.cwnd + w.smss
-new_ack_adds w octets sound runs =
+pub new_ack_adds : (w : Window) (octets flight : ℕ) → IsSound w → is_recovering w ≡ false → (let x = after_new_ack w octets flight in x.cwnd) ≤ w.cwnd + most_growth w
+new_ack_adds w octets flight sound runs =
     let small = growth_small w octets sound in
     let most = sound.cwnd_most in
     grind (arith, nat_tests)
 
 -- a duplicate ACK that begins no recovery adds nothing
-pub duplicate_adds : (w : Window) (flight : ℕ) → is_recovering w ≡ false → (let x = after_duplicate w flight in is_recovering x) ≡ false → (let x = after_duplicate w flight in x.cwnd) ≤ w.cwnd + w.smss
-duplicate_adds w flight runs ends = grind (arith, nat_tests)
+pub duplicate_adds : (w : Window) (flight : ℕ) → IsSound w → is_recovering w ≡ false → (let x = after_duplicate w flight in is_recovering x) ≡ false → (let x = after_duplicate w flight in x.cwnd) ≤ w.cwnd + most_growth w
+duplicate_adds w flight sound runs ends = grind (arith, nat_tests)
+
+-- no window is less than a segment, nor what may be in flight less than the window
+pub allows_some : (w : Window) → IsSound w → 0 < allowed w
+allows_some w sound =
+    let least = sound.smss_least in
+    let holds = sound.cwnd_least in
+    grind (arith, nat_tests)

@@ -90,3 +90,7 @@ pub mod Minshall
 pub mod LastSmall
 pub mod SilentPeers
 pub mod ProbesOfSilence
+pub mod SetUp
+pub mod Duplicates
+pub mod Recovering
+pub mod Transmits

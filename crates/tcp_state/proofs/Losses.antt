@@ -1,12 +1,13 @@
 -- Why the third duplicate ACK in a row, and no other, puts the segment at SND.UNA out again, and that alone.
+use Rattle.congestion.specs.Control.{repairs}
 use Rattle.std.proofs.Common.{◌≡◌, ℕ, ◌+◌, ◌-◌, ◌%◌, ◌^◌, ◌<◌, ◌==◌, ◌&&◌, ◌||◌, not, nat_lt, nat_le, if◌then◌else◌, Bool, true, false, length, Some, None, is_some, arith, refl, sym, ◌∙◌, ap, subst}
 use Rattle.std.specs.Option.{option_or}
 use Rattle.std.proofs.lemmas.Bool.{eqb-true, lt-ltb, ltb-true}
 use Rattle.tcp_segment.specs.Segment.{Segment}
 use Rattle.tcp_segment.specs.Wire.{past}
 use Rattle.clock.specs.declared.moment.Moment.{Moment}
-use Rattle.congestion.specs.Window.{Window, third_is_next}
-use Rattle.congestion.specs.Events.Event.{NewAck, Duplicate}
+use Rattle.congestion.specs.Window.{third_is_next, goes_on}
+use Rattle.congestion.specs.Events.Event.{Duplicate}
 use Rattle.tcp_state.specs.declared.arrival.Before.{Before}
 use Rattle.tcp_state.specs.declared.emission.Due.TheVariants.{Rst, Syn, Text}
 use Rattle.tcp_state.specs.declared.emission.Stretch.{Stretch}
@@ -20,10 +21,10 @@ use Rattle.tcp_state.specs.Resend.{Resend, stopped, mark_past, mark_left, resend
 use Rattle.tcp_state.specs.View.{View, IsSound, is_opening, is_syn_sent, is_syn_received, is_closed}
 use Rattle.tcp_state.specs.Congestion.{Signal}
 use Rattle.tcp_state.specs.Congestion.Signal.{Begins, Counts, Nothing}
-use Rattle.tcp_state.specs.Arrival.{owing_ack, after_establishment, is_receiving, beyond_fin, is_of_fin, fin_acknowledged, after_new_ack, after_ack, is_read, after_window, after_text, counts_fin, after_fin, is_lost, after_lost, after_segment, after_heard, octets_outstanding, is_duplicate, before, is_moved, resend_heard, resend_after, congestion_event_of, reveals_loss, timed_by, after_segment_at}
+use Rattle.tcp_state.specs.Arrival.{owing_ack, after_establishment, is_receiving, beyond_fin, is_of_fin, fin_acknowledged, after_new_ack, after_ack, is_read, after_window, after_text, counts_fin, after_fin, is_lost, after_lost, after_segment, after_heard, octets_outstanding, is_duplicate, before, is_moved, resend_heard, resend_after, congestion_event_of, timed_by, after_segment_at, acknowledged_event, counts_duplicates, is_counted_duplicate, resend_signalled}
 use Rattle.tcp_state.specs.Due.{end_of, after_resent, after_first_sent, after_numbers, after_new_text, brings_new_octets, after_emitted, ack_due, again, again_from, new_due, first_due}
 use Rattle.tcp_state.proofs.Clocked.{comes_to, unmoved, heard_paced, signalled}
-use Rattle.tcp_halves.proofs.Choices.{either, clash, and_left, and_right, and_false, both, not_true, unowed}
+use Rattle.tcp_halves.proofs.Choices.{either, clash, and_left, and_right, and_false, not_true, unowed}
 use Rattle.tcp_state.proofs.Segments.{IsRead, by_fin, by_ack, by_hearing, by_clock, read_tells, reads, not_rejected}
 use Rattle.tcp_state.proofs.Congestion.{window_kept}
 
@@ -109,24 +110,24 @@ numbers_stay v s =
     (λ tells. (refl, refl)) (λ none. (refl, refl))
 
 -- by it the segment at SND.UNA is lost
-loses : (v : View) (s : Segment) (now : Moment) → is_closed v.state ≡ false → is_duplicate v s ≡ true → third_is_next v.congestion ≡ true
-    → (let b = before v s in let w = after_window v s in resend_after b w now ≡ resend_lost (resend_heard b w now) (outstanding w.sending))
+loses : (v : View) (s : Segment) (now : Moment) → is_closed v.state ≡ false → is_counted_duplicate v s ≡ true → third_is_next v.congestion ≡ true
+    → (let b = before v s in let w = after_window v s in resend_after b w now ≡ resend_lost (resend_heard b w now) (repairs w.congestion.control) (outstanding w.sending))
 loses v s now lives is third =
     let b = before v s in
     let w = after_window v s in
-    let signal : Signal = if is_moved b w then (if is_opening b.state then Begins else Counts (NewAck (b.held - length w.sending.held))) else if b.is_duplicate then Counts (Duplicate (outstanding w.sending)) else Nothing in
+    let signal : Signal = if is_moved b w then (if is_opening b.state then Begins else Counts (acknowledged_event w (b.held - length w.sending.held))) else if b.is_duplicate then Counts (Duplicate (outstanding w.sending)) else Nothing in
     let still : is_moved b w ≡ false = ap (λ n. not (v.sending.una == n)) (numbers_stay v s).0 ∙ unmoved v in
     let event : congestion_event_of b w ≡ Counts (Duplicate (outstanding w.sending)) =
     ap (λ t. if t then Nothing else signal) lives
-    ∙ ap (λ t. if t then (if is_opening b.state then Begins else Counts (NewAck (b.held - length w.sending.held))) else if b.is_duplicate then Counts (Duplicate (outstanding w.sending)) else Nothing) still
+    ∙ ap (λ t. if t then (if is_opening b.state then Begins else Counts (acknowledged_event w (b.held - length w.sending.held))) else if b.is_duplicate then Counts (Duplicate (outstanding w.sending)) else Nothing) still
     ∙ ap (λ t. if t then Counts (Duplicate (outstanding w.sending)) else Nothing) is in
     let resend = resend_heard b w now in
-    ap (λ g. if reveals_loss g w.congestion then resend_lost resend (outstanding w.sending) else resend) event ∙ ap (λ t. if t then resend_lost resend (outstanding w.sending) else resend) third
+    ap (λ g. resend_signalled resend g w.congestion (outstanding w.sending)) event ∙ ap (λ t. if t then resend_lost resend (repairs w.congestion.control) (outstanding w.sending) else resend) third
 
-pub third_resends : (v : View) (s : Segment) (now : Moment) → IsSound v → is_closed v.state ≡ false → is_duplicate v s ≡ true → third_is_next v.congestion ≡ true
+pub third_resends : (v : View) (s : Segment) (now : Moment) → IsSound v → is_closed v.state ≡ false → is_counted_duplicate v s ≡ true → third_is_next v.congestion ≡ true
     → (first_due (after_segment_at v s now) ≡ Some (Text (again (after_segment_at v s now) 0))) × ((after_segment_at v s now).resend.once ≡ true)
 third_resends v s now sound lives is third =
-    let t = twice v s is in
+    let t = twice v s (and_left (is_duplicate v s) (counts_duplicates v) is) in
     let opened = past_opening v.state t.opened in
     let w = after_window v s in
     let x = timed_by (before v s) w now in
@@ -174,21 +175,26 @@ heard_marks_none v s opened none =
           by_fin (λ w. w.resend.mark ≡ None) text s (λ counts. read) read read;
     })
 
--- a loss is told by a third duplicate ACK alone
-pub told_by_third : (b : Before) (w : View) (c : Window) → reveals_loss (congestion_event_of b w) c ≡ true → (b.is_duplicate && third_is_next c) ≡ true
-told_by_third b w c =
-    signalled b w (λ g. reveals_loss g c ≡ true → (b.is_duplicate && third_is_next c) ≡ true) (λ none. cc) (λ none. cc) (λ none. cc) (λ twice third. both b.is_duplicate (third_is_next c) twice third)
+-- a third duplicate ACK, and where a recovery goes on a partial one, put a segment out again, and nothing else
+pub others_unlost : (b : Before) (w : View) (now : Moment) → goes_on w.congestion ≡ false → (b.is_duplicate && third_is_next w.congestion) ≡ false → resend_after b w now ≡ resend_heard b w now
+others_unlost b w now stands other =
+    let resend = resend_heard b w now in
+    signalled b w (λ g. resend_signalled resend g w.congestion (outstanding w.sending) ≡ resend) refl refl (λ whole. refl)
+    (λ moves opened goes. clash (goes_on w.congestion) (and_left (goes_on w.congestion) (nat_lt 0 w.resend.recover) goes) stands)
+    (λ stays twice. ap (λ t. if t then resend_lost resend (repairs w.congestion.control) (outstanding w.sending) else resend) (second_false b.is_duplicate (third_is_next w.congestion) twice other))
+  where
+    second_false : (x y : Bool) → x ≡ true → (x && y) ≡ false → y ≡ false
+    second_false true y e f = f
+    second_false false y e f = cc
 
-pub others_resend_none : (v : View) (s : Segment) (now : Moment) → IsSound v → v.resend.mark ≡ None → is_opening v.state ≡ false → (is_duplicate v s && third_is_next v.congestion) ≡ false
+pub others_resend_none : (v : View) (s : Segment) (now : Moment) → IsSound v → v.resend.mark ≡ None → is_opening v.state ≡ false → goes_on v.congestion ≡ false → (is_counted_duplicate v s && third_is_next v.congestion) ≡ false
     → (after_segment_at v s now).resend.mark ≡ None
-others_resend_none v s now sound none opened other =
+others_resend_none v s now sound none opened stands other =
     let b = before v s in
     let w = after_heard v s in
-    let resend = resend_heard b w now in
     by_clock (λ x. x.resend.mark ≡ None) v s now none
-    (λ lives. either Resend (λ p. p.mark ≡ None) (reveals_loss (congestion_event_of b w) w.congestion) (resend_lost resend (outstanding w.sending)) resend
-    (λ lost. clash (is_duplicate v s && third_is_next v.congestion) (sym (ap (λ c. is_duplicate v s && third_is_next c) (window_kept v s)) ∙ told_by_third b w w.congestion lost) other)
-    (λ kept. heard_paced b w now (λ p. p.mark ≡ w.resend.mark) refl refl refl ∙ heard_marks_none v s opened none))
+    (λ lives. ap (λ (p : Resend). p.mark) (others_unlost b w now (ap goes_on (window_kept v s) ∙ stands) (ap (λ c. is_counted_duplicate v s && third_is_next c) (window_kept v s) ∙ other))
+    ∙ (heard_paced b w now (λ p. p.mark ≡ w.resend.mark) refl refl refl ∙ heard_marks_none v s opened none))
 
 -- That segment alone.
 

@@ -109,7 +109,7 @@ heard_measures v s now =
     let P : Resend → Type 0 = λ p. Measures v (Some now) (record w { resend = p }) in
     let still : P (record w.resend { expiries = 0 }) = record { sampled = kept.sampled; begins = kept.begins } in
     let heard : P (resend_heard b w now) = heard_paced b w now P (acknowledged v w w.sending.una (is_opening b.state) now estimate k.timed) still (record { sampled = kept.sampled; begins = kept.begins }) in
-    let resend_view : P (resend_after b w now) = after_paced b w now P heard (record { sampled = heard.sampled; begins = heard.begins }) in
+    let resend_view : P (resend_after b w now) = after_paced b w now P heard (record { sampled = heard.sampled; begins = heard.begins }) (record { sampled = heard.sampled; begins = heard.begins }) in
     record { sampled = resend_view.sampled; begins = resend_view.begins }
 
 -- Emissions.

@@ -9,7 +9,7 @@ use Rattle.clock.specs.Moments.{has_come}
 use Rattle.retransmit.specs.Deadlines.{next_of}
 use Rattle.retransmit.specs.declared.timers.TimerKind.TheVariants.{Retransmission, Override}
 use Rattle.retransmit.specs.declared.timers.TimerKind.{TimerKind}
-use Rattle.congestion.specs.Window.{Window}
+use Rattle.congestion.specs.Window.{allowed, Window}
 use Rattle.tcp_state.specs.declared.calls.Refusal.TheVariants.{ETIMEDOUT}
 use Rattle.tcp_state.specs.declared.resend.TheConstants.{MOST_EXPIRIES}
 use Rattle.tcp_state.specs.declared.state.State.{State}
@@ -29,6 +29,7 @@ use Rattle.tcp_state.specs.Due.{probe_stretch, ack_due, again, goes_again, again
 use Rattle.tcp_state.specs.Said.{segment_of}
 use Rattle.tcp_state.specs.Progress.{AllCome, BringsOldest}
 use Rattle.tcp_halves.proofs.Choices.{either, by, clash, and_left, and_right, and_false, both, or_left, or_right, or_else, neither, of_false}
+use Rattle.tcp_state.proofs.Growth.{allows_some}
 use Rattle.tcp_state.proofs.Unchanged.{none_below}
 use Rattle.tcp_state.proofs.GoesOut.{without_fin}
 use Rattle.tcp_state.proofs.ResetAges.{live}
@@ -158,11 +159,11 @@ marked_brings w s out mark = (
 -- a closed window takes nothing else again, and nothing new but the probe
 probe_is_new : (w : View) → w.sending.window ≡ 0 → w.resend.owes_probe ≡ true → probes w ≡ true → new_due w ≡ Some Probe
 probe_is_new w shut owes goes =
-    let none : sendable w.sending w.congestion.cwnd ≡ 0 = omega (arith, shut) in
+    let none : sendable w.sending (allowed w.congestion) ≡ 0 = omega (arith, shut) in
     let no_room : nat_lt (outstanding w.sending) w.sending.window ≡ false = lt-leb (suc (outstanding w.sending)) w.sending.window (omega (arith, shut)) in
     let all = awaits_fin_ack w.state && (outstanding w.sending == length w.sending.held) in
     let no_fin : sends_fin w ≡ false = ap (λ b. all && b) no_room ∙ and_false all in
-    ap (λ n. if nat_lt 0 n && is_worth_sending w.sending w.congestion.cwnd (waits_no_longer w) then Some (Text (new_octets w)) else if sends_fin w then Some (Text (fin_alone w)) else if w.resend.owes_probe && probes w then Some Probe else ack_due w) none
+    ap (λ n. if nat_lt 0 n && is_worth_sending w.sending (allowed w.congestion) (waits_no_longer w) then Some (Text (new_octets w)) else if sends_fin w then Some (Text (fin_alone w)) else if w.resend.owes_probe && probes w then Some Probe else ack_due w) none
     ∙ (ap (λ b. if b then Some (Text (fin_alone w)) else if w.resend.owes_probe && probes w then Some Probe else ack_due w) no_fin
     ∙ ap (λ b. if b then Some Probe else ack_due w) (both w.resend.owes_probe (probes w) owes goes))
 
@@ -188,7 +189,7 @@ probed_brings w s shut owes goes within = subst (Brings w) (sym (once_open w s))
 -- nothing is outstanding: new octets begin there
 new_brings : (w : View) → Sends w → outstanding w.sending ≡ 0 → w.resend.mark ≡ None → sends_new w ≡ true → Brings w (first_due w)
 new_brings w s idle unmarked sends =
-    let some : 0 < sendable w.sending w.congestion.cwnd = ltb-true 0 (sendable w.sending w.congestion.cwnd) (and_left (nat_lt 0 (sendable w.sending w.congestion.cwnd)) (is_worth_sending w.sending w.congestion.cwnd (waits_no_longer w)) sends) in (
+    let some : 0 < sendable w.sending (allowed w.congestion) = ltb-true 0 (sendable w.sending (allowed w.congestion)) (and_left (nat_lt 0 (sendable w.sending (allowed w.congestion))) (is_worth_sending w.sending (allowed w.congestion) (waits_no_longer w)) sends) in (
       Text (new_octets w),
       once_open w s ∙ (ap (λ m. option_or (again_from w m) (new_due w)) unmarked
           ∙ ap (λ b. if b then Some (Text (new_octets w)) else if sends_fin w then Some (Text (fin_alone w)) else if w.resend.owes_probe && probes w then Some Probe else ack_due w) sends),
@@ -258,12 +259,12 @@ over_still : (undelayed before after : Bool) → (before ≡ true → after ≡ 
 over_still true before after e w = refl
 over_still false before after e w = e w
 
-sends_where : (v w : View) → w.sending ≡ v.sending → w.congestion ≡ v.congestion → nat_lt 0 (sendable v.sending v.congestion.cwnd) ≡ true
-    → is_worth_sending v.sending v.congestion.cwnd ((w.nodelay && takes_enough v.sending v.congestion.cwnd) || passes_full w || w.resend.overridden) ≡ true → sends_new w ≡ true
+sends_where : (v w : View) → w.sending ≡ v.sending → w.congestion ≡ v.congestion → nat_lt 0 (sendable v.sending (allowed v.congestion)) ≡ true
+    → is_worth_sending v.sending (allowed v.congestion) ((w.nodelay && takes_enough v.sending (allowed v.congestion)) || passes_full w || w.resend.overridden) ≡ true → sends_new w ≡ true
 sends_where v w sending congestion goes worth =
-    ap (λ (t : Sending). nat_lt 0 (sendable t w.congestion.cwnd) && is_worth_sending t w.congestion.cwnd ((w.nodelay && takes_enough t w.congestion.cwnd) || passes_full w || w.resend.overridden)) sending
-    ∙ (ap (λ (c : Window). nat_lt 0 (sendable v.sending c.cwnd) && is_worth_sending v.sending c.cwnd ((w.nodelay && takes_enough v.sending c.cwnd) || passes_full w || w.resend.overridden)) congestion
-    ∙ both (nat_lt 0 (sendable v.sending v.congestion.cwnd)) (is_worth_sending v.sending v.congestion.cwnd ((w.nodelay && takes_enough v.sending v.congestion.cwnd) || passes_full w || w.resend.overridden)) goes worth)
+    ap (λ (t : Sending). nat_lt 0 (sendable t (allowed w.congestion)) && is_worth_sending t (allowed w.congestion) ((w.nodelay && takes_enough t (allowed w.congestion)) || passes_full w || w.resend.overridden)) sending
+    ∙ (ap (λ (c : Window). nat_lt 0 (sendable v.sending (allowed c)) && is_worth_sending v.sending (allowed c) ((w.nodelay && takes_enough v.sending (allowed c)) || passes_full w || w.resend.overridden)) congestion
+    ∙ both (nat_lt 0 (sendable v.sending (allowed v.congestion))) (is_worth_sending v.sending (allowed v.congestion) ((w.nodelay && takes_enough v.sending (allowed v.congestion)) || passes_full w || w.resend.overridden)) goes worth)
 
 over_worth : (full alone over : Bool) → over ≡ true → (full || alone || over) ≡ true
 over_worth true alone over e = refl
@@ -330,13 +331,13 @@ idle_brings : (v : View) (now : Moment) → IsSound v → KeepsTime v → KeepsC
 idle_brings v now sound keeps network some all few unprobed room idle =
     let w = after_tick v now in
     let sent = v.sending in
-    let cwnd = v.congestion.cwnd in
+    let cwnd = allowed v.congestion in
     let k = leaves_streams v now sound some few in
     let opened = (holds_where v sound some).opened in
     let none : expires v now ≡ false =
     ap (λ b. b || has_come v.timers.probe now) (runs_not v.timers.retransmission now (keeps.retransmission ∙ ap (λ n. nat_lt 0 n && not (probes v)) idle)) ∙ runs_not v.timers.probe now (keeps.probe ∙ unprobed) in
     let i = tick_idles v now (stays_up v now sound some few) none in
-    let some_network : 0 < cwnd = omega (arith, network.sound.smss_least, network.sound.cwnd_least) in
+    let some_network : 0 < cwnd = allows_some v.congestion network.sound in
     let may : nat_lt 0 (sendable sent cwnd) ≡ true = lt-ltb 0 (sendable sent cwnd) (omega (arith, room, some_network, idle, some)) in
     let full = nat_le sent.smss (sendable sent cwnd) in
     let alone = (outstanding sent == 0) && takes_enough sent cwnd in

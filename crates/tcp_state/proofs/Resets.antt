@@ -13,7 +13,7 @@ use Rattle.tcp_halves.specs.Windows.{window_in}
 use Rattle.tcp_halves.specs.Stream.{outstanding, is_new_ack, is_in_window, receive_window, is_acceptable}
 use Rattle.tcp_state.specs.View.{View, IsSound, is_opening, is_syn_sent, is_closed, is_over, is_time_wait, is_write_finished, takes_flag_number, after_reset}
 use Rattle.tcp_state.specs.Timing.{KeepsTime}
-use Rattle.tcp_state.specs.Arrival.{is_acceptable_to, is_acting_reset, is_read, octets_outstanding, is_duplicate, is_lost, after_lost, ends_by_syn, ends_by_reset, ends_opening, acknowledges_unsent, is_rejected, reset_error, after_rst_in_syn_sent, after_rst, after_segment, is_of_fin, begins_wait, repeats_fin, answers_probe, after_segment_at, after_heard}
+use Rattle.tcp_state.specs.Arrival.{is_acceptable_to, is_acting_reset, is_read, octets_outstanding, is_duplicate, is_lost, after_lost, ends_by_syn, ends_by_reset, ends_opening, acknowledges_unsent, is_rejected, reset_error, after_rst_in_syn_sent, after_rst, after_segment, is_of_fin, begins_wait, repeats_fin, answers_probe, after_segment_at, after_heard, counts_duplicates, is_counted_duplicate}
 use Rattle.tcp_state.specs.Edges.{Hears, after_event, fate_by, is_removed, is_reset_by, ends_by, ends_by_ack}
 use Rattle.tcp_state.proofs.Clocked.{Owing, OwingAt, owing_timed, starts_none, comes_to}
 use Rattle.tcp_halves.proofs.Choices.{either, by, clash, and_left, and_right, both, or_left, or_right, or_else, not_true, of_false}
@@ -115,11 +115,11 @@ duplicate_is_read v s same =
     and_right opened (is_read v s) (and_left read (nat_lt 0 (octets_outstanding v)) (and_left flies (length s.octets == 0)
     (and_left bare (not s.flags.fin) (and_left goes_on (s.acknowledgement == v.sending.una) (and_left at_una (window_in v.sending s.window == v.sending.window) same)))))
 
-unaccepted_repeats_none : (v : View) (s : Segment) → is_acceptable_to v s ≡ false → is_duplicate v s ≡ false
-unaccepted_repeats_none v s refused = by (is_duplicate v s ≡ false) (is_duplicate v s) (λ same. clash (is_acceptable_to v s) (read_is_accepted v s (duplicate_is_read v s same)) refused) (λ none. none)
+unaccepted_repeats_none : (v : View) (s : Segment) → is_acceptable_to v s ≡ false → is_counted_duplicate v s ≡ false
+unaccepted_repeats_none v s refused = by (is_counted_duplicate v s ≡ false) (is_duplicate v s) (λ same. clash (is_acceptable_to v s) (read_is_accepted v s (duplicate_is_read v s same)) refused) (λ none. ap (λ b. b && counts_duplicates v) none)
 
-rst_repeats_none : (v : View) (s : Segment) → s.flags.rst ≡ true → is_duplicate v s ≡ false
-rst_repeats_none v s rst = by (is_duplicate v s ≡ false) (is_duplicate v s) (λ same. clash s.flags.rst rst (read_is_no_rst v s (duplicate_is_read v s same))) (λ none. none)
+rst_repeats_none : (v : View) (s : Segment) → s.flags.rst ≡ true → is_counted_duplicate v s ≡ false
+rst_repeats_none v s rst = by (is_counted_duplicate v s ≡ false) (is_duplicate v s) (λ same. clash s.flags.rst rst (read_is_no_rst v s (duplicate_is_read v s same))) (λ none. ap (λ b. b && counts_duplicates v) none)
 
 pub unaccepted_changes : (v : View) (s : Segment) (now : Moment) → KeepsTime v → is_syn_sent v.state ≡ false → is_acceptable_to v s ≡ false → OwingAt v (after_segment_at v s now)
 unaccepted_changes v s now keeps past_opening refused =

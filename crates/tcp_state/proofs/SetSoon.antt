@@ -95,33 +95,34 @@ clocked_soon moved v now was few k = record {
 
 -- Segments.
 
-sampled_few : (t : Timeout) (o : Option Timed) (una : ℕ) (now : Moment) → t.rto ≤ 60000 → (let u = timeout_sampled t o una now in u.rto ≤ 60000)
-sampled_few t None una now few = few
-sampled_few t (Some timed) una now few = either Timeout (λ u. u.rto ≤ 60000) (is_timed_by timed una) _ t (λ back. omega arith) (λ out. few)
+sampled_few : (t : Timeout) (o : Option Timed) (una : ℕ) (now : Moment) → t.least ≤ 1000 → t.rto ≤ 60000 → (let u = timeout_sampled t o una now in u.rto ≤ 60000)
+sampled_few t None una now least few = few
+sampled_few t (Some timed) una now least few = either Timeout (λ u. u.rto ≤ 60000) (is_timed_by timed una) _ t (λ back. omega arith) (λ out. few)
 
-acknowledged_few : (p : Resend) (una : ℕ) (opens : Bool) (now : Moment) → p.timeout.rto ≤ 60000 → (let q = resend_acknowledged p una opens now in q.timeout.rto ≤ 60000)
-acknowledged_few p una opens now few =
+acknowledged_few : (p : Resend) (una : ℕ) (opens : Bool) (now : Moment) → p.timeout.least ≤ 1000 → p.timeout.rto ≤ 60000 → (let q = resend_acknowledged p una opens now in q.timeout.rto ≤ 60000)
+acknowledged_few p una opens now least few =
     let sampled = timeout_sampled p.timeout p.timed una now in
-    either Timeout (λ u. u.rto ≤ 60000) (opens && nat_lt 0 p.expiries) (after_lost_syn sampled) sampled (λ lost. omega arith) (λ came. sampled_few p.timeout p.timed una now few)
+    either Timeout (λ u. u.rto ≤ 60000) (opens && nat_lt 0 p.expiries) (after_lost_syn sampled) sampled (λ lost. omega arith) (λ came. sampled_few p.timeout p.timed una now least few)
 
-heard_few : (v : View) (s : Segment) (now : Moment) → v.resend.timeout.rto ≤ 60000 → (let p = resend_after (before v s) (after_heard v s) now in p.timeout.rto ≤ 60000)
-heard_few v s now few =
+heard_few : (v : View) (s : Segment) (now : Moment) → v.resend.timeout.least ≤ 1000 → v.resend.timeout.rto ≤ 60000 → (let p = resend_after (before v s) (after_heard v s) now in p.timeout.rto ≤ 60000)
+heard_few v s now least few =
     let b = before v s in
     let w = after_heard v s in
     let same : w.resend.timeout.rto ≡ v.resend.timeout.rto = ap (λ (t : Timeout). t.rto) (segment_hears v s).timeout in
     let still : w.resend.timeout.rto ≤ 60000 = omega (arith, same, few) in
-    let heard = heard_paced b w now (λ p. p.timeout.rto ≤ 60000) (acknowledged_few w.resend w.sending.una (is_opening b.state) now still) still still in
-    after_paced b w now (λ p. p.timeout.rto ≤ 60000) heard heard
+    let bounded : w.resend.timeout.least ≤ 1000 = subst (λ (t : Timeout). t.least ≤ 1000) (sym (segment_hears v s).timeout) least in
+    let heard = heard_paced b w now (λ p. p.timeout.rto ≤ 60000) (acknowledged_few w.resend w.sending.una (is_opening b.state) now bounded still) still still in
+    after_paced b w now (λ p. p.timeout.rto ≤ 60000) heard heard heard
 
-heard_soon : (v : View) (s : Segment) (now : Moment) → v.resend.timeout.rto ≤ 60000 → SetSoon now v.timers (timed_by (before v s) (after_heard v s) now).timers
-heard_soon v s now few =
+heard_soon : (v : View) (s : Segment) (now : Moment) → v.resend.timeout.least ≤ 1000 → v.resend.timeout.rto ≤ 60000 → SetSoon now v.timers (timed_by (before v s) (after_heard v s) now).timers
+heard_soon v s now least few =
     let b = before v s in
     let w = after_heard v s in
     let kept : SetSoon now v.timers w.timers = elim (segment_hears v s).timers [
       | inl same ↦ subst (λ t. SetSoon now v.timers t) (sym same) (unset now v.timers)
       | inr none ↦ subst (λ t. SetSoon now v.timers t) (sym none.0) (stopped_soon now v.timers)
     ] in
-    clocked_soon (is_moved b w) (record w { since = since_after b w now; resend = resend_after b w now; congestion = congestion_after b w; alive = heard_now w.alive now }) now v.timers (heard_few v s now few) kept
+    clocked_soon (is_moved b w) (record w { since = since_after b w now; resend = resend_after b w now; congestion = congestion_after b w; alive = heard_now w.alive now }) now v.timers (heard_few v s now least few) kept
 
 -- Emissions.
 
@@ -169,31 +170,31 @@ timers_soon v now few =
 
 -- the timers are as they were, or stopped, or set by an event that has a moment
 abbrev SetsSoon : View → Event → View → Type 0
-SetsSoon v e w = (w.timers ≡ v.timers) ⊎ ((w.timers ≡ no_timers) ⊎ ((now : Moment) × (moment_of e ≡ Some now) × (v.resend.timeout.rto ≤ 60000 → SetSoon now v.timers w.timers)))
+SetsSoon v e w = (w.timers ≡ v.timers) ⊎ ((w.timers ≡ no_timers) ⊎ ((now : Moment) × (moment_of e ≡ Some now) × (v.resend.timeout.rto ≤ 60000 → v.resend.timeout.least ≤ 1000 → SetSoon now v.timers w.timers)))
 
 sets_soon : (v : View) (e : Event) → SetsSoon v e (after_event v e)
 sets_soon v = by_event (SetsSoon v) v (record {
   same = λ e. inl refl;
   asks = λ e alive. inl refl;
-  heard = λ s now lives. inr (inr (now, refl, heard_soon v s now));
+  heard = λ s now lives. inr (inr (now, refl, λ few least. heard_soon v s now least few));
   over = λ now ends. inr (inl refl);
   given_up = λ now waits expired. inr (inl refl);
-  acts = λ now. inr (inr (now, refl, timers_soon (after_silence v now) now));
-  emits = λ now. inr (inr (now, refl, emission_soon v (first_due v) now));
-  sends = λ octets taken now opened. inr (inr (now, refl, λ few. clocked_soon false (holding v taken) now v.timers few (unset now v.timers)));
+  acts = λ now. inr (inr (now, refl, λ few least. timers_soon (after_silence v now) now few));
+  emits = λ now. inr (inr (now, refl, λ few least. emission_soon v (first_due v) now few));
+  sends = λ octets taken now opened. inr (inr (now, refl, λ few least. clocked_soon false (holding v taken) now v.timers few (unset now v.timers)));
   reads = λ len. inl refl;
-  shuts = λ now. inr (inr (now, refl, shut_soon v.released v.since now));
+  shuts = λ now. inr (inr (now, refl, λ few least. shut_soon v.released v.since now few));
   delays = λ on now. inr (inr (
     now,
     refl,
-    λ few. clocked_soon false (told_nodelay v on) now v.timers few (let t = unset now v.timers in record {
+    λ few least. clocked_soon false (told_nodelay v on) now v.timers few (let t = unset now v.timers in record {
       retransmission = t.retransmission;
       probe = t.probe;
       delayed_ack = t.delayed_ack;
       overriding = goes_on_or_stops (awaits_more (record v { nodelay = on })) now v.timers.overriding;
     }),
   ));
-  leaves = λ now lives. inr (inr (now, refl, shut_soon true (if is_fin_wait_2 v.state then latest v.since now else v.since) now));
+  leaves = λ now lives. inr (inr (now, refl, λ few least. shut_soon true (if is_fin_wait_2 v.state then latest v.since now else v.since) now few));
   aborts = λ e now at cause lives. inr (inl refl);
   refused = λ number hit. inr (inl refl);
   hopless = λ now over. inr (inl refl);
@@ -217,12 +218,12 @@ of_kind now was is Override k = k.overriding
 -- a timer that runs after an event ran before, or the event has a moment and set it
 ran_or_set : (v : View) (e : Event) (deadline : Moment) (kind : TimerKind) → deadline_of (after_event v e).timers kind ≡ Some deadline
     → (deadline_of v.timers kind ≡ Some deadline)
-    ⊎ ((now : Moment) × (moment_of e ≡ Some now) × (v.resend.timeout.rto ≤ 60000 → (deadline_of v.timers kind ≡ Some deadline) ⊎ (deadline.0 ≤ now.0 + 60000)))
+    ⊎ ((now : Moment) × (moment_of e ≡ Some now) × (v.resend.timeout.rto ≤ 60000 → v.resend.timeout.least ≤ 1000 → (deadline_of v.timers kind ≡ Some deadline) ⊎ (deadline.0 ≤ now.0 + 60000)))
 ran_or_set v e deadline kind set = elim (sets_soon v e) [
   | inl same ↦ inl (sym (ap (λ (t : Timers). deadline_of t kind) same) ∙ set)
   | inr other ↦ elim other [
     | inl none ↦ let bad : None ≡ Some deadline = sym (ap (λ (t : Timers). deadline_of t kind) none ∙ none_runs kind) ∙ set in cc
-    | inr sets ↦ inr (sets.0, sets.1, λ few. of_kind sets.0 v.timers (after_event v e).timers kind (sets.2 few) deadline set)
+    | inr sets ↦ inr (sets.0, sets.1, λ few least. of_kind sets.0 v.timers (after_event v e).timers kind (sets.2 few least) deadline set)
   ]
 ]
 
@@ -231,7 +232,7 @@ pub soon : (v : View) (e : Event) (now deadline : Moment) (kind : TimerKind) →
 soon v e now deadline kind sound is set = elim (ran_or_set v e deadline kind set) [
   | inl was ↦ inl was
   | inr sets ↦ let same : ◌≡◌ {A = Option Moment} (Some sets.0) (Some now) = sym sets.1 ∙ is in let one : sets.0 ≡ now = cc in
-      subst (λ m. (deadline_of v.timers kind ≡ Some deadline) ⊎ (deadline.0 ≤ m.0 + 60000)) one (sets.2 sound.resend.timeout_most)
+      subst (λ m. (deadline_of v.timers kind ≡ Some deadline) ⊎ (deadline.0 ≤ m.0 + 60000)) one (sets.2 sound.resend.timeout_most sound.resend.ceiling)
 ]
 
 pub never : (v : View) (e : Event) (deadline : Moment) (kind : TimerKind) → moment_of e ≡ None → deadline_of (after_event v e).timers kind ≡ Some deadline → deadline_of v.timers kind ≡ Some deadline

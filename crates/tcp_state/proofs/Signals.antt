@@ -1,4 +1,5 @@
 -- What an event is to the congestion window, in the words of what it acknowledges.
+use Rattle.tcp_state.proofs.Clocked.{recover_kept}
 use Rattle.std.proofs.Common.{◌≡◌, ◌≢◌, ℕ, ◌+◌, ◌-◌, ◌%◌, ◌^◌, ◌<◌, ◌≤◌, ◌==◌, ◌&&◌, ◌||◌, ◌⊎◌, ◌↔◌, not, nat_lt, nat_le, min, if◌then◌else◌, Bool, true, false, List, [], ◌∷◌, length, drop, Some, inl, inr, arith, refl, sym, ◌∙◌, ap, ap₂, subst}
 use Rattle.std.proofs.lemmas.Bool.{eqb-true, eq-eqb, lt-ltb, ltb-true}
 use Rattle.std.proofs.lemmas.Bool.Decides.{eqb_tells, leb_tells}
@@ -7,8 +8,8 @@ use Rattle.tcp_segment.specs.Segment.{Segment}
 use Rattle.tcp_segment.specs.Wire.{past}
 use Rattle.clock.specs.declared.moment.Moment.{Moment}
 use Rattle.clock.specs.Moments.{has_come}
-use Rattle.congestion.specs.Window.{initial_window, after_new_ack, after_duplicate, after_expiry}
-use Rattle.congestion.specs.Events.Event.{NewAck, Expiry, Duplicate}
+use Rattle.congestion.specs.Window.{initial_window, goes_on as recovers_on, after_new_ack, after_partial_ack, after_duplicate, after_expiry}
+use Rattle.congestion.specs.Events.Event.{NewAck, PartialAck, Expiry, Duplicate}
 use Rattle.tcp_state.specs.declared.state.State.{State}
 use Rattle.tcp_state.specs.declared.state.State.TheVariants.{SynSent, SynReceived}
 use Rattle.tcp_halves.specs.Halves.{Sending}
@@ -22,12 +23,12 @@ use Rattle.tcp_state.specs.Congestion.Signal.{Begins, Counts, Nothing}
 use Rattle.tcp_state.specs.declared.calls.Refusal.TheVariants.{ETIMEDOUT}
 use Rattle.tcp_state.specs.Timing.{gives_up, after_expiries, after_tick}
 use Rattle.tcp_state.specs.Alive.{after_silence}
-use Rattle.tcp_state.specs.Arrival.{owing_ack, may_delay, beyond_end, is_acceptable_to, is_read, is_read_on, is_of_fin, fin_acknowledged, after_new_ack as after_acknowledging, after_establishment, after_ack, after_window, is_receiving, after_text, after_fin, after_segment, brings_more, is_lost, after_lost, after_heard, is_rejected, before, octets_outstanding, is_duplicate, is_moved, congestion_event_of, timed_by}
+use Rattle.tcp_state.specs.Arrival.{owing_ack, may_delay, beyond_end, is_acceptable_to, is_read, is_read_on, is_of_fin, fin_acknowledged, after_new_ack as after_acknowledging, after_establishment, after_ack, after_window, is_receiving, after_text, after_fin, after_segment, brings_more, is_lost, after_lost, after_heard, is_rejected, before, octets_outstanding, is_duplicate, is_moved, congestion_event_of, timed_by, acknowledged_event, counts_duplicates, is_counted_duplicate}
 use Rattle.tcp_state.specs.Edges.{Event, Hears, Ticks, Emits, Sends, Receives, Shuts, SetsNoDelay, SetsKeepAlive, Closes, Aborts, Unreachable, LosesHop, after_event, congestion_event_by}
 use Rattle.tcp_state.specs.Counted.{HasOctetOut, IsDuplicate}
 use Rattle.tcp_state.proofs.Segments.{IsRead, by_ack, by_hearing, reads, read_tells, reading_sends, not_rejected}
 use Rattle.tcp_state.proofs.Unchanged.{closed_plain}
-use Rattle.tcp_state.proofs.Congestion.{moves_by_events}
+use Rattle.tcp_state.proofs.Congestion.{moves_by_events, window_kept}
 
 -- A duplicate ACK.
 
@@ -144,7 +145,7 @@ numbers_out : (v : View) → HasOctetOut v → 0 < past v.sending.nxt v.sending.
 numbers_out v out = omega (arith, out.2)
 
 -- such a segment changes at most the window that the peer tells
-only_window : (v : View) (s : Segment) → IsSound v → IsDuplicate v s → after_heard v s ≡ after_window v s
+pub only_window : (v : View) (s : Segment) → IsSound v → IsDuplicate v s → after_heard v s ≡ after_window v s
 only_window v s sound d =
     let opened = opened_tells v.state d.opened in
     let old = old_ack v s.acknowledgement sound d.at_una in
@@ -201,20 +202,20 @@ pub is_moved_by : (v : View) (s : Segment) → (after_heard v s).sending.una ≢
 is_moved_by v s moved = elim (eqb_tells v.sending.una (after_heard v s).sending.una) [ inl same ↦ absurd (moved (sym same.1)) | inr other ↦ ap not other.0 ]
 
 moved_event : (v : View) (s : Segment) (now : Moment) → (after_event v (Hears s now)).sending.una ≢ v.sending.una → is_closed (after_event v (Hears s now)).state ≡ false
-    → congestion_event_by v (Hears s now) ≡ (if is_opening v.state then Begins else Counts (NewAck (length v.sending.held - length (after_heard v s).sending.held)))
+    → congestion_event_by v (Hears s now) ≡ (if is_opening v.state then Begins else Counts (acknowledged_event (after_heard v s) (length v.sending.held - length (after_heard v s).sending.held)))
 moved_event v s now moved alive =
     let x = after_heard v s in
     let hears = moved_hears v s now moved in
     let at = heard_is v s now hears in
-    let event : Signal = if is_opening v.state then Begins else Counts (NewAck (length v.sending.held - length x.sending.held)) in
+    let event : Signal = if is_opening v.state then Begins else Counts (acknowledged_event x (length v.sending.held - length x.sending.held)) in
     event_is v s now hears
-    ∙ ap (λ b. if b then Nothing else if is_moved (before v s) x then event else if is_duplicate v s then Counts (Duplicate (outstanding x.sending)) else Nothing) (sym (ap (λ (w : View). is_closed w.state) at) ∙ alive)
-    ∙ ap (λ b. if b then event else if is_duplicate v s then Counts (Duplicate (outstanding x.sending)) else Nothing) (is_moved_by v s (λ same. moved (ap (λ (w : View). w.sending.una) at ∙ same)))
+    ∙ ap (λ b. if b then Nothing else if is_moved (before v s) x then event else if is_counted_duplicate v s then Counts (Duplicate (outstanding x.sending)) else Nothing) (sym (ap (λ (w : View). is_closed w.state) at) ∙ alive)
+    ∙ ap (λ b. if b then event else if is_counted_duplicate v s then Counts (Duplicate (outstanding x.sending)) else Nothing) (is_moved_by v s (λ same. moved (ap (λ (w : View). w.sending.una) at ∙ same)))
 
 pub begins_at_opening : (v : View) (s : Segment) (now : Moment) → is_opening v.state ≡ true → (after_event v (Hears s now)).sending.una ≢ v.sending.una → is_closed (after_event v (Hears s now)).state ≡ false
-    → (after_event v (Hears s now)).congestion ≡ initial_window (after_event v (Hears s now)).sending.smss (after_event v (Hears s now)).resend.syn_resent
+    → (after_event v (Hears s now)).congestion ≡ initial_window v.congestion.control (after_event v (Hears s now)).sending.smss (after_event v (Hears s now)).resend.syn_resent
 begins_at_opening v s now opening moved alive =
-    window_by v (Hears s now) Begins (moved_event v s now moved alive ∙ ap (λ b. if b then Begins else Counts (NewAck (length v.sending.held - length (after_heard v s).sending.held))) opening)
+    window_by v (Hears s now) Begins (moved_event v s now moved alive ∙ ap (λ b. if b then Begins else Counts (acknowledged_event (after_heard v s) (length v.sending.held - length (after_heard v s).sending.held))) opening)
 
 -- so many octets are held no longer as it acknowledges
 
@@ -247,19 +248,52 @@ frees v s opened =
       read = λ on alive. subst (Frees v) (sym (reading_sends v s)) window;
     })
 
-pub counts_octets : (v : View) (s : Segment) (now : Moment) → is_opening v.state ≡ false → (after_event v (Hears s now)).sending.una ≢ v.sending.una → is_closed (after_event v (Hears s now)).state ≡ false
-    → (after_event v (Hears s now)).congestion ≡ after_new_ack v.congestion (min (past (after_event v (Hears s now)).sending.una v.sending.una) (length v.sending.held))
-counts_octets v s now opened moved alive =
+-- whether it is a partial one
+abbrev Partial : View → View → Bool
+Partial v w = recovers_on v.congestion && nat_lt 0 w.resend.recover
+
+acked_event : (v : View) (s : Segment) (now : Moment) (partial : Bool) → is_opening v.state ≡ false → (after_event v (Hears s now)).sending.una ≢ v.sending.una → is_closed (after_event v (Hears s now)).state ≡ false
+    → Partial v (after_event v (Hears s now)) ≡ partial
+    → congestion_event_by v (Hears s now) ≡ Counts (let n = length v.sending.held - length (after_heard v s).sending.held in if partial then PartialAck n else NewAck n (outstanding (after_heard v s).sending))
+acked_event v s now partial opened moved alive is =
+    let x = after_heard v s in
+    let n = length v.sending.held - length x.sending.held in
+    let at = heard_is v s now (moved_hears v s now moved) in
+    let moves = is_moved_by v s (λ same. moved (ap (λ (w : View). w.sending.una) at ∙ same)) in
+    let recover : (after_event v (Hears s now)).resend.recover ≡ x.resend.recover = ap (λ (w : View). w.resend.recover) at ∙ recover_kept (before v s) x now moves in
+    let told : (recovers_on x.congestion && nat_lt 0 x.resend.recover) ≡ partial = ap₂ (λ c r. recovers_on c && nat_lt 0 r) (window_kept v s) (sym recover) ∙ is in
+    moved_event v s now moved alive ∙ ap (λ b. if b then Begins else Counts (acknowledged_event x n)) opened
+    ∙ ap (λ b. Counts (if b then PartialAck n else NewAck n (outstanding x.sending))) told
+
+-- what it counts for
+acked_octets : (v : View) (s : Segment) (now : Moment) → is_opening v.state ≡ false → (after_event v (Hears s now)).sending.una ≢ v.sending.una → is_closed (after_event v (Hears s now)).state ≡ false
+    → (length v.sending.held - length (after_heard v s).sending.held ≡ min (past (after_event v (Hears s now)).sending.una v.sending.una) (length v.sending.held))
+    × (outstanding (after_heard v s).sending ≡ outstanding (after_event v (Hears s now)).sending)
+acked_octets v s now opened moved alive =
     let x = after_heard v s in
     let at = heard_is v s now (moved_hears v s now moved) in
     let una : (after_event v (Hears s now)).sending.una ≡ x.sending.una = ap (λ (w : View). w.sending.una) at in
-    let count = frees v s opened (sym (ap (λ (w : View). is_closed w.state) at) ∙ alive) (λ same. moved (una ∙ same)) in
-    window_by v (Hears s now) (Counts (NewAck (length v.sending.held - length x.sending.held)))
-    (moved_event v s now moved alive ∙ ap (λ b. if b then Begins else Counts (NewAck (length v.sending.held - length x.sending.held))) opened)
-    ∙ ap (after_new_ack v.congestion) (count ∙ ap (λ n. min (past n v.sending.una) (length v.sending.held)) (sym una))
+    (frees v s opened (sym (ap (λ (w : View). is_closed w.state) at) ∙ alive) (λ same. moved (una ∙ same)) ∙ ap (λ n. min (past n v.sending.una) (length v.sending.held)) (sym una), sym (ap (λ (w : View). outstanding w.sending) at))
 
-pub counts_duplicate : (v : View) (s : Segment) (now : Moment) → IsSound v → IsDuplicate v s → (after_event v (Hears s now)).congestion ≡ after_duplicate v.congestion (past v.sending.nxt v.sending.una)
-counts_duplicate v s now sound d =
+pub counts_octets : (v : View) (s : Segment) (now : Moment) → is_opening v.state ≡ false → (after_event v (Hears s now)).sending.una ≢ v.sending.una → is_closed (after_event v (Hears s now)).state ≡ false
+    → (recovers_on v.congestion && nat_lt 0 (after_event v (Hears s now)).resend.recover) ≡ false
+    → (after_event v (Hears s now)).congestion ≡ after_new_ack v.congestion (min (past (after_event v (Hears s now)).sending.una v.sending.una) (length v.sending.held)) (outstanding (after_event v (Hears s now)).sending)
+counts_octets v s now opened moved alive whole =
+    let n = length v.sending.held - length (after_heard v s).sending.held in
+    let counts = acked_octets v s now opened moved alive in
+    window_by v (Hears s now) (Counts (NewAck n (outstanding (after_heard v s).sending))) (acked_event v s now false opened moved alive whole)
+    ∙ ap₂ (after_new_ack v.congestion) counts.0 counts.1
+
+pub counts_partly : (v : View) (s : Segment) (now : Moment) → is_opening v.state ≡ false → (after_event v (Hears s now)).sending.una ≢ v.sending.una → is_closed (after_event v (Hears s now)).state ≡ false
+    → (recovers_on v.congestion && nat_lt 0 (after_event v (Hears s now)).resend.recover) ≡ true
+    → (after_event v (Hears s now)).congestion ≡ after_partial_ack v.congestion (min (past (after_event v (Hears s now)).sending.una v.sending.una) (length v.sending.held))
+counts_partly v s now opened moved alive goes =
+    let n = length v.sending.held - length (after_heard v s).sending.held in
+    window_by v (Hears s now) (Counts (PartialAck n)) (acked_event v s now true opened moved alive goes)
+    ∙ ap (after_partial_ack v.congestion) (acked_octets v s now opened moved alive).0
+
+pub counts_duplicate : (v : View) (s : Segment) (now : Moment) → IsSound v → IsDuplicate v s → counts_duplicates v ≡ true → (after_event v (Hears s now)).congestion ≡ after_duplicate v.congestion (past v.sending.nxt v.sending.una)
+counts_duplicate v s now sound d counts =
     let lives = flies_open v sound (numbers_out v d.outstanding) in
     let opened = opened_tells v.state d.opened in
     let hears : (is_closed v.state || is_rejected v s) ≡ false = ap (λ b. b || is_rejected v s) lives ∙ not_rejected v s opened.0 opened.1 in
@@ -269,13 +303,13 @@ counts_duplicate v s now sound d =
     window_by v (Hears s now) (Counts (Duplicate (past v.sending.nxt v.sending.una)))
     (event_is v s now hears
     ∙ ap (congestion_event_of (before v s)) (only_window v s sound d)
-    ∙ ap (λ b. if b then Nothing else if is_moved (before v s) told then (if is_opening v.state then Begins else Counts (NewAck (length v.sending.held - length told.sending.held))) else repeated told) lives
-    ∙ ap (λ b. if not b then (if is_opening v.state then Begins else Counts (NewAck (length v.sending.held - length told.sending.held))) else repeated told) same
-    ∙ ap (λ b. if b then Counts (Duplicate (outstanding told.sending)) else Nothing) (is_repeated v s sound d)
+    ∙ ap (λ b. if b then Nothing else if is_moved (before v s) told then (if is_opening v.state then Begins else Counts (acknowledged_event told (length v.sending.held - length told.sending.held))) else repeated told) lives
+    ∙ ap (λ b. if not b then (if is_opening v.state then Begins else Counts (acknowledged_event told (length v.sending.held - length told.sending.held))) else repeated told) same
+    ∙ ap (λ b. if b then Counts (Duplicate (outstanding told.sending)) else Nothing) (both (is_duplicate v s) (counts_duplicates v) (is_repeated v s sound d) counts)
     ∙ ap₂ (λ n u. Counts (Duplicate (past n u))) stays.1 stays.0)
   where
     repeated : View → Signal
-    repeated w = if is_duplicate v s then Counts (Duplicate (outstanding w.sending)) else Nothing
+    repeated w = if is_counted_duplicate v s then Counts (Duplicate (outstanding w.sending)) else Nothing
 
 -- An expiry.
 
@@ -301,7 +335,7 @@ counts_expiry v now comes alive =
 -- Nothing else.
 
 abbrev Tells : View → Event → View → Type 0
-Tells v e w = ((s : Segment) × (now : Moment) × (e ≡ Hears s now) × (is_closed w.state ≡ false) × ((w.sending.una ≢ v.sending.una) ⊎ IsDuplicate v s))
+Tells v e w = ((s : Segment) × (now : Moment) × (e ≡ Hears s now) × (is_closed w.state ≡ false) × ((w.sending.una ≢ v.sending.una) ⊎ (IsDuplicate v s × (counts_duplicates v ≡ true))))
     ⊎ ((now : Moment) × (e ≡ Ticks now) × (has_come v.timers.retransmission now ≡ true))
 
 pub others_count_none : (v : View) (e : Event) → ((after_event v e).congestion ≡ v.congestion) ⊎ Tells v e (after_event v e)
@@ -313,13 +347,13 @@ others_count_none v (Hears s now) =
     (λ hears.
     let at = heard_is v s now hears in
     let none : congestion_event_of (before v s) x ≡ Nothing → G = λ is. inl (window_by v (Hears s now) Nothing (event_is v s now hears ∙ is)) in
-    let tells : is_closed x.state ≡ false → (x.sending.una ≢ v.sending.una) ⊎ IsDuplicate v s → G = λ alive how.
+    let tells : is_closed x.state ≡ false → (x.sending.una ≢ v.sending.una) ⊎ (IsDuplicate v s × (counts_duplicates v ≡ true)) → G = λ alive how.
     inr (inl (s, now, refl, ap (λ (y : View). is_closed y.state) at ∙ alive, elim how [ inl moved ↦ inl (λ same. moved (sym (ap (λ (y : View). y.sending.una) at) ∙ same)) | inr twice ↦ inr twice ])) in
     either Signal (λ g. (g ≡ Nothing → G) → G) (is_closed x.state) Nothing _ (λ closed how. how refl)
     (λ alive. either Signal (λ g. (g ≡ Nothing → G) → G) (is_moved (before v s) x) _ _
     (λ moved how. tells alive (inl (λ same. clash (v.sending.una == x.sending.una) (eq-eqb v.sending.una x.sending.una (sym same)) (not_true (v.sending.una == x.sending.una) moved))))
-    (λ stays. either Signal (λ g. (g ≡ Nothing → G) → G) (is_duplicate v s) (Counts (Duplicate (outstanding x.sending))) Nothing
-    (λ twice how. tells alive (inr (duplicate_tells v s twice))) (λ other how. how refl))) none)
+    (λ stays. either Signal (λ g. (g ≡ Nothing → G) → G) (is_counted_duplicate v s) (Counts (Duplicate (outstanding x.sending))) Nothing
+    (λ twice how. tells alive (inr (duplicate_tells v s (and_left (is_duplicate v s) (counts_duplicates v) twice), and_right (is_duplicate v s) (counts_duplicates v) twice))) (λ other how. how refl))) none)
 others_count_none v (Ticks now) =
     by (((after_event v (Ticks now)).congestion ≡ v.congestion) ⊎ Tells v (Ticks now) (after_event v (Ticks now))) (has_come v.timers.retransmission now)
     (λ comes. inr (inr (now, refl, comes)))

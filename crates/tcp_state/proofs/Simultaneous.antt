@@ -11,7 +11,7 @@ use Rattle.tcp_segment.specs.Sent.{sent_segment}
 use Rattle.tcp_segment.specs.Wire.{wire, past}
 use Rattle.retransmit.specs.declared.timers.Timers.{Timers}
 use Rattle.retransmit.specs.Deadlines.{no_timers}
-use Rattle.congestion.specs.Window.{initial_window}
+use Rattle.congestion.specs.Window.{allowed, initial_window}
 use Rattle.tcp_state.specs.declared.timing.TheConstants.{OVERRIDE_WAIT}
 use Rattle.tcp_state.specs.declared.emission.Due.{Due}
 use Rattle.tcp_state.specs.declared.emission.Due.TheVariants.{Syn, Text, Ack}
@@ -21,13 +21,13 @@ use Rattle.tcp_halves.specs.Halves.{Room, Receiving}
 use Rattle.tcp_halves.specs.Stream.{size_in, own_unit, peer_unit, size_of, outstanding, sending_from, receiving_nothing, receive_window, is_in_window, is_acceptable}
 use Rattle.tcp_state.specs.New.{waits_no_longer}
 use Rattle.tcp_halves.specs.Windows.{window_in, updates_window, is_worth_sending, receive_room, has_grown, whole_units, after_advertisement, window_field, syn_window, after_syn_advertisement}
-use Rattle.tcp_state.specs.Resend.{Resend, first_resend, mark_past, resend_lost}
+use Rattle.tcp_state.specs.Resend.{Resend, first_resend, mark_past}
 use Rattle.tcp_state.specs.Timing.{waiting_since, clocked}
 use Rattle.tcp_state.specs.Alive.{asked}
 use Rattle.tcp_state.specs.View.{View, first_congestion, opened_actively}
 use Rattle.tcp_state.specs.Congestion.{after_signal}
 use Rattle.tcp_state.specs.Congestion.Signal.{Begins, Nothing}
-use Rattle.tcp_state.specs.Arrival.{owing_ack, after_establishment, after_window, after_text, after_fin, after_acceptable_segment, is_acceptable_to, acknowledges_unsent, answers_probe, before, reveals_loss, timed_by, after_heard}
+use Rattle.tcp_state.specs.Arrival.{owing_ack, after_establishment, after_window, after_text, after_fin, after_acceptable_segment, is_acceptable_to, acknowledges_unsent, answers_probe, before, timed_by, after_heard, resend_signalled}
 use Rattle.tcp_state.specs.Due.{first_due, ack_due, new_octets, head_of, octets_of, after_syn_ack_paid, after_resent, after_first_sent, after_syn_again}
 use Rattle.tcp_state.specs.Edges.{Hears, Emits, after_first, after_event}
 use Rattle.tcp_state.specs.Simultaneous.{first_segment, after_coming, Ends, crossed, AnswersSyn, CanBeMade, HasOpened, KnowsWindow}
@@ -67,14 +67,14 @@ abbrev opening : Meeting → Moment → View
 opening m at = opened_actively m.mine.room m.here m.there m.isn at
 
 -- its SYN went out at this moment: its round trip is measured, and its timer runs
-abbrev timed_from : ℕ → Moment → Resend
-timed_from isn first = record first_resend { timed = Some (record { end = record { 0 = wire isn 1 }; since = first }) }
+abbrev timed_from : ℕ → ℕ → Moment → Resend
+timed_from least isn first = record (first_resend least) { timed = Some (record { end = record { 0 = wire isn 1 }; since = first }) }
 
 abbrev runs_from : Moment → Timers
 runs_from first = record no_timers { retransmission = Some (after first 1000) }
 
 abbrev waiting : Meeting → Moment → View
-waiting m first = record (opening m first) { sending = record (sending_from (size_of m.mine.room) m.isn) { nxt = wire m.isn 1 }; resend = timed_from m.isn first; timers = runs_from first; unheard = None }
+waiting m first = record (opening m first) { sending = record (sending_from (size_of m.mine.room) m.isn) { nxt = wire m.isn 1 }; resend = timed_from m.mine.room.manner.least_timeout m.isn first; timers = runs_from first; unheard = None }
 
 -- what the other's SYN settles
 record Settled : Type 0 where
@@ -115,21 +115,21 @@ taken m t out mark first = record (opening m first) {
   scales = t.scales;
   sending = record { held = []; una = m.isn; nxt = wire m.isn 1; window = t.heard; max_window = max 0 t.heard; wl1 = m.other; wl2 = m.isn; smss = t.smss; size = t.sends; unit = t.peer };
   receiving = record { readable = []; kept = (receiving_nothing m.mine.room).kept; rnext = wire m.other 1; edge = (wire m.other 1 + (if out == 0 then 0 else t.told)) % 2 ^ 32; size = t.takes; capacity = m.mine.room.capacity; unit = t.own };
-  resend = record (timed_from m.isn first) { mark = mark };
+  resend = record (timed_from m.mine.room.manner.least_timeout m.isn first) { mark = mark };
   timers = runs_from first;
   unheard = None;
 }
 
 -- its SYN goes out again, with an acknowledgement ..
 abbrev again_due : Meeting → Moment → View
-again_due m first = answering m m.mine.told false false (record (timed_from m.isn first) { mark = Some 0 }) first first
+again_due m first = answering m m.mine.told false false (record (timed_from m.mine.room.manner.least_timeout m.isn first) { mark = Some 0 }) first first
 
 -- .. and went out twice, so that its round trip is not measured
-abbrev resent_once : Resend
-resent_once = record first_resend { resent = 1 }
+abbrev resent_once : ℕ → Resend
+resent_once least = record (first_resend least) { resent = 1 }
 
 abbrev again_sent : Meeting → ℕ → Bool → Bool → Moment → Moment → View
-again_sent m window owes spoke first last = answering m window owes spoke resent_once first last
+again_sent m window owes spoke first last = answering m window owes spoke (resent_once m.mine.room.manner.least_timeout) first last
 
 -- the other's window, in octets
 abbrev known : Meeting → ℕ
@@ -143,15 +143,15 @@ opened m last = record (opening m (record { 0 = 0 })) {
   sending = record { held = []; una = wire m.isn 1; nxt = wire m.isn 1; window = known m; max_window = max (max 0 m.theirs.told) (known m); wl1 = wire m.other 1; wl2 = wire m.isn 1; smss = 1460; size = m.mine.size; unit = m.unit };
   receiving = receives m m.mine.wide;
   spoke = true;
-  resend = resent_once;
-  congestion = initial_window 1460 false;
+  resend = resent_once m.mine.room.manner.least_timeout;
+  congestion = initial_window m.mine.room.manner.control 1460 false;
   unheard = None;
   alive = asked None last;
 }
 
 -- .. but for the clock
 abbrev heard : Meeting → Moment → Moment → View
-heard m first last = record (opened m last) { timers = runs_from first; congestion = first_congestion }
+heard m first last = record (opened m last) { timers = runs_from first; congestion = first_congestion m.mine.room.manner.control }
 
 -- the segments that each sends
 
@@ -279,7 +279,7 @@ syn_goes m at now f =
     let v = opening m at in
     ap (λ d. after_first v d now) (first_is_syn m at f)
     ∙ (ap (λ n. clocked false (out_again v now n) now) (none_out m.isn f.isn)
-    ∙ (ap (λ n. clocked false (record v { sending = record (sending_from (size_of m.mine.room) m.isn) { nxt = n }; resend = record first_resend { timed = Some (record { end = record { 0 = n }; since = now }) } }) now) (sent_first m.isn f.isn)
+    ∙ (ap (λ n. clocked false (record v { sending = record (sending_from (size_of m.mine.room) m.isn) { nxt = n }; resend = record (first_resend m.mine.room.manner.least_timeout) { timed = Some (record { end = record { 0 = n }; since = now }) } }) now) (sent_first m.isn f.isn)
     ∙ ap (running_if (waiting m now) (Some at) now now) (one_out m.isn f.isn)))
 
 syn_comes : (m : Meeting) (now : Moment) → Fits m → after_event (waiting m now) (Hears (syn_of (mirror m)) now) ≡ again_due m now
@@ -305,8 +305,8 @@ syn_ack_goes m first now f =
     let w = again_sent m m.mine.told false false first first in
     ap (λ d. after_first v d now) (first_is_syn_ack m first f)
     ∙ (ap (λ n. clocked false (after_syn_ack_paid (out_again v now n)) now) (one_out m.isn f.isn)
-    ∙ (ap (λ n. clocked false (after_syn_ack_paid (record w { sending = record w.sending { nxt = n }; resend = record resent_once { mark = mark_past 1 (past n m.isn) } })) now) (sent_again m.isn)
-    ∙ (ap (λ n. clocked false (after_syn_ack_paid (record w { resend = record resent_once { mark = mark_past 1 n } })) now) (one_out m.isn f.isn)
+    ∙ (ap (λ n. clocked false (after_syn_ack_paid (record w { sending = record w.sending { nxt = n }; resend = record (resent_once m.mine.room.manner.least_timeout) { mark = mark_past 1 (past n m.isn) } })) now) (sent_again m.isn)
+    ∙ (ap (λ n. clocked false (after_syn_ack_paid (record w { resend = record (resent_once m.mine.room.manner.least_timeout) { mark = mark_past 1 n } })) now) (one_out m.isn f.isn)
     ∙ (ap (λ r. clocked false (record w { receiving = r }) now) (still_told m f) ∙ ap (running_if w None now first) (one_out m.isn f.isn)))))
 
 -- the other's SYN, once more, stands right before the window
@@ -392,8 +392,8 @@ at_rest : (m : Meeting) (first now : Moment) → clocked true (record (opened m 
 at_rest m first now =
     let w = opened m now in
     let n = outstanding w.sending in
-    let open_window = min w.sending.window w.congestion.cwnd - n in
-    let worth = is_worth_sending w.sending w.congestion.cwnd (waits_no_longer w) in
+    let open_window = min w.sending.window (allowed w.congestion) - n in
+    let worth = is_worth_sending w.sending (allowed w.congestion) (waits_no_longer w) in
     ap (λ b. record w {
       resend = record w.resend { interval = if b && false then 1000 else 1000 };
       timers = record no_timers {
@@ -424,7 +424,7 @@ ack_comes m first last now f =
     comes_to v s now refl (ap (λ a. not a && (is_acceptable_to v s && true)) (acknowledges m.isn f.isn))
     ∙ (ap (λ x. timed_by b x now) (ack_heard m first last f)
     ∙ (ap (λ x. clocked x (record w {
-      resend = let resend = if x then resent_once else if answers_probe v s then resent_once else resent_once in if reveals_loss (if x then Begins else Nothing) w.congestion then resend_lost resend (outstanding w.sending) else resend;
+      resend = let once = resent_once m.mine.room.manner.least_timeout in let resend = if x then once else if answers_probe v s then once else once in resend_signalled resend (if x then Begins else Nothing) w.congestion (outstanding w.sending);
       congestion = after_signal w.congestion (if x then Begins else Nothing) 1460 false;
       alive = asked None now;
     }) now) (moves m.isn f.isn)
@@ -434,7 +434,7 @@ none_left : (m : Meeting) (last : Moment) → Fits m → first_due (opened m las
 none_left m last f =
     let v = opened m last in
     let n = outstanding v.sending in
-    ap (λ b. if b && is_worth_sending v.sending v.congestion.cwnd (waits_no_longer v) then Some (Text (new_octets v)) else ack_due v) (none_waits n (min v.sending.window v.congestion.cwnd - n))
+    ap (λ b. if b && is_worth_sending v.sending (allowed v.congestion) (waits_no_longer v) then Some (Text (new_octets v)) else ack_due v) (none_waits n (min v.sending.window (allowed v.congestion) - n))
     ∙ ap (λ b. if b then Some Ack else None) (full m f)
 
 -- Both together.

@@ -2,6 +2,7 @@
 use Rattle.std.proofs.Common.{◌≡◌, ◌+◌, ◌*◌, ◌<◌, ◌≤◌, ◌==◌, ◌&&◌, ◌||◌, ◌⊎◌, nat_le, nat_lt, true, false, length, Some, inl, inr, arith, ◌∙◌, ap, subst}
 use Rattle.std.proofs.lemmas.Bool.{leb-true, ltb-true, eqb-true}
 use Rattle.std.proofs.lemmas.Bool.Decides.{leb_tells}
+use Rattle.congestion.specs.Window.{allowed}
 use Rattle.tcp_state.specs.declared.emission.Due.TheVariants.{Text}
 use Rattle.tcp_state.specs.declared.emission.Stretch.{Stretch}
 use Rattle.tcp_halves.specs.Stream.{outstanding}
@@ -27,27 +28,27 @@ by_new P v sound new stretch first = by_due (λ o. (t : Stretch) → o ≡ Some 
 }) stretch first
 
 -- all that is held, or half of the largest window
-enough : (v : View) → takes_enough v.sending v.congestion.cwnd ≡ true → next_count v.sending v.congestion.cwnd < v.sending.smss → outstanding v.sending ≤ length v.sending.held
-    → (outstanding v.sending + next_count v.sending v.congestion.cwnd ≡ length v.sending.held) ⊎ (v.sending.max_window ≤ 2 * next_count v.sending v.congestion.cwnd)
+enough : (v : View) → takes_enough v.sending (allowed v.congestion) ≡ true → next_count v.sending (allowed v.congestion) < v.sending.smss → outstanding v.sending ≤ length v.sending.held
+    → (outstanding v.sending + next_count v.sending (allowed v.congestion) ≡ length v.sending.held) ⊎ (v.sending.max_window ≤ 2 * next_count v.sending (allowed v.congestion))
 enough v much small within =
-    let n = sendable v.sending v.congestion.cwnd in
+    let n = sendable v.sending (allowed v.congestion) in
     let d = unsent v.sending in
-    let u = usable v.sending v.congestion.cwnd in
-    elim (or_else (takes_all v.sending v.congestion.cwnd) (nat_le v.sending.max_window (2 * n)) much) [
+    let u = usable v.sending (allowed v.congestion) in
+    elim (or_else (takes_all v.sending (allowed v.congestion)) (nat_le v.sending.max_window (2 * n)) much) [
       | inl all ↦ let fits = leb-true d u all in inl (omega (arith, fits, small, within))
       | inr half ↦ let most = leb-true v.sending.max_window (2 * n) half in inr (omega (arith, most, small))
     ]
 
 -- Why it is worth its way: nothing is outstanding, or it waits no longer.
-worth : (v : View) → sends_new v ≡ true → next_count v.sending v.congestion.cwnd < v.sending.smss
-    → ((outstanding v.sending ≡ 0) × (takes_enough v.sending v.congestion.cwnd ≡ true)) ⊎ (waits_no_longer v ≡ true)
+worth : (v : View) → sends_new v ≡ true → next_count v.sending (allowed v.congestion) < v.sending.smss
+    → ((outstanding v.sending ≡ 0) × (takes_enough v.sending (allowed v.congestion) ≡ true)) ⊎ (waits_no_longer v ≡ true)
 worth v sends small =
-    let n = sendable v.sending v.congestion.cwnd in
+    let n = sendable v.sending (allowed v.congestion) in
     let full = nat_le v.sending.smss n in
     let none = outstanding v.sending == 0 in
-    let much = takes_enough v.sending v.congestion.cwnd in
+    let much = takes_enough v.sending (allowed v.congestion) in
     let short : full ≡ false = elim (leb_tells v.sending.smss n) [ inl t ↦ absurd (omega (arith, t.1, small)) | inr t ↦ t.0 ] in
-    elim (or_else (full || (none && much)) (waits_no_longer v) (and_right (nat_lt 0 n) (is_worth_sending v.sending v.congestion.cwnd (waits_no_longer v)) sends)) [
+    elim (or_else (full || (none && much)) (waits_no_longer v) (and_right (nat_lt 0 n) (is_worth_sending v.sending (allowed v.congestion) (waits_no_longer v)) sends)) [
       | inl goes ↦ elim (or_else full (none && much) goes) [
         | inl whole ↦ clash full whole short
         | inr idle ↦ inl (eqb-true (outstanding v.sending) 0 (and_left none much idle), and_right none much idle)
@@ -58,8 +59,8 @@ worth v sends small =
 -- some octets are held that have not gone out
 some_unsent : (v : View) → sends_new v ≡ true → outstanding v.sending ≤ length v.sending.held
 some_unsent v sends =
-    let n = sendable v.sending v.congestion.cwnd in
-    let some = ltb-true 0 n (and_left (nat_lt 0 n) (is_worth_sending v.sending v.congestion.cwnd (waits_no_longer v)) sends) in omega (arith, some)
+    let n = sendable v.sending (allowed v.congestion) in
+    let some = ltb-true 0 n (and_left (nat_lt 0 n) (is_worth_sending v.sending (allowed v.congestion) (waits_no_longer v)) sends) in omega (arith, some)
 
 -- without delay asked for, without the override and where large segments are waited for too, nothing is outstanding
 abbrev Waits : View → Stretch → Type 0
@@ -68,7 +69,7 @@ Waits v t = t.count < v.sending.smss → v.resend.overridden ≡ false → v.nod
 
 new_octets_wait : (v : View) → sends_new v ≡ true → Waits v (new_octets v)
 new_octets_wait v sends small quiet delays plain =
-    let much = takes_enough v.sending v.congestion.cwnd in
+    let much = takes_enough v.sending (allowed v.congestion) in
     let waits : waits_no_longer v ≡ false = ap (λ b. (b && much) || passes_full v || v.resend.overridden) delays
     ∙ (ap (λ b. (b && much && ((v.resend.small == 0) || takes_last v)) || v.resend.overridden) plain ∙ quiet) in
     elim (worth v sends small) [
@@ -92,8 +93,8 @@ WaitsForSmall v t = t.count < v.sending.smss → v.resend.overridden ≡ false �
 
 new_octets_wait_for_small : (v : View) → IsSound v → sends_new v ≡ true → WaitsForSmall v (new_octets v)
 new_octets_wait_for_small v sound sends small quiet delays =
-    let n = sendable v.sending v.congestion.cwnd in
-    let much = takes_enough v.sending v.congestion.cwnd in
+    let n = sendable v.sending (allowed v.congestion) in
+    let much = takes_enough v.sending (allowed v.congestion) in
     let none = v.resend.small == 0 in
     let within = some_unsent v sends in
     let told : waits_no_longer v ≡ true → passes_full v ≡ true = λ over. elim (or_else ((v.nodelay && much) || passes_full v) v.resend.overridden over) [
@@ -110,8 +111,8 @@ new_octets_wait_for_small v sound sends small quiet delays =
           elim (or_else none (takes_last v) (and_right (v.minshall && much) (none || takes_last v) passes)) [
             | inl first ↦ inl (eqb-true v.resend.small 0 first, enough v (and_right v.minshall much (and_left (v.minshall && much) (none || takes_last v) passes)) small within)
             | inr last ↦
-                let all = leb-true (unsent v.sending) (usable v.sending v.congestion.cwnd) (and_right (awaits_fin_ack v.state) (takes_all v.sending v.congestion.cwnd) last) in
-                inr (and_left (awaits_fin_ack v.state) (takes_all v.sending v.congestion.cwnd) last, omega (arith, all, small, within))
+                let all = leb-true (unsent v.sending) (usable v.sending (allowed v.congestion)) (and_right (awaits_fin_ack v.state) (takes_all v.sending (allowed v.congestion)) last) in
+                inr (and_left (awaits_fin_ack v.state) (takes_all v.sending (allowed v.congestion)) last, omega (arith, all, small, within))
           ]
     ]
 

@@ -14,12 +14,14 @@ use Rattle.tcp_halves.specs.Halves.{Room}
 use Rattle.tcp_halves.specs.Stream.{outstanding, is_new_ack, sending_settled, receiving_settled, after_syn_acknowledged, after_acknowledged, is_in_window, is_acceptable, after_syn, after_octets, stands_next, after_end}
 use Rattle.tcp_halves.specs.Windows.{window_in, after_syn_heard, after_window_update, syn_window}
 use Rattle.tcp_state.specs.View.{View, opened_actively, is_opening, is_syn_sent, is_syn_received, is_closed, is_fin_wait_2, is_time_wait, awaits_fin_ack, after_reset, is_over}
-use Rattle.tcp_state.specs.Resend.{Resend, stopped, mark_past, mark_moved, unmarked, resend_acknowledged, resend_lost}
-use Rattle.congestion.specs.Window.{Window, third_is_next}
-use Rattle.congestion.specs.Events.Event.{NewAck, Duplicate}
+use Rattle.tcp_state.specs.Resend.{Resend, stopped, mark_past, mark_moved, unmarked, resend_acknowledged, resend_first, resend_lost}
+use Rattle.congestion.specs.Control.{repairs}
+use Rattle.congestion.specs.Window.{Window, is_recovering, goes_on, third_is_next}
+use Rattle.congestion.specs.Events.{Event}
+use Rattle.congestion.specs.Events.Event.{NewAck, PartialAck, Duplicate}
 use Rattle.tcp_state.specs.Congestion.{Signal, after_signal}
 use Rattle.tcp_state.specs.Congestion.Signal.{Begins, Counts, Nothing}
-use Rattle.tcp_state.specs.Timing.{clocked}
+use Rattle.tcp_state.specs.Timing.{probes, clocked}
 use Rattle.retransmit.specs.Deadlines.{no_timers}
 use Rattle.stream_buf.specs.Receiving.{ranges}
 use Rattle.tcp_segment.specs.Wire.{past}
@@ -263,6 +265,14 @@ is_duplicate v s =
     && (length s.octets == 0) && not s.flags.fin
     && (s.acknowledgement == v.sending.una) && (window_in v.sending s.window == v.sending.window)
 
+-- Where losses are repaired, it counts in a recovery, and where all is acknowledged that was outstanding when the last one began or the timer expired (RFC 6582 section 3.2, steps 2 and 4); not while the peer's closed window is
+-- probed, for it answers each probe with one.
+abbrev pub counts_duplicates : View → Bool
+counts_duplicates v = not (repairs v.congestion.control) || ((is_recovering v.congestion || (v.resend.recover == 0)) && not (probes v))
+
+abbrev pub is_counted_duplicate : View → Segment → Bool
+is_counted_duplicate v s = is_duplicate v s && counts_duplicates v
+
 -- what the clock and the congestion window have to know of a connection before a segment and of the segment
 abbrev pub before : View → Segment → Before
 before v s = record {
@@ -271,7 +281,7 @@ before v s = record {
   owes_reset = v.owes_reset;
   repeats_fin = repeats_fin v s;
   answers_probe = answers_probe v s;
-  is_duplicate = is_duplicate v s;
+  is_duplicate = is_counted_duplicate v s;
   held = length v.sending.held;
 }
 
@@ -288,23 +298,26 @@ resend_heard b w now =
     else if b.answers_probe then record w.resend { expiries = 0 }
     else w.resend
 
--- What a segment that was heard is to the congestion window: its beginning, where it acknowledges our SYN; an ACK of new octets; or a duplicate one. To what is CLOSED it is nothing.
+-- an ACK of so many new octets: a partial one where a recovery goes on, and some of what was outstanding at its beginning still is (RFC 6582 section 3.2, step 3)
+abbrev pub acknowledged_event : View → ℕ → Event
+acknowledged_event w octets = if goes_on w.congestion && nat_lt 0 w.resend.recover then PartialAck octets else NewAck octets (outstanding w.sending)
+
+-- What a segment that was heard is to the congestion window: its beginning, where it acknowledges our SYN; an ACK of new octets; or a duplicate one that counts. To what is CLOSED it is nothing.
 abbrev pub congestion_event_of : Before → View → Signal
 congestion_event_of b w =
     if is_closed w.state then Nothing
-    else if is_moved b w then (if is_opening b.state then Begins else Counts (NewAck (b.held - length w.sending.held)))
+    else if is_moved b w then (if is_opening b.state then Begins else Counts (acknowledged_event w (b.held - length w.sending.held)))
     else if b.is_duplicate then Counts (Duplicate (outstanding w.sending))
     else Nothing
 
--- the third duplicate ACK in a row: the segment at SND.UNA goes out again (RFC 5681 section 3.2)
-abbrev pub reveals_loss : Signal → Window → Bool
-reveals_loss (Counts (Duplicate flight)) window = third_is_next window
-reveals_loss _ window = false
+-- The third duplicate ACK in a row tells that the segment at SND.UNA is lost (RFC 5681 section 3.2), and a partial ACK that the next one is, too (RFC 6582 section 3.2, step 3): it goes out again.
+abbrev pub resend_signalled : Resend → Signal → Window → ℕ → Resend
+resend_signalled p (Counts (Duplicate flight)) window outstanding = if third_is_next window then resend_lost p (repairs window.control) outstanding else p
+resend_signalled p (Counts (PartialAck octets)) window outstanding = resend_first p outstanding
+resend_signalled p _ window outstanding = p
 
 abbrev pub resend_after : Before → View → Moment → Resend
-resend_after b w now =
-    let resend = resend_heard b w now in
-    if reveals_loss (congestion_event_of b w) w.congestion then resend_lost resend (outstanding w.sending) else resend
+resend_after b w now = resend_signalled (resend_heard b w now) (congestion_event_of b w) w.congestion (outstanding w.sending)
 
 abbrev pub congestion_after : Before → View → Window
 congestion_after b w = after_signal w.congestion (congestion_event_of b w) w.sending.smss w.resend.syn_resent

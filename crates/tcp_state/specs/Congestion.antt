@@ -1,4 +1,4 @@
--- What moves the congestion window of a connection (RFC 5681 sections 3.1 and 3.2).
+-- What moves the congestion window of a connection (RFC 5681 sections 3.1 and 3.2, RFC 6582).
 use Rattle.std.specs.Prelude.{◌≡◌, ℕ, ◌||◌, Bool, false}
 use Rattle.congestion.specs.Window.{Window, IsSound, initial_window}
 use Rattle.congestion.specs.Events.{Event, after_event}
@@ -14,7 +14,7 @@ pub data Signal : Type 0 where
 
 -- with segments of this size, and where our SYN went out again after an expiry or not
 abbrev pub after_signal : Window → Signal → ℕ → Bool → Window
-after_signal w Begins smss resent = initial_window smss resent
+after_signal w Begins smss resent = initial_window w.control smss resent
 after_signal w (Counts event) smss resent = after_event w event
 after_signal w Nothing smss resent = w
 

@@ -13,6 +13,7 @@ use Rattle.tcp_state.specs.Resend.{resend_again, resend_sent, resend_probed, res
 use Rattle.tcp_halves.specs.declared.buffers.TheConstants.{CAPACITY}
 use Rattle.tcp_halves.specs.Stream.{outstanding, after_sent, receive_window}
 use Rattle.tcp_halves.specs.Windows.{hears_next, open_window, next_count, has_grown, after_advertisement, window_field, after_syn_advertisement}
+use Rattle.congestion.specs.Window.{allowed}
 use Rattle.tcp_state.specs.View.{View, is_opening, is_syn_sent, is_syn_received, is_closed, awaits_fin_ack}
 use Rattle.tcp_state.specs.New.{sends_new, takes_fin, sends_fin}
 use Rattle.tcp_state.specs.Timing.{probes, clocked}
@@ -241,7 +242,7 @@ again_from v (Some mark) = if goes_again v mark then Some (Text (again v mark)) 
 -- the new octets of the next segment, and the FIN that goes with them
 abbrev pub new_octets : View → Stretch
 new_octets v =
-    let count = next_count v.sending v.congestion.cwnd in
+    let count = next_count v.sending (allowed v.congestion) in
     record { offset = outstanding v.sending; count = count; fin = takes_fin v (outstanding v.sending + count) }
 
 -- all that has not gone out, as much of it as one segment takes, and the FIN that goes with that

@@ -29,34 +29,39 @@ pub record Resend : Type 0 where
   pub resent : ℕ
   -- the number behind the last small segment of new octets that is outstanding, as a distance past SND.UNA; 0 where none is
   pub small : ℕ
+  -- the number behind all that was outstanding when a recovery began or the timer expired, as a distance past SND.UNA; 0 where all of it is acknowledged ("recover", RFC 6582 section 3.2)
+  pub recover : ℕ
 
--- the timeout and the wait of a probe last a second at least and a minute at most, and the timers expire twelve times without progress at most
+-- the timeout and the wait of a probe last as long as the least timeout and a minute at most, and the timers expire twelve times without progress at most
 pub record IsSoundResend (p : Resend) : Type 0 where
-  pub timeout_least : 1000 ≤ p.timeout.rto
+  pub floor : 200 ≤ p.timeout.least
+  pub ceiling : p.timeout.least ≤ 1000
+  pub timeout_least : p.timeout.least ≤ p.timeout.rto
   pub timeout_most : p.timeout.rto ≤ MOST_INTERVAL
-  pub interval_least : 1000 ≤ p.interval
+  pub interval_least : p.timeout.least ≤ p.interval
   pub interval_most : p.interval ≤ MOST_INTERVAL
   pub expiries : p.expiries ≤ MOST_EXPIRIES
 
--- nothing has gone out
-abbrev pub first_resend : Resend
-first_resend = record {
+-- nothing has gone out, and the timeout has this least value
+abbrev pub first_resend : ℕ → Resend
+first_resend least = record {
   mark = None;
   once = false;
-  timeout = first_timeout;
+  timeout = first_timeout least;
   timed = None;
   expiries = 0;
-  interval = first_timeout.rto;
+  interval = (first_timeout least).rto;
   owes_probe = false;
   overridden = false;
   syn_resent = false;
   resent = 0;
   small = 0;
+  recover = 0;
 }
 
 -- nothing is outstanding or waits any longer
 abbrev pub stopped : Resend → Resend
-stopped p = record p { mark = None; once = false; timed = None; interval = p.timeout.rto; owes_probe = false; overridden = false; small = 0 }
+stopped p = record p { mark = None; once = false; timed = None; interval = p.timeout.rto; owes_probe = false; overridden = false; small = 0; recover = 0 }
 
 -- What goes out.
 
@@ -90,9 +95,13 @@ resend_probed p = record p { owes_probe = false; timed = None; resent = once_mor
 
 -- The timers expire.
 
+-- where losses are repaired, the end of what is outstanding is remembered when a segment counts as lost (RFC 6582 section 3.2, steps 2 and 4)
+abbrev pub recover_noted : Resend → Bool → ℕ → ℕ
+recover_noted p repairs outstanding = if repairs then outstanding else p.recover
+
 -- the retransmission timer: all that is outstanding goes out again, from SND.UNA on, and the timeout backs off (RFC 6298 sections 5.4 and 5.5)
-abbrev pub resend_expired : Resend → ℕ → Resend
-resend_expired p outstanding = record p { mark = mark_past 0 outstanding; once = false; timeout = after_expiry p.timeout; expiries = suc p.expiries }
+abbrev pub resend_expired : Resend → Bool → ℕ → Resend
+resend_expired p repairs outstanding = record p { mark = mark_past 0 outstanding; once = false; timeout = after_expiry p.timeout; expiries = suc p.expiries; recover = recover_noted p repairs outstanding }
 
 -- the probe timer: a probe is due, and the next wait is twice as long, a minute at most (RFC 9293 section 3.8.6.1)
 abbrev pub resend_probes : Resend → Resend
@@ -100,21 +109,25 @@ resend_probes p = record p { owes_probe = true; interval = min MOST_INTERVAL (2 
 
 -- Acknowledgements.
 
--- so many numbers are acknowledged, and so many are outstanding still: the mark stays at its number, or moves with SND.UNA; and so does the end of the last small segment
+-- so many numbers are acknowledged, and so many are outstanding still: the mark stays at its number, or moves with SND.UNA; and so do the end of the last small segment and that of a recovery
 abbrev pub mark_left : Option ℕ → ℕ → ℕ → Option ℕ
 mark_left None gained outstanding = None
 mark_left (Some distance) gained outstanding = mark_past (distance - gained) outstanding
 
 abbrev pub mark_moved : Resend → ℕ → ℕ → Resend
-mark_moved p gained outstanding = record p { mark = mark_left p.mark gained outstanding; small = p.small - gained }
+mark_moved p gained outstanding = record p { mark = mark_left p.mark gained outstanding; small = p.small - gained; recover = p.recover - gained }
 
--- the segment at SND.UNA counts as lost: it alone goes out again (RFC 5681 section 3.2)
-abbrev pub resend_lost : Resend → ℕ → Resend
-resend_lost p outstanding = record p { mark = mark_past 0 outstanding; once = true }
+-- the segment at SND.UNA goes out again, that alone (RFC 5681 section 3.2, RFC 6582 section 3.2, step 3)
+abbrev pub resend_first : Resend → ℕ → Resend
+resend_first p outstanding = record p { mark = mark_past 0 outstanding; once = true }
+
+-- it counts as lost
+abbrev pub resend_lost : Resend → Bool → ℕ → Resend
+resend_lost p repairs outstanding = record (resend_first p outstanding) { recover = recover_noted p repairs outstanding }
 
 -- nothing is outstanding
 abbrev pub unmarked : Resend → Resend
-unmarked p = record p { mark = None; small = 0 }
+unmarked p = record p { mark = None; small = 0; recover = 0 }
 
 -- SND.UNA is at the end of what is measured, or past it
 abbrev pub is_timed_by : Timed → ℕ → Bool

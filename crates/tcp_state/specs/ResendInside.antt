@@ -15,4 +15,5 @@ resend_view p = record {
   syn_resent = p.syn_resent;
   resent = p.resent;
   small = p.small;
+  recover = p.recover;
 }

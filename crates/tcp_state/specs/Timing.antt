@@ -3,6 +3,8 @@ use Rattle.std.specs.Prelude.{◌≡◌, ℕ, ◌==◌, ◌&&◌, ◌||◌, not,
 use Rattle.clock.specs.declared.moment.Moment.{Moment}
 use Rattle.clock.specs.Moments.{after, has_come, sooner}
 use Rattle.retransmit.specs.Deadlines.{next_of}
+use Rattle.congestion.specs.Control.{repairs}
+use Rattle.congestion.specs.Window.{allowed}
 use Rattle.congestion.specs.Events.{after_event}
 use Rattle.congestion.specs.Events.Event.{Expiry}
 use Rattle.tcp_state.specs.declared.calls.Refusal.TheVariants.{ETIMEDOUT}
@@ -37,7 +39,7 @@ awaits_second v = v.delays_ack && not v.owes_ack
 
 -- new octets wait for more (section 3.8.6.2.1)
 abbrev pub awaits_more : View → Bool
-awaits_more v = not (is_opening v.state) && waits_for_more v.sending v.congestion.cwnd (waits_no_longer v)
+awaits_more v = not (is_opening v.state) && waits_for_more v.sending (allowed v.congestion) (waits_no_longer v)
 
 -- it goes on where it runs, and else begins
 abbrev pub running : Option Moment → Moment → ℕ → Option Moment
@@ -121,7 +123,7 @@ gives_up v now = expires_for_good v now || is_silent_for_good v now
 -- what is outstanding counts as lost, and the congestion window begins again with one segment (RFC 5681 section 3.1)
 abbrev pub retransmission_expired : View → View
 retransmission_expired v = record v {
-  resend = resend_expired v.resend (outstanding v.sending);
+  resend = resend_expired v.resend (repairs v.congestion.control) (outstanding v.sending);
   timers = record v.timers { retransmission = None };
   congestion = after_event v.congestion (Expiry (outstanding v.sending));
 }

@@ -11,6 +11,7 @@ use Rattle.tcp_state.specs.declared.alive.KeepAlive.{KeepAlive}
 use Rattle.clock.specs.Moments.{after, has_come}
 use Rattle.tcp_state.specs.declared.calls.Refusal.{Refusal}
 use Rattle.retransmit.specs.declared.timers.Timers.{Timers}
+use Rattle.congestion.specs.declared.control.Control.{Control}
 use Rattle.congestion.specs.Window.{Window, initial_window}
 use Rattle.retransmit.specs.Deadlines.{no_timers}
 use Rattle.tcp_state.specs.Resend.{Resend, IsSoundResend, first_resend, stopped}
@@ -156,8 +157,8 @@ abbrev pub reset_since : View → Option Moment
 reset_since v = if v.owes_reset then Some v.since else None
 
 -- the congestion window until our SYN is acknowledged, and its own begins
-abbrev pub first_congestion : Window
-first_congestion = initial_window DEFAULT_MSS false
+abbrev pub first_congestion : Control → Window
+first_congestion control = initial_window control DEFAULT_MSS false
 
 -- a connection that its caller opens at this moment (RFC 9293 section 3.10.1), in buffers that were made for this
 abbrev pub opened_actively : Room → Endpoint → Endpoint → ℕ → Moment → View
@@ -172,9 +173,9 @@ opened_actively room local peer isn now = record {
   owes_ack = false;
   delays_ack = false;
   spoke = false;
-  resend = first_resend;
+  resend = first_resend room.manner.least_timeout;
   timers = no_timers;
-  congestion = first_congestion;
+  congestion = first_congestion room.manner.control;
   pending_error = None;
   released = false;
   owes_reset = false;
@@ -212,7 +213,7 @@ pub record AreTerms (scales : Bool) (sent peer size made unit : ℕ) : Type 0 wh
   pub settled_peer_unit : scales ≡ false → peer ≡ 1
 
 -- What holds of every connection. While it opens, nothing is held or readable, and before the peer's SYN came no window is advertised and a unit of the peer's is an octet; nothing is held once our FIN is acknowledged or all is closed. What is
--- outstanding is of what is held, with the SYN or the FIN; the resend mark stands within it, and the end of the last small segment. A segment may
+-- outstanding is of what is held, with the SYN or the FIN; the resend mark stands within it, and the ends of the last small segment and of a recovery. A segment may
 -- have `LEAST_MSS` octets at least, so that what is held can always go out. An acknowledgement is owed once a SYN came, and none when all is closed.
 -- An error is pending, and a reset owed, only where all is closed; what its caller closed is closed on our side.
 pub record IsSound (v : View) : Type 0 where
@@ -229,6 +230,7 @@ pub record IsSound (v : View) : Type 0 where
   pub flight : outstanding v.sending ≤ most_outstanding v
   pub mark : ForSome v.resend.mark (λ distance. distance < outstanding v.sending)
   pub small : v.resend.small ≤ outstanding v.sending
+  pub recover : v.resend.recover ≤ outstanding v.sending
   pub resend : IsSoundResend v.resend
   pub connection : is_listening v.state ≡ false
   pub segment : v.sending.smss ≤ MSS

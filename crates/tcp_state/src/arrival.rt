@@ -2,15 +2,11 @@
 
 ghost use Rattle.std.specs.Prelude.{◌≡◌, ◌≤◌, ◌-◌, [], length, min, true, false, ◌&&◌, ◌||◌, not, if◌then◌else◌, IsTrue, ◌==◌};
 ghost use Rattle.tcp_state.specs.View.{is_opening, is_syn_sent, is_syn_received, is_closed, awaits_fin_ack, after_reset};
-ghost use Rattle.tcp_state.specs.Arrival.{after_segment, scales_with, after_first_syn, after_syn_ack, owing_ack, after_establishment, after_ack, is_read_on, after_window, after_text, after_acknowledging_segment, after_acceptable_segment, ends_by_syn, is_acceptable_to, fin_acknowledged, after_new_ack, after_fin, reset_error, after_rst_in_syn_sent, after_rst, is_acting_reset, ends_by_reset, is_right_syn_ack, is_simultaneous_syn, after_simultaneous_syn, fate, after_segment_at, after_heard, is_lost, is_read, brings_more, after_lost, repeats_fin, is_rejected, ends_opening, is_of_fin, may_delay, answers_probe, octets_outstanding, is_duplicate, before, is_moved, resend_heard, congestion_event_of, reveals_loss, congestion_after, timed_by, begins_wait};
+ghost use Rattle.tcp_state.specs.Arrival.{after_segment, scales_with, after_first_syn, after_syn_ack, owing_ack, after_establishment, after_ack, is_read_on, after_window, after_text, after_acknowledging_segment, after_acceptable_segment, ends_by_syn, is_acceptable_to, fin_acknowledged, after_new_ack, after_fin, reset_error, after_rst_in_syn_sent, after_rst, is_acting_reset, ends_by_reset, is_right_syn_ack, is_simultaneous_syn, after_simultaneous_syn, fate, after_segment_at, after_heard, is_lost, is_read, brings_more, after_lost, repeats_fin, is_rejected, ends_opening, is_of_fin, may_delay, answers_probe, octets_outstanding, is_duplicate, counts_duplicates, before, is_moved, resend_heard, congestion_event_of, resend_signalled, congestion_after, timed_by, begins_wait};
 ghost use Rattle.tcp_state.specs.declared.state.State.{State};
 ghost use Rattle.tcp_segment.specs.Wire.{past};
 ghost use Rattle.tcp_halves.specs.declared.buffers.TheConstants.{CAPACITY};
 ghost use Rattle.tcp_halves.specs.Stream.{outstanding, is_new_ack};
-ghost use Rattle.tcp_state.specs.Resend.{resend_lost};
-ghost use Rattle.congestion.specs.Window.{initial_window};
-ghost use Rattle.congestion.specs.Events.{after_event};
-ghost use Rattle.congestion.specs.Events.Event.{NewAck};
 
 use crate::connection::{Connection, Fate};
 use crate::state::State;
@@ -32,7 +28,7 @@ pub(crate) struct Before {
     repeats_fin: bool,
     /// Whether the segment shows that a peer whose window is closed is there.
     answers_probe: bool,
-    /// Whether the segment is a duplicate ACK.
+    /// Whether the segment is a duplicate ACK that counts.
     is_duplicate: bool,
     /// How many octets were held.
     held: u32,
@@ -65,7 +61,7 @@ impl Connection {
             owes_reset: self.owes_reset,
             repeats_fin: self.repeats_fin(segment),
             answers_probe: self.answers_probe(segment),
-            is_duplicate: self.is_duplicate(segment),
+            is_duplicate: self.is_duplicate(segment) && self.counts_duplicates(),
             held: self.sender.held_len() as u32,
         }
     }
@@ -81,6 +77,15 @@ impl Connection {
             && !segment.flags().fin
             && segment.acknowledgement() == self.sender.una()
             && self.sender.window_in(segment.window()) == self.sender.window()
+    }
+
+    /// Whether a duplicate ACK counts: where losses are repaired, not below the end of the last recovery or of what was outstanding at an expiry
+    /// (RFC 6582 section 3.2, steps 2 and 4), nor while the peer's closed window is probed.
+    fn counts_duplicates(&self) -> bool
+        ensures { result ≡ counts_duplicates self.now }
+    {
+        !self.congestion.repairs()
+            || (self.congestion.is_recovering() || self.resend.recover() == 0) && !self.probes()
     }
 
     /// How many octets are outstanding, past the opening: our FIN, behind all that are held, is none.
@@ -129,11 +134,11 @@ impl Connection {
         }
     }
 
-    /// The congestion window takes what a segment is to it, and by the third duplicate ACK the segment at SND.UNA goes out again: fast retransmit (RFC 5681 section 3.2).
+    /// The congestion window takes what a segment is to it; by the third duplicate ACK the segment at SND.UNA goes out again (fast retransmit, RFC 5681 section 3.2), and by a partial ACK, too.
     fn note_signal(&mut self, before: Before, moved: bool)
         requires { moved ≡ is_moved before self.old }
         ensures { self.new ≡ record self.old {
-          resend = if reveals_loss (congestion_event_of before self.old) self.old.congestion then resend_lost self.old.resend (outstanding self.old.sending) else self.old.resend;
+          resend = resend_signalled self.old.resend (congestion_event_of before self.old) self.old.congestion (outstanding self.old.sending);
           congestion = congestion_after before self.old;
         } }
     {
@@ -143,19 +148,33 @@ impl Connection {
         if moved {
             self.note_acknowledged(before);
         } else if before.is_duplicate && self.congestion.duplicate(self.sender.outstanding()) {
-            self.resend.mark_lost(self.sender.outstanding());
+            let outstanding = self.sender.outstanding();
+            self.resend
+                .mark_lost(self.congestion.repairs(), outstanding);
         }
     }
 
     /// The congestion window begins where our SYN is acknowledged, and else takes the octets that are.
     fn note_acknowledged(&mut self, before: Before)
-        ensures { self.new ≡ record self.old { congestion = if is_opening before.state then initial_window self.old.sending.smss self.old.resend.syn_resent else after_event self.old.congestion (NewAck (before.held - length self.old.sending.held)) } }
+        requires moved { is_moved before self.old ≡ true }
+        requires open { is_closed self.old.state ≡ false }
+        ensures { self.new ≡ record self.old {
+          resend = resend_signalled self.old.resend (congestion_event_of before self.old) self.old.congestion (outstanding self.old.sending);
+          congestion = congestion_after before self.old;
+        } }
     {
         if before.state.is_opening() {
-            self.congestion = Cwnd::new(self.sender.smss() as u16, self.resend.is_syn_resent());
+            let (control, smss) = (self.congestion.control(), self.sender.smss() as u16);
+            self.congestion = Cwnd::new(control, smss, self.resend.is_syn_resent());
+            return;
+        }
+        let octets = before.held.saturating_sub(self.sender.held_len() as u32);
+        let outstanding = self.sender.outstanding();
+        if self.congestion.goes_on() && self.resend.recover() > 0 {
+            self.congestion.partly_acked(octets);
+            self.resend.mark_first(outstanding);
         } else {
-            let left = self.sender.held_len() as u32;
-            self.congestion.acked(before.held.saturating_sub(left));
+            self.congestion.acked(octets, outstanding);
         }
     }
 

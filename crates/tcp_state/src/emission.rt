@@ -163,7 +163,7 @@ impl Connection {
     pub(crate) fn waits_no_longer(&self) -> bool
         ensures { result ≡ waits_no_longer self.now }
     {
-        self.is_undelayed && self.sender.takes_enough(self.congestion.window())
+        self.is_undelayed && self.sender.takes_enough(self.congestion.allowed())
             || self.passes_full()
             || self.resend.is_overridden()
     }
@@ -173,7 +173,7 @@ impl Connection {
         ensures { result ≡ passes_full self.now }
     {
         self.minshall
-            && self.sender.takes_enough(self.congestion.window())
+            && self.sender.takes_enough(self.congestion.allowed())
             && (self.resend.small() == 0 || self.takes_last())
     }
 
@@ -181,15 +181,18 @@ impl Connection {
     fn takes_last(&self) -> bool
         ensures { result ≡ takes_last self.now }
     {
-        self.state.awaits_fin_ack() && self.sender.takes_all(self.congestion.window())
+        self.state.awaits_fin_ack() && self.sender.takes_all(self.congestion.allowed())
     }
 
     /// Whether new octets go out.
     pub(crate) fn sends_new(&self) -> bool
         ensures { result ≡ sends_new self.now }
     {
-        let cwnd = self.congestion.window();
-        self.sender.sendable(cwnd) > 0 && self.sender.is_worth_sending(cwnd, self.waits_no_longer())
+        let allowed = self.congestion.allowed();
+        self.sender.sendable(allowed) > 0
+            && self
+                .sender
+                .is_worth_sending(allowed, self.waits_no_longer())
     }
 
     /// The new octets of the next segment.
@@ -200,7 +203,7 @@ impl Connection {
         ensures held { IsHeld self.now result }
     {
         let offset = self.sender.outstanding() as usize;
-        let count = self.sender.next_count(self.congestion.window());
+        let count = self.sender.next_count(self.congestion.allowed());
         Stretch {
             offset,
             count,
@@ -215,7 +218,7 @@ impl Connection {
         self.minshall
             && self.state.awaits_fin_ack()
             && end == self.sender.held_len()
-            && end < self.sender.open_window(self.congestion.window()) as usize
+            && end < self.sender.open_window(self.congestion.allowed()) as usize
     }
 
     /// Whether the FIN of a closed side goes out alone, behind all octets.

@@ -15,6 +15,7 @@ mod hop;
 mod info;
 pub mod laws;
 pub mod progress;
+pub mod recovery;
 mod resend;
 pub mod silence;
 mod state;
@@ -23,6 +24,7 @@ mod timing;
 
 pub use alive::{KeepAlive, MOST_KEEPALIVE};
 pub use calls::{Received, Refusal};
+pub use congestion::{Control, Recovery};
 pub use connection::{Connection, Fate};
 pub use emission::{Due, MOST_SEGMENT, Stretch};
 pub use hop::HOP_PATIENCE;

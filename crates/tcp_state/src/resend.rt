@@ -1,7 +1,7 @@
 //! What goes out again, and what the clock measures of a round trip (RFC 6298, RFC 9293 sections 3.8.1 and 3.8.6.1).
 
 ghost use Rattle.std.specs.Prelude.{◌≡◌, ◌<◌, ◌&&◌, if◌then◌else◌, true, false, None, ◌||◌, nat_lt};
-ghost use Rattle.tcp_state.specs.Resend.{IsSoundResend, first_resend, stopped, mark_past, resend_again, resend_syn_again, resend_sent, resend_probed, resend_expired, resend_probes, mark_moved, resend_lost, unmarked, is_timed_by, resend_acknowledged};
+ghost use Rattle.tcp_state.specs.Resend.{IsSoundResend, first_resend, stopped, mark_past, resend_again, resend_syn_again, resend_sent, resend_probed, resend_expired, resend_probes, mark_moved, recover_noted, resend_first, resend_lost, unmarked, is_timed_by, resend_acknowledged};
 
 use clock::Moment;
 use retransmit::{Estimate, Rto};
@@ -49,6 +49,8 @@ pub(crate) struct Resend {
     resent: u64,
     /// The number behind the last small segment of new octets that is outstanding, as a distance past SND.UNA; 0 where none is.
     small: u32,
+    /// The number behind all that was outstanding when a recovery began or the timer expired, as a distance past SND.UNA; 0 where all of it is acknowledged (RFC 6582 section 3.2).
+    recover: u32,
 }
 
 impl Model for Resend {
@@ -63,12 +65,12 @@ impl Model for Resend {
 }
 
 impl Resend {
-    /// Nothing has gone out.
-    pub(crate) fn new() -> Resend
-        ensures value { result ≡ first_resend }
+    /// Nothing has gone out; the timeout lasts so many milliseconds at least (RFC 6298 section 2.4).
+    pub(crate) fn new(least: u32) -> Resend
+        ensures value { result ≡ first_resend least }
         ensures resend_view { IsSoundResend result }
     {
-        let timeout = Rto::new();
+        let timeout = Rto::new(least);
         let interval = timeout.rto();
         Resend {
             mark: None,
@@ -82,6 +84,7 @@ impl Resend {
             syn_resent: false,
             resent: 0,
             small: 0,
+            recover: 0,
         }
     }
 
@@ -155,6 +158,13 @@ impl Resend {
         self.small
     }
 
+    /// The number behind all that was outstanding when a recovery began or the timer expired, as a distance past SND.UNA; 0 where all of it is acknowledged.
+    pub(crate) fn recover(&self) -> u32
+        ensures { result ≡ self.now.recover }
+    {
+        self.recover
+    }
+
     /// Nothing is outstanding or waits any longer.
     pub(crate) fn stop(&mut self)
         ensures after { self.new ≡ stopped self.old }
@@ -167,6 +177,7 @@ impl Resend {
         self.owes_probe = false;
         self.overridden = false;
         self.small = 0;
+        self.recover = 0;
     }
 
     /// All of so many numbers that are outstanding go out again.
@@ -186,16 +197,37 @@ impl Resend {
             self.mark = mark_past(distance.saturating_sub(gained), outstanding);
         }
         self.small = self.small.saturating_sub(gained);
+        self.recover = self.recover.saturating_sub(gained);
     }
 
-    /// The segment at SND.UNA counts as lost: it alone goes out again, of so many numbers that are outstanding (fast retransmit, RFC 5681
-    /// section 3.2).
-    pub(crate) fn mark_lost(&mut self, outstanding: u32)
-        ensures after { self.new ≡ resend_lost self.old outstanding }
+    /// The segment at SND.UNA goes out again, that alone, of so many numbers that are outstanding (RFC 5681 section 3.2, RFC 6582 section
+    /// 3.2, step 3).
+    pub(crate) fn mark_first(&mut self, outstanding: u32)
+        ensures after { self.new ≡ resend_first self.old outstanding }
         ensures resend_view { IsSoundResend self.new }
     {
         self.mark = mark_past(0, outstanding);
         self.once = true;
+    }
+
+    /// The segment at SND.UNA counts as lost (fast retransmit, RFC 5681 section 3.2). Where losses are repaired, a recovery goes on to the
+    /// end of what is outstanding.
+    pub(crate) fn mark_lost(&mut self, repairs: bool, outstanding: u32)
+        ensures after { self.new ≡ resend_lost self.old repairs outstanding }
+        ensures resend_view { IsSoundResend self.new }
+    {
+        self.mark_first(outstanding);
+        self.note_recover(repairs, outstanding);
+    }
+
+    /// Where losses are repaired, the end of what is outstanding is remembered.
+    fn note_recover(&mut self, repairs: bool, outstanding: u32)
+        ensures after { self.new ≡ record self.old { recover = recover_noted self.old repairs outstanding } }
+        ensures resend_view { IsSoundResend self.new }
+    {
+        if repairs {
+            self.recover = outstanding;
+        }
     }
 
     /// Nothing is outstanding.
@@ -205,6 +237,7 @@ impl Resend {
     {
         self.mark = None;
         self.small = 0;
+        self.recover = 0;
     }
 
     /// What was outstanding went out again, up to this distance past SND.UNA.
@@ -275,15 +308,16 @@ impl Resend {
     }
 
     /// The retransmission timer expired, while so many numbers are outstanding.
-    pub(crate) fn expire(&mut self, outstanding: u32)
+    pub(crate) fn expire(&mut self, repairs: bool, outstanding: u32)
         requires { self.old.expiries < MOST_EXPIRIES }
-        ensures after { self.new ≡ resend_expired self.old outstanding }
+        ensures after { self.new ≡ resend_expired self.old repairs outstanding }
         ensures resend_view { IsSoundResend self.new }
     {
         self.mark = mark_past(0, outstanding);
         self.once = false;
         self.timeout.expire();
         self.expiries += 1;
+        self.note_recover(repairs, outstanding);
     }
 
     /// The probe timer expired.

@@ -9,6 +9,7 @@ ghost use Rattle.tcp_state.specs.declared.calls.Refusal.{Refusal};
 ghost use Rattle.tcp_state.specs.declared.state.State.{State};
 ghost use Rattle.tcp_state.specs.declared.emission.Due.{Due};
 ghost use Rattle.tcp_state.specs.declared.emission.Stretch.{Stretch};
+ghost use Rattle.congestion.specs.Window.{allowed};
 ghost use Rattle.tcp_halves.specs.Stream.{outstanding};
 ghost use Rattle.tcp_halves.specs.Windows.{hears_next};
 ghost use Rattle.tcp_state.specs.View.{View, IsSound, is_opening, awaits_fin_ack};
@@ -68,11 +69,11 @@ pub fn second_syns_go_back_to_listen()
 /// for which its timer has come.
 pub fn what_is_new_goes_out()
     ensures full { (v : View) → IsSound v → v.resend.mark ≡ None → outstanding v.sending + v.sending.smss ≤ length v.sending.held → outstanding v.sending + v.sending.smss ≤ v.sending.window
-        → outstanding v.sending + v.sending.smss ≤ v.congestion.cwnd → first_due v ≡ Some (Due.Text (record { offset = outstanding v.sending; count = v.sending.smss; fin = takes_fin v (outstanding v.sending + v.sending.smss) })) }
-    ensures all { (v : View) → IsSound v → v.resend.mark ≡ None → v.sending.nxt ≡ v.sending.una → 0 < length v.sending.held → length v.sending.held ≤ v.sending.window → length v.sending.held ≤ v.congestion.cwnd
+        → outstanding v.sending + v.sending.smss ≤ allowed v.congestion → first_due v ≡ Some (Due.Text (record { offset = outstanding v.sending; count = v.sending.smss; fin = takes_fin v (outstanding v.sending + v.sending.smss) })) }
+    ensures all { (v : View) → IsSound v → v.resend.mark ≡ None → v.sending.nxt ≡ v.sending.una → 0 < length v.sending.held → length v.sending.held ≤ v.sending.window → length v.sending.held ≤ allowed v.congestion
         → first_due v ≡ Some (Due.Text (record { offset = 0; count = min (length v.sending.held) v.sending.smss; fin = takes_fin v (min (length v.sending.held) v.sending.smss) })) }
     ensures half { (v : View) → IsSound v → v.resend.mark ≡ None → v.sending.nxt ≡ v.sending.una
-        → (let n = min (length v.sending.held) (min v.sending.window v.congestion.cwnd) in 0 < n → v.sending.max_window ≤ 2 * n
+        → (let n = min (length v.sending.held) (min v.sending.window (allowed v.congestion)) in 0 < n → v.sending.max_window ≤ 2 * n
         → first_due v ≡ Some (Due.Text (record { offset = 0; count = min n v.sending.smss; fin = takes_fin v (min n v.sending.smss) }))) }
     ensures fin { (v : View) → IsSound v → v.resend.mark ≡ None → awaits_fin_ack v.state ≡ true → outstanding v.sending ≡ length v.sending.held → outstanding v.sending < v.sending.window
         → first_due v ≡ Some (Due.Text (record { offset = length v.sending.held; count = 0; fin = true })) }

@@ -42,7 +42,7 @@ impl Connection {
         !self.state.is_opening()
             && self
                 .sender
-                .waits_for_more(self.congestion.window(), self.waits_no_longer())
+                .waits_for_more(self.congestion.allowed(), self.waits_no_longer())
     }
 
     /// Whether nothing of ours waits to go out or to be acknowledged: the connection is open, and no octet is held and no FIN unacknowledged.
@@ -238,7 +238,7 @@ impl Connection {
     {
         if self.timers.due(TimerKind::Retransmission, now) {
             let outstanding = self.sender.outstanding();
-            self.resend.expire(outstanding);
+            self.resend.expire(self.congestion.repairs(), outstanding);
             self.timers.clear(TimerKind::Retransmission);
             self.congestion.timeout(outstanding);
         } else if self.timers.due(TimerKind::Probe, now) {

@@ -6,7 +6,7 @@ use Rattle.ipv4.proofs.Prefixes.{unmasked}
 use Rattle.routes.specs.declared.route.Route.{Route}
 use Rattle.routes.specs.declared.route.Hop.TheVariants.{Direct}
 use Rattle.tcp_halves.specs.declared.buffers.Manner.{Manner}
-use Rattle.host.specs.ConfigView.{ConfigView}
+use Rattle.host.specs.ConfigView.{ConfigView, usual_manner}
 use Rattle.sides.specs.declared.side.Side.{Side}
 use Rattle.wire_sim.specs.Hosts.{address_of, mac_of, IsSetUp}
 
@@ -21,7 +21,7 @@ link_route = record { prefix = record { addr = link_addr; length = 24; form = li
 
 -- how a side's host is set up
 pub set_up : Bool → Side → ConfigView
-set_up scales side = record { mac = mac_of side; addr = address_of side; routes = link_route ∷ []; manner = record { scales = scales; minshall = false } }
+set_up scales side = record { mac = mac_of side; addr = address_of side; routes = link_route ∷ []; manner = record usual_manner { scales = scales } }
 
 pub is_set_up : (scales : Bool) (side : Side) → IsSetUp scales side (set_up scales side)
 unfolding set_up

@@ -4,7 +4,7 @@ use Rattle.ether.specs.declared.mac.Mac.{Mac}
 use Rattle.ipv4.specs.declared.addr.Addr.{Addr}
 use Rattle.routes.specs.declared.route.Route.{Route}
 use Rattle.routes.specs.declared.route.Hop.TheVariants.{Direct}
-use Rattle.host.specs.ConfigView.{ConfigView}
+use Rattle.host.specs.ConfigView.{ConfigView, usual_manner}
 use Rattle.sides.specs.declared.side.Side.{Side}
 use Rattle.sides.specs.declared.side.Side.TheVariants.{A, B}
 
@@ -31,4 +31,4 @@ pub record IsSetUp (scales : Bool) (side : Side) (config : ConfigView) : Type 0 
   pub route : Route
   pub link : IsLinkRoute route
   pub routes : config.routes ≡ route ∷ []
-  pub manner : config.manner ≡ record { scales = scales; minshall = false }
+  pub manner : config.manner ≡ record usual_manner { scales = scales }

@@ -1,5 +1,5 @@
 -- Why the segments of an opening that come lead both ends on.
-use Rattle.std.proofs.Common.{◌≡◌, ◌≢◌, ℕ, ◌+◌, ◌-◌, ◌%◌, ◌^◌, ◌<◌, ◌≤◌, ◌==◌, ◌||◌, ◌&&◌, not, nat_le, nat_lt, if◌then◌else◌, Bool, true, false, [], length, Option, Some, None, is_some, arith, refl, sym, ◌∙◌, ap, subst}
+use Rattle.std.proofs.Common.{◌≡◌, ◌≢◌, ℕ, ◌+◌, ◌-◌, ◌%◌, ◌^◌, ◌<◌, ◌≤◌, ◌==◌, ◌||◌, ◌&&◌, not, nat_le, nat_lt, if◌then◌else◌, Bool, true, false, [], length, Option, Some, None, is_some, arith, refl, sym, ◌∙◌, ap, subst, inl, inr}
 use Rattle.std.proofs.lemmas.Bool.{le-leb}
 use Rattle.clock.specs.declared.moment.Moment.{Moment}
 use Rattle.tcp_segment.specs.Segment.{Segment}
@@ -7,12 +7,13 @@ use Rattle.tcp_segment.specs.Wire.{past, wire}
 use Rattle.tcp_halves.specs.Halves.{Receiving}
 use Rattle.tcp_halves.specs.Stream.{outstanding, is_new_ack, is_acceptable, receive_window}
 use Rattle.tcp_halves.proofs.Choices.{either, by, both, and_false}
+use Rattle.congestion.specs.Window.{allowed}
 use Rattle.tcp_state.specs.declared.calls.Refusal.TheVariants.{ECONNREFUSED}
 use Rattle.tcp_state.specs.declared.connection.Fate.TheVariants.{Stays, Removed, Rejected}
 use Rattle.tcp_state.specs.declared.emission.Due.TheVariants.{Rst, Syn, Text, Probe, Ack, KeepAlive}
 use Rattle.tcp_state.specs.declared.state.State.{State}
 use Rattle.tcp_state.specs.declared.state.State.TheVariants.{SynSent, SynReceived}
-use Rattle.tcp_state.specs.Arrival.{octets_outstanding, fate, is_lost, is_rejected, ends_opening, ends_by_reset, ends_by_syn, is_acceptable_to, is_receiving, is_read, brings_more, is_right_syn_ack, is_simultaneous_syn, after_simultaneous_syn, after_syn_ack, after_rst_in_syn_sent, after_rst, after_acceptable_segment, owing_ack, resend_after, after_segment, after_heard, after_lost, after_ack, after_window, after_text, after_segment_at, before, timed_by}
+use Rattle.tcp_state.specs.Arrival.{octets_outstanding, fate, is_lost, is_rejected, ends_opening, ends_by_reset, ends_by_syn, is_acceptable_to, is_receiving, is_read, brings_more, is_right_syn_ack, is_simultaneous_syn, after_simultaneous_syn, after_syn_ack, after_rst_in_syn_sent, after_rst, after_acceptable_segment, owing_ack, resend_after, after_segment, after_heard, after_lost, after_ack, after_window, after_text, after_segment_at, before, timed_by, counts_duplicates}
 use Rattle.tcp_state.specs.Edges.{Hears, after_event}
 use Rattle.tcp_state.specs.Said.{segment_of, IsClosedBy}
 use Rattle.tcp_state.specs.View.{View, IsSound, is_opening, is_closed, is_over, is_syn_sent, is_syn_received, awaits_fin_ack, is_write_closed}
@@ -84,8 +85,8 @@ opening_out v sound opens out =
 -- nothing holds an acknowledgement back where nothing is held
 pub ack_due_first : (w : View) → w.owes_reset ≡ false → is_opening w.state ≡ false → awaits_fin_ack w.state ≡ false → w.resend.mark ≡ None → w.sending.held ≡ [] → w.owes_ack ≡ true → first_due w ≡ Some Ack
 ack_due_first w reset opened fin mark held owes =
-    let least : sendable w.sending w.congestion.cwnd ≡ 0 = omega (arith, ap length held) in
-    let none_new : sends_new w ≡ false = ap (λ n. nat_lt 0 n && is_worth_sending w.sending w.congestion.cwnd (waits_no_longer w)) least in
+    let least : sendable w.sending (allowed w.congestion) ≡ 0 = omega (arith, ap length held) in
+    let none_new : sends_new w ≡ false = ap (λ n. nat_lt 0 n && is_worth_sending w.sending (allowed w.congestion) (waits_no_longer w)) least in
     let no_fin : sends_fin w ≡ false = ap (λ b. b && (outstanding w.sending == length w.sending.held) && nat_lt (outstanding w.sending) w.sending.window) fin in
     let none_left : has_unacknowledged w ≡ false = ap (λ n. not (n == 0) || awaits_fin_ack w.state) (ap length held) ∙ fin in
     let unprobed : (w.resend.owes_probe && probes w) ≡ false = ap (λ b. w.resend.owes_probe && (not (is_opening w.state) && (w.sending.window == 0) && b)) none_left ∙ never w.resend.owes_probe (not (is_opening w.state)) (w.sending.window == 0) in
@@ -171,7 +172,7 @@ opened_by ours theirs f v now answers sound asks out =
     let heard : after_heard v s ≡ opened_by_syn_ack v s = ap (λ b. if b then after_lost v s else after_segment v s) kept ∙ syn_ack_heard v s asks.state refl refl ack new in
     let u = opened_by_syn_ack v s in
     let at : after_segment_at v s now ≡ timed_by (before v s) u now = comes_to v s now (ap is_closed asks.state) taken ∙ ap (λ w. timed_by (before v s) w now) heard in
-    let mark : (resend_after (before v s) u now).mark ≡ None = marks_kept (before v s) u now (ap (λ b. not b && is_read v s && nat_lt 0 (octets_outstanding v) && (length s.octets == 0) && not s.flags.fin && (s.acknowledgement == v.sending.una) && (window_in v.sending s.window == v.sending.window)) opens) in
+    let mark : (resend_after (before v s) u now).mark ≡ None = marks_kept (before v s) u now (inr (inl opens)) (ap (λ b. not b && is_read v s && nat_lt 0 (octets_outstanding v) && (length s.octets == 0) && not s.flags.fin && (s.acknowledgement == v.sending.una) && (window_in v.sending s.window == v.sending.window) && counts_duplicates v) opens) in
     let w = timed_by (before v s) u now in
     let P : View → Type 0 = λ e. IsOpen ours theirs e × (first_due e ≡ Some Ack) in (
       subst P (sym at) (

@@ -1,5 +1,5 @@
 -- What is left is what isn't taken, of replies, resets and datagrams alike.
-use Rattle.std.proofs.Common.{◌≡◌, ◌+◌, not, List, length, sym, ◌∙◌, ap, refl}
+use Rattle.std.proofs.Common.{◌+◌, not, List, length, sym, ◌∙◌, ap, refl}
 use Rattle.std.specs.List.{count_by}
 use Rattle.ipv4.specs.declared.addr.Endpoint.{Endpoint}
 use Rattle.clock.specs.declared.moment.Moment.{Moment}

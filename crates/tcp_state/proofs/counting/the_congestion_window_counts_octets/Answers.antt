@@ -1,10 +1,11 @@
-use Rattle.tcp_state.proofs.Signals.{begins_at_opening, counts_octets, counts_duplicate, counts_expiry, others_count_none, duplicates_are}
+use Rattle.tcp_state.proofs.Signals.{begins_at_opening, counts_octets, counts_partly, counts_duplicate, counts_expiry, others_count_none, duplicates_are}
 use Rattle.tcp_state.proofs.counting.the_congestion_window_counts_octets.Goals as goal
 
 pub returns : goal.returns
 returns c = record {
   begins = begins_at_opening;
   acknowledged = counts_octets;
+  partly = counts_partly;
   duplicate = counts_duplicate;
   expired = counts_expiry;
   others = others_count_none;

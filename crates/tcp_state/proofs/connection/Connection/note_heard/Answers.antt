@@ -1,13 +1,16 @@
-use Rattle.std.proofs.Common.{◌≡◌, ◌==◌, ◌&&◌, ◌||◌, not, Bool, if◌then◌else◌, sym, ◌∙◌, ap}
+use Rattle.std.proofs.Common.{◌≡◌, ℕ, ◌-◌, ◌==◌, ◌&&◌, ◌||◌, not, nat_lt, Bool, if◌then◌else◌, length, refl, sym, ◌∙◌, ap}
+use Rattle.congestion.specs.Window.{goes_on}
+use Rattle.congestion.specs.Events.Event.{NewAck, PartialAck, Duplicate}
 use Rattle.clock.specs.declared.moment.Moment.{Moment}
 use Rattle.tcp_state.specs.declared.arrival.Before.{Before}
-use Rattle.tcp_state.specs.View.{View}
+use Rattle.tcp_state.specs.View.{View, is_opening, is_closed}
 use Rattle.tcp_halves.specs.Stream.{outstanding}
-use Rattle.tcp_state.specs.Resend.{resend_lost}
 use Rattle.tcp_state.specs.Timing.{clocked}
-use Rattle.tcp_state.specs.Congestion.{after_signal}
+use Rattle.tcp_state.specs.Congestion.{Signal, after_signal}
+use Rattle.tcp_state.specs.Congestion.Signal.{Begins, Counts, Nothing}
 use Rattle.tcp_state.specs.Alive.{heard_now}
-use Rattle.tcp_state.specs.Arrival.{begins_wait, is_moved, resend_heard, resend_after, congestion_event_of, reveals_loss, congestion_after, timed_by}
+use Rattle.tcp_state.specs.Arrival.{begins_wait, is_moved, resend_heard, resend_after, congestion_event_of, resend_signalled, congestion_after, timed_by}
+use Rattle.tcp_state.proofs.Clocked.{heard_paced}
 use Rattle.tcp_state.proofs.Congestion.{syn_kept}
 use Rattle.tcp_state.proofs.connection.Connection.note_heard.Goals as goal
 use Rattle.tcp_state.proofs.connection.Connection.note_heard.Goals.{then-starts_wait, else-starts_wait}
@@ -15,9 +18,18 @@ use Rattle.tcp_state.proofs.connection.Connection.note_heard.Goals.{then-starts_
 -- what a segment tells, once its progress is noted
 abbrev signalled : Before → View → View
 signalled b w = record w {
-  resend = if reveals_loss (congestion_event_of b w) w.congestion then resend_lost w.resend (outstanding w.sending) else w.resend;
+  resend = resend_signalled w.resend (congestion_event_of b w) w.congestion (outstanding w.sending);
   congestion = congestion_after b w;
 }
+
+-- what it is to the congestion window depends on the end of a recovery alone, of all that is noted of what goes out again
+abbrev event_at : Before → View → ℕ → Signal
+event_at b w recover =
+    if is_closed w.state then Nothing
+    else if is_moved b w then (if is_opening b.state then Begins
+    else Counts (if goes_on w.congestion && nat_lt 0 recover then PartialAck (b.held - length w.sending.held) else NewAck (b.held - length w.sending.held) (outstanding w.sending)))
+    else if b.is_duplicate then Counts (Duplicate (outstanding w.sending))
+    else Nothing
 
 -- its progress, its signal, the wait that it begins, that the peer was heard, and then the clock
 noted : (b : Before) (v progress signal waits hears : View) (moved starts : Bool) (now : Moment) → progress ≡ record v { resend = resend_heard b v now } → signal ≡ signalled b progress
@@ -25,7 +37,10 @@ noted : (b : Before) (v progress signal waits hears : View) (moved starts : Bool
     → starts ≡ (b.repeats_fin || begins_wait b.state signal.state || (signal.owes_reset && not b.owes_reset)) → clocked moved hears now ≡ timed_by b v now
 noted b v progress signal waits hears moved starts now progressed told since heard moves begins =
     let w = record v { resend = resend_after b v now; congestion = congestion_after b v } in
+    let heard_resend = resend_heard b v now in
+    let event : congestion_event_of b (record v { resend = heard_resend }) ≡ congestion_event_of b v = ap (event_at b v) (heard_paced b v now (λ p. p.recover ≡ v.resend.recover) refl refl refl) in
     let signal_is : signal ≡ w = told ∙ ap (signalled b) progressed
+    ∙ ap (λ g. record v { resend = resend_signalled heard_resend g v.congestion (outstanding v.sending); congestion = after_signal v.congestion g v.sending.smss heard_resend.syn_resent }) event
     ∙ ap (λ resent. record w { congestion = after_signal v.congestion (congestion_event_of b v) v.sending.smss resent }) (syn_kept b v now) in
     let starts_is = begins ∙ ap (λ (x : View). b.repeats_fin || begins_wait b.state x.state || (x.owes_reset && not b.owes_reset)) signal_is in
     let waits_is = since ∙ ap (λ (x : View). record x { since = if starts then now else x.since }) signal_is ∙ ap (λ t. record w { since = if t then now else v.since }) starts_is in
