@@ -23,6 +23,7 @@ mod octets;
 mod opening;
 mod queues;
 mod ready;
+mod recovery;
 mod resets;
 mod scale;
 mod segments;

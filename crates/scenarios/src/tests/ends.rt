@@ -9,7 +9,8 @@ use std::process::Abort;
 use tcp_segment::{Flags, Head, Seq, TcpView};
 use tcp_state::Fate::{self, Stays};
 use tcp_state::{
-    Buffers, CAPACITY, Connection, Due, Info, MOST_SEGMENT, Manner, Received, Refusal, State,
+    Buffers, CAPACITY, Connection, Control, Due, Info, MOST_SEGMENT, Manner, Received, Refusal,
+    State,
 };
 
 pub(super) const CALLER: Endpoint = Endpoint {
@@ -143,6 +144,7 @@ impl End {
     /// Takes a segment that the other end did not send.
     pub(super) fn hear_forged(
         &mut self,
+        now: u64,
         (number, acknowledgement): (u32, u32),
         flags: Flags,
         window: u16,
@@ -162,7 +164,7 @@ impl End {
         let (begin, count) = (head.len(), count.min(2));
         let payload_sum = sum(&frame[begin..begin + count]);
         let len = head.emit(peer.addr, local.addr, count, payload_sum, &mut frame);
-        self.hear(0, &frame[..len])
+        self.hear(now, &frame[..len])
     }
 
     /// The segment that it sent last.
@@ -174,7 +176,7 @@ impl End {
     }
 
     /// The number, the acknowledgement, the control bits and the window of the segment that it sent last.
-    fn header(&self) -> Option<(u32, u32, Flags, u16)> {
+    pub(super) fn header(&self) -> Option<(u32, u32, Flags, u16)> {
         let (local, peer) = (self.connection.local(), self.connection.peer());
         let view = TcpView::parse(local.addr, peer.addr, self.sent()).ok()?;
         Some((
@@ -206,7 +208,7 @@ fn is_answered(end: &mut End, other: &mut End, act: Act) -> bool {
             end.emit(now).is_some() && other.hear(now, end.sent()) == Some(want)
         }
         Act::Hear(number, acknowledgement, flags, count, want) => {
-            end.hear_forged((number, acknowledgement), flags, 0, count) == Some(want)
+            end.hear_forged(0, (number, acknowledgement), flags, 0, count) == Some(want)
         }
         Act::Sent(number, acknowledgement, flags, window) => {
             end.header() == Some((number, acknowledgement, flags, window))
@@ -235,6 +237,8 @@ fn plays(rt: &impl Abort, alloc: Global, scenario: &Scenario, minshall: bool) {
     let manner = Manner {
         scales: false,
         minshall,
+        control: Control::PLAIN,
+        least_timeout: 1_000,
     };
     let ours = Buffers::new(alloc, CAPACITY, manner).expect(rt, "memory for two buffers");
     let theirs = Buffers::new(alloc, CAPACITY, manner).expect(rt, "memory for two buffers");

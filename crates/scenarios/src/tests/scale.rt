@@ -12,7 +12,7 @@ use std::alloc::Global;
 use std::process::Abort;
 use tcp_segment::Seq;
 use tcp_state::Fate::Stays;
-use tcp_state::{Buffers, Connection, LARGEST_CAPACITY, Manner};
+use tcp_state::{Buffers, Connection, Control, LARGEST_CAPACITY, Manner};
 
 /// A asks for B's MAC, and a connection opens and carries octets.
 const STANDARD: &[Step] = &[
@@ -110,7 +110,7 @@ const SHIFT_15: &[u8] =
 const SHIFTS_2_AND_7: &[u8] =
     b"\0\x50\xc0\0\0\0\0\x07\0\0\0\0\x80\x12\xff\xff\x9b\xa7\0\0\x02\x04\x05\xb4\x03\x03\x02\x03\x03\x07\0\0";
 
-const NO_SHIFT: &[u8] =
+pub(super) const NO_SHIFT: &[u8] =
     b"\0\x50\xc0\0\0\0\0\x07\0\0\0\0\x60\x12\xff\xff\xc3\xbc\0\0\x02\x04\x05\xb4";
 
 /// So many segments of 1,460 octets are acknowledged one by one. Then the congestion window has grown from 4,380 to 49,640 octets (RFC 5681 section 3.1).
@@ -139,6 +139,8 @@ fn answered(rt: &impl Abort, alloc: Global, answer: &[u8]) -> End {
     let manner = Manner {
         scales: true,
         minshall: false,
+        control: Control::PLAIN,
+        least_timeout: 1_000,
     };
     let buffers = Buffers::new(alloc, LARGEST_CAPACITY, manner).expect(
         rt,
@@ -161,7 +163,7 @@ fn grows(rt: &impl Abort, end: &mut End) {
     for count in 1..=GROWTHS {
         assert!(rt; writes(end, &[0; 1_460]));
         assert!(rt; end.emit(0) == Some(1_480));
-        assert!(rt; end.hear_forged((8, count * 1_460), ACK, 65_535, 0) == Some(Stays));
+        assert!(rt; end.hear_forged(0, (8, count * 1_460), ACK, 65_535, 0) == Some(Stays));
     }
 }
 

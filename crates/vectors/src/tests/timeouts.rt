@@ -18,7 +18,7 @@ fn take(rto: &mut Rto, event: &Event) {
     }
 }
 
-/// Samples, a short sample, and expiries: each with the timeout after it, in milliseconds.
+/// Samples, a short sample, and expiries: each with the timeout after it, in milliseconds. The least is a second.
 const RUNS: [&[(Event, u32)]; 3] = [
     &[(Event::Sample(800), 2_400), (Event::Sample(1_200), 2_450)],
     &[(Event::Sample(100), 1_000)],
@@ -34,15 +34,53 @@ const RUNS: [&[(Event, u32)]; 3] = [
     ],
 ];
 
+/// The same where the least is 200 ms. By RFC 6298 sections 2.2 and 2.3, round trips of 10 ms ask for 30 ms, then 25; and
+/// round trips of 100 ms for 100 + 200, then 100 + 150, 100 + 112.5 (here up to a whole number) and 100 + 84.4.
+const SHORT_RUNS: [&[(Event, u32)]; 3] = [
+    &[
+        (Event::Sample(10), 200),
+        (Event::Sample(10), 200),
+        (Event::Expire, 400),
+    ],
+    &[
+        (Event::Sample(100), 300),
+        (Event::Sample(100), 250),
+        (Event::Sample(100), 213),
+        (Event::Sample(100), 200),
+    ],
+    &[
+        (Event::Expire, 2_000),
+        (Event::EstablishedAfterLostSyn, 3_000),
+        (Event::Sample(10), 200),
+    ],
+];
+
+/// Leasts that a set-up asks for, in milliseconds, and the timeout after a round trip of 10 ms.
+const LEASTS: [(u32, u32); 6] = [
+    (0, 200),
+    (199, 200),
+    (201, 201),
+    (999, 999),
+    (1_001, 1_000),
+    (u32::MAX, 1_000),
+];
+
 #[test]
 fn timeouts(rt: HostRuntime) {
-    for run in &RUNS {
-        let mut rto = Rto::new();
-        assert!(rt; rto.rto() == 1_000);
-        for (event, want) in *run {
-            take(&mut rto, event);
-            assert!(rt; rto.rto() == *want);
+    for (least, runs) in [(1_000, &RUNS), (200, &SHORT_RUNS)] {
+        for run in runs {
+            let mut rto = Rto::new(least);
+            assert!(rt; rto.rto() == 1_000);
+            for (event, want) in *run {
+                take(&mut rto, event);
+                assert!(rt; rto.rto() == *want);
+            }
         }
+    }
+    for (least, want) in &LEASTS {
+        let mut rto = Rto::new(*least);
+        rto.sample(10);
+        assert!(rt; rto.rto() == *want);
     }
 }
 

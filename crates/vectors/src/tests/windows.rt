@@ -1,10 +1,12 @@
-//! The congestion window (RFC 5681).
+//! The congestion window (RFC 5681; RFC 6582, RFC 3042, RFC 3465 and RFC 6928 where a set-up says so).
 
-use congestion::Cwnd;
+use congestion::{Control, Cwnd, Recovery};
 
-/// What happens to a window. The octets are those acknowledged, and else those in flight.
+/// What happens to a window. The octets are those acknowledged and those in flight behind them, and else those in flight.
 enum Event {
-    Acked(u32),
+    Acked(u32, u32),
+    /// An ACK of some of what was outstanding at the beginning of a recovery.
+    Partly(u32, u32),
     Expired(u32),
     Duplicate(u32),
     /// The third duplicate, which says so.
@@ -14,8 +16,16 @@ enum Event {
 /// Whether the event answers what it says.
 fn answers(cwnd: &mut Cwnd, event: &Event) -> bool {
     match event {
-        Event::Acked(octets) => {
-            cwnd.acked(*octets);
+        Event::Acked(octets, flight) => {
+            cwnd.acked(*octets, *flight);
+            true
+        }
+        Event::Partly(octets, flight) => {
+            if cwnd.goes_on() {
+                cwnd.partly_acked(*octets);
+            } else {
+                cwnd.acked(*octets, *flight);
+            }
             true
         }
         Event::Expired(flight) => {
@@ -27,17 +37,55 @@ fn answers(cwnd: &mut Cwnd, event: &Event) -> bool {
     }
 }
 
-/// First windows by the greatest segment and whether the SYN went out again.
-const FIRST_WINDOWS: [(u16, bool, u32); 3] = [
-    (536, false, 2_144),
-    (1_460, false, 4_380),
-    (1_460, true, 1_460),
+/// Ten segments at first, and a threshold that nothing reaches.
+const REPAIRS: Control = Control {
+    recovery: Recovery::NewReno,
+    first_threshold: 1 << 30,
+    first_segments: 10,
+};
+
+/// A single segment at first, and a threshold between the bounds.
+const ONE_SEGMENT: Control = Control {
+    recovery: Recovery::Plain,
+    first_threshold: 100_000,
+    first_segments: 1,
+};
+
+/// More segments than ten, which count as ten, and a threshold under the least.
+const TOO_MANY: Control = Control {
+    recovery: Recovery::NewReno,
+    first_threshold: 1,
+    first_segments: 200,
+};
+
+/// The usual segments, and a threshold over the most.
+const TOO_HIGH: Control = Control {
+    recovery: Recovery::NewReno,
+    first_threshold: 4_294_967_295,
+    first_segments: 0,
+};
+
+/// First windows and thresholds by the set-up, the greatest segment and whether the SYN went out again: a single segment then (RFC 5681 section 3.1, RFC 6928
+/// section 2).
+const FIRST_WINDOWS: [(Control, u16, bool, u32, u32); 11] = [
+    (Control::PLAIN, 536, false, 2_144, 65_535),
+    (Control::PLAIN, 1_460, false, 4_380, 65_535),
+    (Control::PLAIN, 1_460, true, 1_460, 65_535),
+    (ONE_SEGMENT, 1_460, false, 1_460, 100_000),
+    (REPAIRS, 536, false, 5_360, 1_073_741_824),
+    (REPAIRS, 1_460, false, 14_600, 1_073_741_824),
+    (REPAIRS, 1_460, true, 1_460, 1_073_741_824),
+    (TOO_MANY, 1_460, false, 14_600, 65_535),
+    (TOO_MANY, 1_460, true, 1_460, 65_535),
+    (TOO_HIGH, 536, false, 2_144, 1_073_741_824),
+    (TOO_HIGH, 1_460, false, 4_380, 1_073_741_824),
 ];
 
-/// The first window, where segments may be so great.
-fn first_window(smss: u16, resent: bool) -> Option<u32> {
+/// The first window and threshold, where segments may be so great.
+fn first_window(control: Control, smss: u16, resent: bool) -> Option<(u32, u32)> {
     if 64 <= smss && smss <= 1_460 {
-        Some(Cwnd::new(smss, resent).window())
+        let cwnd = Cwnd::new(control, smss, resent);
+        Some((cwnd.window(), cwnd.ssthresh()))
     } else {
         None
     }
@@ -46,35 +94,160 @@ fn first_window(smss: u16, resent: bool) -> Option<u32> {
 /// Events with segments of 1,460 octets, each with the window after it, in octets.
 const RUNS: [&[(Event, u32)]; 3] = [
     // slow start
-    &[(Event::Acked(1_460), 5_840)],
+    &[(Event::Acked(1_460, 2_920), 5_840)],
     // a loss, slow start up to the threshold, congestion avoidance, and fast recovery
     &[
         (Event::Expired(4_380), 1_460),
-        (Event::Acked(1_460), 2_920),
-        (Event::Acked(1_460), 3_650),
-        (Event::Acked(1_460), 4_234),
+        (Event::Acked(1_460, 2_920), 2_920),
+        (Event::Acked(1_460, 1_460), 3_650),
+        (Event::Acked(1_460, 2_190), 4_234),
         (Event::Duplicate(4_234), 4_234),
         (Event::Duplicate(4_234), 4_234),
         (Event::Third(4_234), 7_300),
         (Event::Duplicate(4_234), 8_760),
-        (Event::Acked(1_460), 2_920),
+        (Event::Acked(1_460, 0), 2_920),
     ],
     // after a loss with 4,380 octets in flight the threshold is 2,920 and no other
     &[
         (Event::Expired(4_380), 1_460),
-        (Event::Acked(1_459), 2_919),
-        (Event::Acked(1), 2_920),
-        (Event::Acked(1), 3_650),
+        (Event::Acked(1_459, 2_921), 2_919),
+        (Event::Acked(1, 2_920), 2_920),
+        (Event::Acked(1, 2_919), 3_650),
+    ],
+];
+
+/// Events with segments of 1,460 octets where losses are repaired, from a window of 14,600: each with the window, what may be in flight, and the threshold
+/// after it; and with the window after the same events where losses are not repaired, from one of 4,380.
+const BESIDE_PLAIN: [&[(Event, u32, u32, u32, u32)]; 2] = [
+    // Of ten segments in flight the first and the fourth are lost, and no more octets wait. Eight segments come, so there are eight duplicates.
+    &[
+        // limited transmit: 14,600 + 1,460, and 14,600 + 2 * 1,460
+        (
+            Event::Duplicate(14_600),
+            14_600,
+            16_060,
+            1_073_741_824,
+            4_380,
+        ),
+        (
+            Event::Duplicate(14_600),
+            14_600,
+            17_520,
+            1_073_741_824,
+            4_380,
+        ),
+        // 14,600 / 2 = 7,300, and three segments more; the first segment goes out again
+        (Event::Third(14_600), 11_680, 11_680, 7_300, 11_680),
+        // a segment more each
+        (Event::Duplicate(14_600), 13_140, 13_140, 7_300, 13_140),
+        (Event::Duplicate(14_600), 14_600, 14_600, 7_300, 14_600),
+        (Event::Duplicate(14_600), 16_060, 16_060, 7_300, 16_060),
+        (Event::Duplicate(14_600), 17_520, 17_520, 7_300, 17_520),
+        (Event::Duplicate(14_600), 18_980, 18_980, 7_300, 18_980),
+        // The first came: three segments are acknowledged. 18,980 - 4,380 + 1,460; the fourth goes out again. In plain, the recovery ends at the threshold.
+        (Event::Partly(4_380, 10_220), 16_060, 16_060, 7_300, 7_300),
+        // The fourth came, and nothing is in flight: the lesser of 7,300 and 1,460 + 1,460. In plain, 1,460 * 1,460 / 7,300 = 292 more.
+        (Event::Acked(10_220, 0), 2_920, 2_920, 7_300, 7_592),
+        // Slow start by two segments an ACK, which no expiry began, up to the threshold. In plain, 2,131,600 / 7,592 = 280.7 and 2,131,600 / 7,872 = 270.7.
+        (Event::Acked(2_920, 0), 5_840, 5_840, 7_300, 7_872),
+        (Event::Acked(2_920, 2_920), 8_760, 8_760, 7_300, 8_142),
+        // A third of the window is acknowledged: a third of a segment is 486.6. In plain, 2,131,600 / 8,142 = 261.8.
+        (Event::Acked(2_920, 5_840), 9_246, 9_246, 7_300, 8_403),
+    ],
+    // slow start, an expiry, and slow start again
+    &[
+        // two segments; of three segments two; an octet; in plain a segment, a segment, and an octet
+        (
+            Event::Acked(2_920, 11_680),
+            17_520,
+            17_520,
+            1_073_741_824,
+            5_840,
+        ),
+        (
+            Event::Acked(4_380, 13_140),
+            20_440,
+            20_440,
+            1_073_741_824,
+            7_300,
+        ),
+        (
+            Event::Acked(1, 20_440),
+            20_441,
+            20_441,
+            1_073_741_824,
+            7_301,
+        ),
+        // half of 20,441, rounded down
+        (Event::Expired(20_441), 1_460, 1_460, 10_220, 1_460),
+        // a segment an ACK, of two that are acknowledged
+        (Event::Acked(2_920, 0), 2_920, 2_920, 10_220, 2_920),
+        (Event::Acked(2_920, 0), 4_380, 4_380, 10_220, 4_380),
+        (Event::Acked(2_920, 1_460), 5_840, 5_840, 10_220, 5_840),
+        (Event::Acked(2_920, 2_920), 7_300, 7_300, 10_220, 7_300),
+        (Event::Acked(2_920, 4_380), 8_760, 8_760, 10_220, 8_760),
+        (Event::Acked(2_920, 5_840), 10_220, 10_220, 10_220, 10_220),
+        // Two sevenths of the window are acknowledged: two sevenths of a segment are 417.1. In plain, a seventh, 208.5.
+        (Event::Acked(2_920, 7_300), 10_637, 10_637, 10_220, 10_428),
+    ],
+];
+
+/// Events with segments of 1,460 octets where losses are repaired alone, from a window of 14,600: each with the window, what may be in flight, and the
+/// threshold after it.
+const REPAIRED: [&[(Event, u32, u32, u32)]; 2] = [
+    // Of ten segments in flight the first and the fourth are lost, and octets always wait: what may go out does.
+    &[
+        // the eleventh segment goes out, and the twelfth
+        (Event::Duplicate(14_600), 14_600, 16_060, 1_073_741_824),
+        (Event::Duplicate(16_060), 14_600, 17_520, 1_073_741_824),
+        // without these two 14,600 are in flight: half of it, and three segments more
+        (Event::Third(17_520), 11_680, 11_680, 7_300),
+        // the duplicates by the sixth segment to the tenth, at which the thirteenth goes out
+        (Event::Duplicate(17_520), 13_140, 13_140, 7_300),
+        (Event::Duplicate(17_520), 14_600, 14_600, 7_300),
+        (Event::Duplicate(17_520), 16_060, 16_060, 7_300),
+        (Event::Duplicate(17_520), 17_520, 17_520, 7_300),
+        (Event::Duplicate(17_520), 18_980, 18_980, 7_300),
+        // those by the eleventh and the twelfth: the fourteenth and the fifteenth go out
+        (Event::Duplicate(18_980), 20_440, 20_440, 7_300),
+        (Event::Duplicate(20_440), 21_900, 21_900, 7_300),
+        // The first came: 21,900 - 4,380 + 1,460. The fourth goes out again, and then the sixteenth, so 18,980 are in flight.
+        (Event::Partly(4_380, 17_520), 18_980, 18_980, 7_300),
+        // those by the thirteenth to the fifteenth: three more go out, to the nineteenth
+        (Event::Duplicate(18_980), 20_440, 20_440, 7_300),
+        (Event::Duplicate(20_440), 21_900, 21_900, 7_300),
+        (Event::Duplicate(21_900), 23_360, 23_360, 7_300),
+        // The fourth came: twelve segments are acknowledged, and four are in flight. The lesser of 7,300 and 5,840 + 1,460, which are the same.
+        (Event::Acked(17_520, 5_840), 7_300, 7_300, 7_300),
+        // two fifths of the window, so two fifths of a segment
+        (Event::Acked(2_920, 4_380), 7_884, 7_884, 7_300),
+    ],
+    // partial ACKs of less than a segment and of many, and an expiry
+    &[
+        (Event::Duplicate(14_600), 14_600, 16_060, 1_073_741_824),
+        (Event::Duplicate(14_600), 14_600, 17_520, 1_073_741_824),
+        (Event::Third(14_600), 11_680, 11_680, 7_300),
+        // less than a segment: nothing is added back
+        (Event::Partly(1_000, 13_600), 10_680, 10_680, 7_300),
+        // a segment, which is added back
+        (Event::Partly(1_460, 12_140), 10_680, 10_680, 7_300),
+        // 10,680 - 10,140 + 1,460
+        (Event::Partly(10_140, 2_000), 2_000, 2_000, 7_300),
+        // 2,000 - 1,000 is less than a segment, which always stays
+        (Event::Partly(1_000, 1_000), 1_460, 1_460, 7_300),
+        // the expiry ends the recovery: the next duplicate is a first one again, for limited transmit
+        (Event::Expired(1_000), 1_460, 1_460, 2_920),
+        (Event::Duplicate(1_000), 1_460, 2_920, 2_920),
     ],
 ];
 
 #[test]
 fn windows(rt: HostRuntime) {
-    for (smss, resent, want) in &FIRST_WINDOWS {
-        assert!(rt; first_window(*smss, *resent) == Some(*want));
+    for (control, smss, resent, window, ssthresh) in &FIRST_WINDOWS {
+        assert!(rt; first_window(*control, *smss, *resent) == Some((*window, *ssthresh)));
     }
     for run in &RUNS {
-        let mut cwnd = Cwnd::new(1_460, false);
+        let mut cwnd = Cwnd::new(Control::PLAIN, 1_460, false);
         for (event, want) in *run {
             assert!(rt; answers(&mut cwnd, event) && cwnd.window() == *want);
         }
@@ -82,13 +255,51 @@ fn windows(rt: HostRuntime) {
 }
 
 #[test]
+fn repairs(rt: HostRuntime) {
+    for run in &BESIDE_PLAIN {
+        let mut cwnd = Cwnd::new(REPAIRS, 1_460, false);
+        let mut plain = Cwnd::new(Control::PLAIN, 1_460, false);
+        for (event, window, allowed, ssthresh, alone) in *run {
+            assert!(rt; answers(&mut cwnd, event) && answers(&mut plain, event));
+            assert!(rt;
+                (cwnd.window(), cwnd.allowed(), cwnd.ssthresh()) == (*window, *allowed, *ssthresh)
+            );
+            assert!(rt; (plain.window(), plain.allowed()) == (*alone, *alone));
+        }
+    }
+    for run in &REPAIRED {
+        let mut cwnd = Cwnd::new(REPAIRS, 1_460, false);
+        for (event, window, allowed, ssthresh) in *run {
+            assert!(rt; answers(&mut cwnd, event));
+            assert!(rt;
+                (cwnd.window(), cwnd.allowed(), cwnd.ssthresh()) == (*window, *allowed, *ssthresh)
+            );
+        }
+    }
+}
+
+#[test]
 fn recoveries(rt: HostRuntime) {
-    let mut cwnd = Cwnd::new(1_460, false);
+    let mut cwnd = Cwnd::new(Control::PLAIN, 1_460, false);
     assert!(rt; (cwnd.ssthresh(), cwnd.is_recovering()) == (65_535, false));
     for third in &[false, false, true] {
         assert!(rt; cwnd.duplicate(8_760) == *third && cwnd.is_recovering() == *third);
     }
-    assert!(rt; cwnd.ssthresh() == 4_380);
-    cwnd.acked(1_460);
+    assert!(rt; cwnd.ssthresh() == 4_380 && !cwnd.goes_on());
+    cwnd.acked(1_460, 7_300);
     assert!(rt; !cwnd.is_recovering());
+}
+
+/// A recovery goes on at a partial ACK, and ends at the next one that is not partial (RFC 6582 section 3.2, step 3).
+#[test]
+fn recoveries_go_on(rt: HostRuntime) {
+    let mut cwnd = Cwnd::new(REPAIRS, 1_460, false);
+    assert!(rt; cwnd.control() == REPAIRS && cwnd.repairs());
+    for third in &[false, false, true] {
+        assert!(rt; cwnd.duplicate(14_600) == *third && cwnd.goes_on() == *third);
+    }
+    cwnd.partly_acked(4_380);
+    assert!(rt; cwnd.is_recovering() && cwnd.goes_on());
+    cwnd.acked(10_220, 0);
+    assert!(rt; !cwnd.is_recovering() && !cwnd.goes_on());
 }
