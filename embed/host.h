@@ -74,6 +74,12 @@ extern "C" {
 #define HOST_KIND_TCP 1
 #define HOST_KIND_UDP 2
 
+/* How losses are repaired (`recovery` of struct host_config). Plain is RFC 5681 section 3.2 alone: of several segments that a window loses, one comes
+ * again at once, and the others by timeouts. NewReno brings one again in each round trip (RFC 6582), sends on at the first two duplicate acknowledgements
+ * (RFC 3042), and has the window grow by the octets that are acknowledged (RFC 3465). */
+#define HOST_RECOVERY_PLAIN 0
+#define HOST_RECOVERY_NEW_RENO 1
+
 /* States of a socket: those of RFC 9293 section 3.3.2, and that of every UDP socket. */
 #define HOST_STATE_CLOSED 0
 #define HOST_STATE_LISTEN 1
@@ -156,6 +162,11 @@ struct host_route {
  *
  *     const struct host_config config = {.size = sizeof config, .addr = HOST_ADDR(10, 0, 0, 1), .mac = {2, 0, 0, 0, 0, 1}};
  *
+ * Of the three members behind `recovery` 0 is the usual, and another number that is out of its range counts as the nearest in it. A host that meets a
+ * real network wants
+ *
+ *     .recovery = HOST_RECOVERY_NEW_RENO, .first_segments = 10, .least_timeout = 200, .first_threshold = 1 << 30
+ *
  * A later header may have more members behind these. By its size a program of today is understood by a later library, and a later program by this one
  * where it leaves them 0. */
 struct host_config {
@@ -166,6 +177,10 @@ struct host_config {
     uint8_t mac[6];
     uint8_t no_window_scale;         /* 1: no window scale option (RFC 7323 section 2); a connection holds 65,535 octets each way, else 1,048,576 */
     uint8_t minshall;                /* 1: a small segment waits for a small one only, and the FIN goes with the last octets (RFC 9293 appendix A.3) */
+    uint8_t recovery;                /* how losses are repaired: HOST_RECOVERY_PLAIN or HOST_RECOVERY_NEW_RENO */
+    uint8_t first_segments;          /* the first congestion window in segments, 1 to 10 (RFC 6928); 0: two to four, by their size (RFC 5681 section 3.1) */
+    uint16_t least_timeout;          /* the least retransmission timeout in milliseconds, 200 to 1,000; 0: 1,000 (RFC 6298 section 2.4) */
+    uint32_t first_threshold;        /* the first slow start threshold in octets, 65,535 to 1,073,741,824; 0: 65,535 (RFC 5681 section 3.1) */
     uint8_t zero[4];                 /* 0 */
 };
 
@@ -234,8 +249,10 @@ typedef char host_counters_has_its_form[sizeof(struct host_counters) == 24 * 8 &
 typedef char host_info_has_its_form[sizeof(struct host_info) == 23 * 8 && offsetof(struct host_info, state) == 8 ? 1 : -1];
 
 /* So the library finds it. */
-typedef char host_config_has_its_form[sizeof(struct host_config) == 40 && offsetof(struct host_config, addr) == 24 &&
-                                              offsetof(struct host_config, no_window_scale) == 34 && offsetof(struct host_config, minshall) == 35
+typedef char host_config_has_its_form[sizeof(struct host_config) == 48 && offsetof(struct host_config, addr) == 24 &&
+                                              offsetof(struct host_config, no_window_scale) == 34 && offsetof(struct host_config, minshall) == 35 &&
+                                              offsetof(struct host_config, recovery) == 36 && offsetof(struct host_config, first_segments) == 37 &&
+                                              offsetof(struct host_config, least_timeout) == 38 && offsetof(struct host_config, first_threshold) == 40
                                           ? 1
                                           : -1];
 
@@ -255,8 +272,8 @@ int64_t host_new_from(struct host *host, const uint8_t *config, size_t size, con
 
 /* Makes a host as host_new does, by a config. host_new makes one whose options are 0.
  *
- * HOST_EINVAL, also where the config's size is less than 40, its no_window_scale or its minshall is neither 0 nor 1, or an octet behind these, up to
- * its size, isn't 0. HOST_ENOMEM. */
+ * HOST_EINVAL, also where the config's size is less than 40, its no_window_scale, its minshall or its recovery is neither 0 nor 1, or an octet behind
+ * the members that are named, up to its size, isn't 0. A program of a header before this one passes 40 octets: what those lack is 0. HOST_ENOMEM. */
 static inline int64_t host_new_with(struct host *host, const struct host_config *config)
 {
     const struct host_route none = {0, 0, 0};
@@ -298,10 +315,12 @@ int64_t host_listen(struct host *host, uint64_t id, size_t backlog);
 int64_t host_accept(struct host *host, uint64_t id, struct host_endpoint *peer);
 
 /* Begins to open a connection to `port` of `addr`: answers 0 at once. `isn` is its initial number (docs/EMBEDDING.md says what it should be).
- * It is open once host_state is neither HOST_STATE_SYN_SENT nor HOST_STATE_SYN_RECEIVED (it may be HOST_STATE_CLOSE_WAIT at once, or have ended
- * in HOST_STATE_CLOSED); until then host_send and host_recv are HOST_EAGAIN. A socket that isn't bound gets a dynamic port, from 49152 on. Once the peer has refused or reset the connection, or was silent up to the
- * thirteenth expiry of a timer, this call, host_send, host_recv and host_shutdown_write tell HOST_ECONNREFUSED, HOST_ECONNRESET or
- * HOST_ETIMEDOUT, whatever is unread, until host_close.
+ * The host has to know the time: call host_tick before the first one.
+ *
+ * The connection is open once host_state is neither HOST_STATE_SYN_SENT nor HOST_STATE_SYN_RECEIVED (it may be HOST_STATE_CLOSE_WAIT at once, or
+ * have ended in HOST_STATE_CLOSED); until then host_send and host_recv are HOST_EAGAIN. A socket that isn't bound gets a dynamic port, from 49152
+ * on. Once the peer has refused or reset the connection, or was silent up to the thirteenth expiry of a timer, this call, host_send, host_recv and
+ * host_shutdown_write tell HOST_ECONNREFUSED, HOST_ECONNRESET or HOST_ETIMEDOUT, whatever is unread, until host_close.
  *
  * HOST_EBADF. HOST_EOPNOTSUPP: UDP, or listening. HOST_ECONNREFUSED, HOST_ECONNRESET, HOST_ETIMEDOUT. HOST_EALREADY: it is opening one.
  * HOST_EISCONN: it has had one. HOST_EADDRNOTAVAIL: port 0, not a unicast address, or our own. HOST_ENETUNREACH: no route leads there.

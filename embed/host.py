@@ -25,7 +25,7 @@ import os
 import sys
 from typing import Any, Iterator, Mapping, NoReturn, Optional, Tuple, Union
 
-__all__ = ["Counters", "Drop", "Host", "Info", "Kind", "Ready", "State"]
+__all__ = ["Counters", "Drop", "Host", "Info", "Kind", "Ready", "Recovery", "State"]
 
 VERSION = "0.3.0"
 FRAME_SIZE = 1514
@@ -41,6 +41,13 @@ class Kind(enum.IntEnum):
 
     TCP = 1
     UDP = 2
+
+
+class Recovery(enum.IntEnum):
+    """How losses are repaired: PLAIN is RFC 5681 section 3.2 alone, NEW_RENO that with RFC 6582, 3042 and 3465."""
+
+    PLAIN = 0
+    NEW_RENO = 1
 
 
 class Ready(enum.IntFlag):
@@ -163,6 +170,10 @@ class _Config(ctypes.Structure):
         ("mac", ctypes.c_uint8 * 6),
         ("no_window_scale", ctypes.c_uint8),
         ("minshall", ctypes.c_uint8),
+        ("recovery", ctypes.c_uint8),
+        ("first_segments", ctypes.c_uint8),
+        ("least_timeout", ctypes.c_uint16),
+        ("first_threshold", ctypes.c_uint32),
         ("zero", ctypes.c_uint8 * 4),
     ]
 
@@ -280,12 +291,28 @@ class Host:
 
     `routes` has for each prefix (`"10.0.0.0/24"`) the gateway, or None where the prefix is on the link. With `scale` the host uses the window
     scale option, and a connection with a peer that does too holds 1,048,576 octets each way, else 65,535. With `minshall` a small segment waits
-    for a small one only, and the FIN goes with the last octets (RFC 9293 appendix A.3). A host is freed by `free`, at the end of a `with`, or when
-    nothing names it any more.
+    for a small one only, and the FIN goes with the last octets (RFC 9293 appendix A.3).
+
+    `recovery` says how losses are repaired. `first_segments` are those of the first congestion window, 1 to 10 (RFC 6928), else two to four;
+    `least_timeout` is the least retransmission timeout, 200 to 1,000 milliseconds (RFC 6298 section 2.4), else 1,000; `first_threshold` is the first
+    slow start threshold, 65,535 to 1,073,741,824 octets (RFC 5681 section 3.1), else 65,535. Of these 0 is the usual, and another number that is
+    out of its range counts as the nearest in it. A host that meets a real network wants `recovery=Recovery.NEW_RENO, first_segments=10,
+    least_timeout=200, first_threshold=1 << 30`.
+
+    A host is freed by `free`, at the end of a `with`, or when nothing names it any more.
     """
 
     def __init__(
-        self, mac: Union[str, bytes], addr: Address, routes: Mapping[str, Optional[Address]], scale: bool = True, minshall: bool = False
+        self,
+        mac: Union[str, bytes],
+        addr: Address,
+        routes: Mapping[str, Optional[Address]],
+        scale: bool = True,
+        minshall: bool = False,
+        recovery: Recovery = Recovery.PLAIN,
+        first_segments: int = 0,
+        least_timeout: int = 0,
+        first_threshold: int = 0,
     ) -> None:
         self._handle = _Handle()
         # What is read stands here first: it is made once, and once more for a call that asks for more octets than any before.
@@ -300,6 +327,10 @@ class Host:
             row.prefix, row.length = int(network.network_address), network.prefixlen
             row.gateway = 0 if gateway is None else _addr(gateway)
         config = _Config(ctypes.sizeof(_Config), None, len(routes), _addr(addr), tuple(mac), not scale, minshall)
+        config.recovery = Recovery(recovery)
+        config.first_segments = _number(first_segments, 8, "first_segments")
+        config.least_timeout = _number(least_timeout, 16, "least_timeout")
+        config.first_threshold = _number(first_threshold, 32, "first_threshold")
         self._call("host_new_from", bytes(config), config.size, rows, len(routes))
 
     def _call(self, name: str, *arguments: Any) -> int:

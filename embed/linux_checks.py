@@ -1,7 +1,7 @@
 """The checks of embed/try-linux: Linux's sockets and programs converse with embed/tap. They run in the namespace that try-linux made.
 
-linux_checks.py TAP DEVICE FOLDER WORD LONG: the program, its device, where captures go, a word that the names of the checks must have, or '', and
-whether the long checks are made and no others: long, or ''.
+linux_checks.py TAP DEVICE FOLDER WORD LONG RECOVERY: the program, its device, where captures go, a word that the names of the checks must have, or '',
+whether the long checks are made and no others: long, or '', and how the program repairs losses where a check doesn't say so itself: plain or newreno.
 """
 
 import collections
@@ -32,7 +32,7 @@ MAC = bytes([2, 0, 10, 0, 0, 2])  # the host's
 MEGABYTE = 1 << 20
 LONG, LONGEST = 300, 3000  # how many seconds a check may take, and one that is asked for as a long one
 
-program, device, folder, word, is_long = sys.argv[1:]
+program, device, folder, word, is_long, recovery = sys.argv[1:]
 rows = []
 captures = []
 
@@ -56,7 +56,7 @@ def octets(count):
 def command(*words):
     capture = os.path.join(folder, f"{len(captures):02}.pcap")
     captures.append(capture)
-    return [program, "--tap", device, "--addr", OURS + "/24", "--pcap", capture, *map(str, words)]
+    return [program, "--tap", device, "--addr", OURS + "/24", "--recovery", recovery, "--pcap", capture, *map(str, words)]
 
 
 def read_about_device(name):
@@ -955,11 +955,13 @@ CHECKS = [
     ("10 MB to the host, every 101st frame in lost", to_host, (10 * MEGABYTE, "--lose", "in:101"), ""),
     ("1 MB from the host, every 11th frame in lost", from_host, (MEGABYTE, "--lose", "in:11"), ""),
     ("1 MB from the host, every 11th frame out lost", from_host, (MEGABYTE, "--lose", "out:11"), ""),
+    ("1 MB from the host, every 11th frame out lost, --recovery plain", from_host, (MEGABYTE, "--lose", "out:11", "--recovery", "plain"), ""),
     ("100 MB to the host", to_host_counted, (100 * MEGABYTE,), ""),
     ("100 MB from the host", from_host_counted, (100 * MEGABYTE,), ""),
     ("100 MB from Linux to Linux", linux_alone, (100 * MEGABYTE, 0), ""),
     ("100 MB to the host, every 101st frame in lost", to_host, (100 * MEGABYTE, "--lose", "in:101"), ""),
     ("100 MB from the host, every 101st frame out lost", from_host, (100 * MEGABYTE, "--lose", "out:101"), ""),
+    ("10 MB from the host, every 101st frame out lost, --recovery plain", from_host, (10 * MEGABYTE, "--lose", "out:101", "--recovery", "plain"), ""),
     ("100 MB to the host, one frame in 100 lost at random", to_host_counted, (100 * MEGABYTE, "--drop", "100"), ""),
     ("100 MB from the host, one frame in 100 lost at random", from_host_counted, (100 * MEGABYTE, "--drop", "100"), ""),
     ("100 MB from Linux to Linux, one frame in 100 lost at random", linux_alone, (100 * MEGABYTE, 100), ""),

@@ -19,6 +19,8 @@ static const char help[] =
     "  --gateway ADDR             where all goes that is not for the link (nowhere)\n"
     "  --mac MAC                  its MAC (02:00 and the four octets of the address)\n"
     "  --no-scale                 no window scale option: a connection holds 65,535 octets each way, and not 1,048,576\n"
+    "  --recovery plain|newreno   how losses are repaired: by RFC 5681 alone, with timeouts of a second at least; or by NewReno, with ten segments\n"
+    "                             and no slow start threshold at first, and timeouts of 200 ms at least (newreno)\n"
     "\n"
     "What it does, in place of the services:\n"
     "  --connect ADDR PORT        connects there: standard input goes to the peer, what comes of it to standard output\n"
@@ -110,6 +112,14 @@ static void read_mac(struct options *options, const char *word)
     options->has_mac = true;
 }
 
+static void read_recovery(struct options *options, const char *word)
+{
+    options->plain = strcmp(word, "plain") == 0;
+    if (!options->plain && strcmp(word, "newreno") != 0) {
+        usage_fault("--recovery wants plain or newreno, not '%s'", word);
+    }
+}
+
 /* A word like 11, in:11 or out:11: which sides it is for, and the number. */
 static void read_sided(const char *name, const char *word, uint64_t least, uint64_t *in, uint64_t *out)
 {
@@ -143,11 +153,12 @@ static void read_forward(struct options *options, const char *port, const char *
     forward->to.port = read_port("--forward", strrchr(to, ':') + 1);
 }
 
-enum { TAP = 1, ADDR, GATEWAY, MAC, NO_SCALE, CONNECT, FORWARD, SOURCE, LOSE, DROP, REPEAT, DELAY, PCAP, OPENINGS, IDLE, PATIENCE, STATS, VERBOSE, HELP };
+enum { TAP = 1, ADDR, GATEWAY, MAC, NO_SCALE, RECOVERY, CONNECT, FORWARD, SOURCE, LOSE, DROP, REPEAT, DELAY, PCAP, OPENINGS, IDLE, PATIENCE, STATS, VERBOSE, HELP };
 
 static const struct option words[] = {
     {"tap", required_argument, NULL, TAP},           {"addr", required_argument, NULL, ADDR},     {"gateway", required_argument, NULL, GATEWAY},
     {"mac", required_argument, NULL, MAC},           {"no-scale", no_argument, NULL, NO_SCALE},
+    {"recovery", required_argument, NULL, RECOVERY},
     {"connect", required_argument, NULL, CONNECT},   {"forward", required_argument, NULL, FORWARD},
     {"source", required_argument, NULL, SOURCE},     {"lose", required_argument, NULL, LOSE},
     {"drop", required_argument, NULL, DROP},         {"repeat", required_argument, NULL, REPEAT},
@@ -225,6 +236,9 @@ static void read_one(struct options *options, int which, int argc, char **argv)
         break;
     case NO_SCALE:
         options->no_scale = true;
+        break;
+    case RECOVERY:
+        read_recovery(options, optarg);
         break;
     case CONNECT:
         options->connects = true;

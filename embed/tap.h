@@ -74,6 +74,7 @@ struct options {
     const char *device, *capture;
     uint8_t mac[6];
     bool has_mac, no_scale, verbose;
+    bool plain;                   /* RFC 5681 alone, and timeouts of a second at least */
     uint32_t addr, gateway;
     uint8_t length;
     struct faults in, out;

@@ -1,7 +1,7 @@
 /*
  * Two hosts in one program, joined in memory: a handshake, octets both ways, a transfer of which a frame is lost, a datagram there and back, and
- * a close; once with the window scale option, and once without. It checks what it reads, and ends with status 0 where all of it was as it should
- * be. `embed/build` makes it.
+ * a close; once with the window scale option, and once without; and both again between hosts that repair losses by NewReno. It checks what it reads,
+ * and ends with status 0 where all of it was as it should be. `embed/build` makes it.
  */
 #include "host.h"
 
@@ -84,8 +84,9 @@ static void wait_for_deadline(void)
     host_tick(&b, now);
 }
 
-/* Gives a connection 20,000 octets, of whose frames the first is lost, and reads them at its other end. Time goes by the deadlines alone. */
-static void transfer_with_loss(struct host *from, uint64_t from_id, struct host *to, uint64_t to_id)
+/* Gives a connection 20,000 octets, of whose frames the first is lost, and reads them at its other end. Time goes by the deadlines alone. The usual
+ * host waits for a timeout, which is a second at least: too few segments go out behind the lost one. The others tell by duplicate ACKs. */
+static void transfer_with_loss(struct host *from, uint64_t from_id, struct host *to, uint64_t to_id, int repairs)
 {
     static uint8_t octets[20000], buffer[20000];
     uint8_t lost[HOST_FRAME_SIZE];
@@ -103,7 +104,7 @@ static void transfer_with_loss(struct host *from, uint64_t from_id, struct host 
         else if (carry(from, to) + carry(to, from) == 0)
             wait_for_deadline();
     }
-    CHECK(memcmp(buffer, octets, sizeof octets) == 0 && now >= before + 1000); /* the timeout is a second at least */
+    CHECK(memcmp(buffer, octets, sizeof octets) == 0 && (repairs ? now < before + 1000 : now >= before + 1000));
     turns();
 }
 
@@ -129,7 +130,7 @@ static void fill(struct host *from, uint64_t from_id, struct host *to, uint64_t 
 }
 
 /* A connection from a to b: opened, used both ways, and closed by both ends in turn. */
-static void connection(int64_t room)
+static void connection(int64_t room, int repairs)
 {
     const uint32_t peer = HOST_ADDR(10, 0, 0, 2);
     uint64_t listener = (uint64_t)host_socket(&b, HOST_KIND_TCP);
@@ -157,10 +158,10 @@ static void connection(int64_t room)
     CHECK(host_accept(&b, listener, &from) == HOST_EAGAIN);
     say(&a, caller, &b, (uint64_t)accepted, "hello");
     say(&b, (uint64_t)accepted, &a, caller, "welcome");
-    transfer_with_loss(&a, caller, &b, (uint64_t)accepted);
+    transfer_with_loss(&a, caller, &b, (uint64_t)accepted, repairs);
     fill(&a, caller, &b, (uint64_t)accepted, room);
     CHECK(host_info(&a, caller, &info) == 0 && info.state == HOST_STATE_ESTABLISHED && info.held == info.in_flight + info.unsent);
-    CHECK(info.smss == 1460 && info.rto >= 1000 && info.ends == -1 && info.error == 0);
+    CHECK(info.smss == 1460 && info.rto >= (repairs ? 200 : 1000) && info.ends == -1 && info.error == 0);
     CHECK(host_info(&b, listener, &info) == HOST_EOPNOTSUPP && host_set_nodelay(&b, listener, 1) == HOST_EOPNOTSUPP);
     CHECK(host_set_nodelay(&a, caller, 1) == 0);
     CHECK(host_set_keepalive(&b, listener, 10000) == HOST_EOPNOTSUPP && host_set_keepalive(&a, caller, 9999) == HOST_EINVAL);
@@ -231,10 +232,13 @@ static void configs(struct host_config config)
     config.minshall = 2;
     CHECK(host_new_with(&b, &config) == HOST_EINVAL);
     config.minshall = 0;
+    config.recovery = 2;
+    CHECK(host_new_with(&b, &config) == HOST_EINVAL);
+    config.recovery = 0;
     config.zero[3] = 1;
     CHECK(host_new_with(&b, &config) == HOST_EINVAL);
     config.zero[3] = 0;
-    config.size = sizeof config - 1;
+    config.size = 39;
     CHECK(host_new_with(&b, &config) == HOST_EINVAL);
     CHECK(host_new_from(&b, (const uint8_t *)&config, sizeof config, config.routes, config.count) == HOST_EINVAL);
     larger.config.size = sizeof larger;
@@ -244,6 +248,24 @@ static void configs(struct host_config config)
     CHECK(host_new_with(&b, &larger.config) == 0);
     CHECK(host_new_with(&b, &larger.config) == HOST_EINVAL);
     host_free(&b);
+    config.size = 40; /* as a program of an older header has it */
+    CHECK(host_new_with(&b, &config) == 0);
+    host_free(&b);
+    config.size = sizeof config;
+    config.first_segments = UINT8_MAX; /* no number of these is refused */
+    config.least_timeout = 1;
+    config.first_threshold = UINT32_MAX;
+    CHECK(host_new_with(&b, &config) == 0);
+    host_free(&b);
+}
+
+/* What a host wants that meets a real network. */
+static void repair_losses(struct host_config *config)
+{
+    config->recovery = HOST_RECOVERY_NEW_RENO;
+    config->first_segments = 10;
+    config->least_timeout = 200;
+    config->first_threshold = UINT32_C(1) << 30;
 }
 
 int main(void)
@@ -251,24 +273,31 @@ int main(void)
     const uint8_t mac_a[6] = {2, 0, 0, 0, 0, 1};
     const struct host_route route = {HOST_ADDR(10, 0, 0, 0), 0, 24};
     struct host_config config = {.size = sizeof config, .routes = &route, .count = 1, .addr = HOST_ADDR(10, 0, 0, 2), .mac = {2, 0, 0, 0, 0, 2}};
+    struct host_config of_a = {.size = sizeof of_a, .routes = &route, .count = 1, .addr = HOST_ADDR(10, 0, 0, 1), .mac = {2, 0, 0, 0, 0, 1}};
     int64_t refusal;
+    int repairs;
 
     refusal = host_new(&a, mac_a, HOST_ADDR(255, 0, 0, 1), &route, 1);
     CHECK(refusal == HOST_EINVAL && host_errno(refusal) == EINVAL && strcmp(host_refusal_name(refusal), "EINVAL") == 0);
     configs(config);
 
-    for (; config.no_window_scale < 2; config.no_window_scale++) {
-        CHECK(host_new(&a, mac_a, HOST_ADDR(10, 0, 0, 1), &route, 1) == 0);
-        CHECK(host_new_with(&b, &config) == 0);
-        connection(config.no_window_scale ? 65535 : 1048576);
-        datagrams();
-        counts();
-        host_free(&a);
-        host_free(&b);
+    for (repairs = 0; repairs < 2; repairs++) {
+        for (config.no_window_scale = 0; config.no_window_scale < 2; config.no_window_scale++) {
+            CHECK((repairs ? host_new_with(&a, &of_a) : host_new(&a, mac_a, HOST_ADDR(10, 0, 0, 1), &route, 1)) == 0);
+            CHECK(host_new_with(&b, &config) == 0);
+            turns(); /* each learns what time it is */
+            connection(config.no_window_scale ? 65535 : 1048576, repairs);
+            datagrams();
+            counts();
+            host_free(&a);
+            host_free(&b);
+        }
+        repair_losses(&of_a);
+        repair_losses(&config);
     }
     host_free(&b);
     CHECK(a.at == NULL && b.at == NULL && host_socket(&a, HOST_KIND_TCP) == HOST_EBADF);
     CHECK(host_counters_into(&a, &carried, 1) == HOST_EBADF);
-    puts("two hosts: a connection, octets both ways, a lost frame, datagrams and a close; with the window scale option, and without");
+    puts("two hosts: a connection, octets both ways, a lost frame, datagrams and a close; with the window scale option, and without; by NewReno, and without");
     return 0;
 }

@@ -5,12 +5,13 @@ Run it by `python3 examples/two_hosts.py`, once `embed/build` has made the libra
 import os, random, sys
 
 sys.path.insert(0, os.path.join(os.path.dirname(os.path.abspath(__file__)), "..", "embed"))
-from host import Host
+from host import Host, Recovery
 
 dice, frames, now = random.Random(1), 0, 0
 octets = dice.randbytes(200_000)
 link = {"10.0.0.0/24": None}
-with Host("02:00:00:00:00:01", "10.0.0.1", link) as a, Host("02:00:00:00:00:02", "10.0.0.2", link) as b:
+real = {"recovery": Recovery.NEW_RENO, "first_segments": 10, "least_timeout": 200, "first_threshold": 1 << 30}
+with Host("02:00:00:00:00:01", "10.0.0.1", link, **real) as a, Host("02:00:00:00:00:02", "10.0.0.2", link, **real) as b:
     listener = b.socket()
     b.bind(listener, ("0.0.0.0", 80))
     b.listen(listener, 1)

@@ -2,7 +2,7 @@
 //! and a close. It checks what it reads, and ends with status 0 where all of it was as it should be. `embed/build` makes it, by rustc, the crate of
 //! `embed/rust` and `libhostc.a`.
 
-use hostc::{Config, Device, Error, Host, Kind, Route, SocketId, State, FRAME_SIZE};
+use hostc::{Config, Device, Error, Host, Kind, Recovery, Route, SocketId, State, FRAME_SIZE};
 use std::collections::VecDeque;
 use std::convert::Infallible;
 use std::net::{Ipv4Addr, SocketAddrV4};
@@ -89,7 +89,7 @@ fn transfer_with_loss(network: &mut Network, caller: SocketId, accepted: SocketI
             Err(error) => return Err(error),
         }
     }
-    assert!(read == octets && network.now >= before + 1000, "the timeout is a second at least");
+    assert!(read == octets && network.now < before + 1000, "duplicate ACKs tell of the lost frame");
     network.turns();
     Ok(())
 }
@@ -158,9 +158,14 @@ fn main() -> Result<(), Error> {
         length: 24,
         gateway: None,
     }];
+    // What a host wants that meets a real network.
+    let real = |config: Config<'_>| {
+        let config = config.with_recovery(Recovery::NewReno).with_first_segments(10).with_least_timeout(200).with_threshold(1 << 30);
+        Host::new(&config)
+    };
     let mut network = Network {
-        a: Host::new(&Config::new([2, 0, 0, 0, 0, 1], A, &link))?,
-        b: Host::new(&Config::new([2, 0, 0, 0, 0, 2], B, &link))?,
+        a: real(Config::new([2, 0, 0, 0, 0, 1], A, &link))?,
+        b: real(Config::new([2, 0, 0, 0, 0, 2], B, &link))?,
         ends: Default::default(),
         now: 1000,
         isn: 100,

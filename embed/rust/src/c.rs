@@ -31,6 +31,10 @@ pub struct Config {
     pub mac: [u8; 6],
     pub no_window_scale: u8,
     pub minshall: u8,
+    pub recovery: u8,
+    pub first_segments: u8,
+    pub least_timeout: u16,
+    pub first_threshold: u32,
     pub zero: [u8; 4],
 }
 

@@ -76,6 +76,15 @@ pub struct Route {
     pub gateway: Option<Ipv4Addr>,
 }
 
+/// How losses are repaired.
+#[derive(Clone, Copy, Debug, PartialEq, Eq, Hash)]
+pub enum Recovery {
+    /// By RFC 5681 section 3.2 alone.
+    Plain = 0,
+    /// By that with RFC 6582, 3042 and 3465.
+    NewReno = 1,
+}
+
 /// How a host is set up.
 #[derive(Clone, Copy, Debug)]
 pub struct Config<'a> {
@@ -84,13 +93,26 @@ pub struct Config<'a> {
     routes: &'a [Route],
     scales: bool,
     minshall: bool,
+    recovery: Recovery,
+    first_segments: u8,
+    least_timeout: u16,
+    first_threshold: u32,
 }
 
 impl<'a> Config<'a> {
     /// A host at `addr`, whose interface has this MAC, with these routes. It uses the window scale option (RFC 7323 section 2).
     pub fn new(mac: [u8; 6], addr: Ipv4Addr, routes: &'a [Route]) -> Config<'a> {
-        let (scales, minshall) = (true, false);
-        Config { mac, addr, routes, scales, minshall }
+        Config {
+            mac,
+            addr,
+            routes,
+            scales: true,
+            minshall: false,
+            recovery: Recovery::Plain,
+            first_segments: 0,
+            least_timeout: 0,
+            first_threshold: 0,
+        }
     }
 
     /// With the window scale option a connection holds 1,048,576 octets each way, and else 65,535.
@@ -102,6 +124,39 @@ impl<'a> Config<'a> {
     /// segments wait for all that is outstanding, and the FIN goes alone.
     pub fn with_minshall(self, minshall: bool) -> Config<'a> {
         Config { minshall, ..self }
+    }
+
+    /// How its connections repair losses: a host that meets a real network wants `Recovery::NewReno`, else it is `Recovery::Plain`.
+    pub fn with_recovery(self, recovery: Recovery) -> Config<'a> {
+        Config { recovery, ..self }
+    }
+
+    /// How many octets the slow start threshold of a connection has at first (RFC 5681 section 3.1): 65,535 at least and 2^30 at most, and another number
+    /// counts as the nearest of these. Else it has 65,535.
+    pub fn with_threshold(self, octets: u32) -> Config<'a> {
+        Config {
+            first_threshold: octets,
+            ..self
+        }
+    }
+
+    /// How many segments the first congestion window of a connection has: 10 at most (RFC 6928), and a larger number counts as 10. With 0, as else, it has
+    /// two to four, by their size (RFC 5681 section 3.1).
+    pub fn with_first_segments(self, segments: u8) -> Config<'a> {
+        Config {
+            first_segments: segments,
+            ..self
+        }
+    }
+
+    /// How many milliseconds a retransmission timeout has at least (RFC 6298 section 2.4): 200 to 1,000, and another number counts as the nearest of
+    /// these. Else it has 1,000.
+    pub fn with_least_timeout(self, milliseconds: u16) -> Config<'a> {
+        Config {
+            // In C 0 stands for the usual.
+            least_timeout: milliseconds.max(1),
+            ..self
+        }
     }
 }
 
@@ -134,6 +189,10 @@ impl Host {
             mac: config.mac,
             no_window_scale: u8::from(!config.scales),
             minshall: u8::from(config.minshall),
+            recovery: config.recovery as u8,
+            first_segments: config.first_segments,
+            least_timeout: config.least_timeout,
+            first_threshold: config.first_threshold,
             zero: [0; 4],
         };
         let mut host = Host(c::Host { at: null_mut() });

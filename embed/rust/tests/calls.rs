@@ -1,6 +1,6 @@
 //! What a program sees of the crate, call by call. `examples/two_hosts.rs` has a whole conversation.
 
-use hostc::{Config, Device, DropCause, Error, Heard, Host, Kind, Ready, Route, SocketId, State, FRAME_SIZE};
+use hostc::{Config, Device, DropCause, Error, Heard, Host, Kind, Ready, Recovery, Route, SocketId, State, FRAME_SIZE};
 use std::net::{Ipv4Addr, SocketAddrV4};
 
 const MAC: [u8; 6] = [2, 0, 0, 0, 0, 1];
@@ -42,6 +42,17 @@ fn what_is_no_set_up_is_refused() {
     };
     assert_eq!(made(MAC, ADDR, &routes(32)), None);
     assert_eq!(made(MAC, ADDR, &routes(33)), Some(Error::EINVAL));
+}
+
+#[test]
+fn each_number_of_a_set_up_is_taken() {
+    let usual = Config::new(MAC, ADDR, &[LINK]);
+    for recovery in [Recovery::Plain, Recovery::NewReno] {
+        for number in [0, 1, 10, 200, 65_535, 1 << 30, u32::MAX] {
+            let config = usual.with_recovery(recovery).with_threshold(number).with_first_segments(number as u8).with_least_timeout(number as u16);
+            assert_eq!(Host::new(&config).err(), None);
+        }
+    }
 }
 
 #[test]
