@@ -34,13 +34,16 @@ class Segments:
         self.end = None
 
     def add(self, frame):
-        """Octets 12 and 13 are the frame's type, 23 the protocol, 16 and 17 the datagram's length (RFC 894, RFC 791 section 3.1)."""
+        """Counts a frame. Whether it carries octets.
+
+        Octets 12 and 13 are the frame's type, 23 the protocol, 16 and 17 the datagram's length (RFC 894, RFC 791 section 3.1).
+        """
         if len(frame) < 54 or frame[12:14] != b"\x08\x00" or frame[23] != 6:
-            return
+            return False
         tcp = 14 + 4 * (frame[14] & 15)
         octets = int.from_bytes(frame[16:18], "big") + 14 - tcp - 4 * (frame[tcp + 12] >> 4)
         if octets == 0:
-            return
+            return False
         number = int.from_bytes(frame[tcp + 4:tcp + 8], "big")
         end = (number + octets) % 2**32
         self.filled += 1
@@ -49,6 +52,13 @@ class Segments:
             self.end = end
         else:
             self.resent += 1
+        return True
+
+
+def enter_own_space():
+    """This process goes on in a network namespace of its own."""
+    if ctypes.CDLL(None, use_errno=True).unshare(CLONE_NEWNET) != 0:
+        raise OSError(ctypes.get_errno(), "unshare")
 
 
 def open_tap(name, address):
@@ -79,8 +89,7 @@ def pump(near, far, one_in, told):
 
 def receive(ends, size):
     """In a namespace of its own: hands its device on, takes one connection and reads it to its end."""
-    if ctypes.CDLL(None, use_errno=True).unshare(CLONE_NEWNET) != 0:
-        raise OSError(ctypes.get_errno(), "unshare")
+    enter_own_space()
     device = open_tap("far", FAR)
     wanted = octets(size)
     with socket.create_server((FAR, PORT)) as server:
