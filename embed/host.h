@@ -315,7 +315,6 @@ int64_t host_listen(struct host *host, uint64_t id, size_t backlog);
 int64_t host_accept(struct host *host, uint64_t id, struct host_endpoint *peer);
 
 /* Begins to open a connection to `port` of `addr`: answers 0 at once. `isn` is its initial number (docs/EMBEDDING.md says what it should be).
- * The host has to know the time: call host_tick before the first one.
  *
  * The connection is open once host_state is neither HOST_STATE_SYN_SENT nor HOST_STATE_SYN_RECEIVED (it may be HOST_STATE_CLOSE_WAIT at once, or
  * have ended in HOST_STATE_CLOSED); until then host_send and host_recv are HOST_EAGAIN. A socket that isn't bound gets a dynamic port, from 49152

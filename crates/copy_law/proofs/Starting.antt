@@ -37,7 +37,7 @@ use Rattle.copy_law.proofs.Standing.{Stands, AreCarried, IsTold, world_of, netwo
 others : (old new : HostView) (sockets : SocketsView) → new ≡ with_sockets old sockets → new ≡ with_sockets old new.sockets
 others old new sockets is = is ∙ ap (with_sockets old) (sym (ap (λ (h : HostView). h.sockets) is))
 
-made-call : (old new : HostView) (id : SocketId) → MakesSocket old id new → HostMeetsCall (call.Socket Tcp) old (reply.Socket id) new
+made-call : (old new : HostView) (id : SocketId) → MakesSocket old id new → HostMeetsCall (record { 0 = 0 }) (call.Socket Tcp) old (reply.Socket id) new
 made-call old new id m = record { table = (m.room, m.next, m.made); others = m.others }
 
 -- a call that has no value is done
@@ -128,7 +128,7 @@ connects-at_a a b new sender sound c p = by_pair (socket_pair new.sockets sender
       trace = p.trace ++ h ∷ [];
       reached = reached-more w (network_of new b (record { 0 = 0 }) [] openings written) (event.Call A (call.Connect c.isn sender c.peer)) reply.Started p.reached
           ((unrefused w (event.Call A (call.Connect c.isn sender c.peer))).1 (fresh_pair (pair_to_connect a sender c.peer) (λ pair. epoch_connected [] b.sockets pair))) c.sized c.sound sound
-          (record { table = done-call (call.Connect c.isn sender c.peer) (connect_refusal a.sockets sender c.peer (is_routed a.interface c.peer.addr)) a new reply.Started (after_connect a.sockets c.isn.0 sender c.peer (is_routed a.interface c.peer.addr)) c.may c.connecting; others = others a new (after_connect a.sockets c.isn.0 sender c.peer (is_routed a.interface c.peer.addr)) c.connecting }, is);
+          (record { table = done-call (call.Connect c.isn sender c.peer) (connect_refusal a.sockets sender c.peer (is_routed a.interface c.peer.addr)) a new reply.Started (after_connect a.sockets (record { 0 = 0 }) c.isn.0 sender c.peer (is_routed a.interface c.peer.addr)) c.may c.connecting; others = others a new (after_connect a.sockets (record { 0 = 0 }) c.isn.0 sender c.peer (is_routed a.interface c.peer.addr)) c.connecting }, is);
       carried = carried;
       tells = told-still p.trace h sender None [] [] false false (quiet-everywhere A (call.Connect c.isn sender c.peer) reply.Started (λ i. quiet-connect A c.isn sender c.peer reply.Started i)) p.tells;
     }

@@ -55,14 +55,14 @@ pub record Listens (old : HostView) (id : SocketId) (new : HostView) : Type 0 wh
   pub may_listen : listen_refusal bound.sockets id backlog ≡ None
   pub listening : new ≡ with_sockets bound (after_listen bound.sockets id backlog)
 
--- a host opened a connection by a socket
+-- a host opened a connection by a socket, while its clock stood at 0
 pub record Connects (old : HostView) (id : SocketId) (new : HostView) : Type 0 where
   pub isn : Seq
   pub peer : Endpoint
   pub sized : isn.0 < 2 ^ 32
   pub sound : IsSoundHost old
   pub may : connect_refusal old.sockets id peer (is_routed old.interface peer.addr) ≡ None
-  pub connecting : new ≡ with_sockets old (after_connect old.sockets isn.0 id peer (is_routed old.interface peer.addr))
+  pub connecting : new ≡ with_sockets old (after_connect old.sockets (record { 0 = 0 }) isn.0 id peer (is_routed old.interface peer.addr))
 
 -- the two hosts of a copy before anything was moved: b listens and a has opened a connection
 pub record Starts (v : CopyView) : Type 0 where

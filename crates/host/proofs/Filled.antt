@@ -261,12 +261,12 @@ bound-fit h id local all = by_port (port_bound h id local) refl
     by_port (Err refusal) given = rw given all
     by_port (Ok port) given = rw given (changed-fit (is_socket id) _ (bind-keeps _) h.entries all)
 
-connected-fit : (h : SocketsView) (isn : ℕ) (id : SocketId) (peer : Endpoint) (routed : Bool) → Filled h → Filled (after_connect h isn id peer routed)
-connected-fit h isn id peer routed all = by_port (port_connected h id peer routed) refl
+connected-fit : (h : SocketsView) (now : Moment) (isn : ℕ) (id : SocketId) (peer : Endpoint) (routed : Bool) → Filled h → Filled (after_connect h now isn id peer routed)
+connected-fit h now isn id peer routed all = by_port (port_connected h id peer routed) refl
   where
-    by_port : (r : Result ℕ Refusal) → port_connected h id peer routed ≡ r → Filled (after_connect h isn id peer routed)
+    by_port : (r : Result ℕ Refusal) → port_connected h id peer routed ≡ r → Filled (after_connect h now isn id peer routed)
     by_port (Err refusal) given = rw given all
-    by_port (Ok port) given = rw given (changed-fit (is_socket id) _ (connect-keeps _ peer isn h.kept) h.entries all)
+    by_port (Ok port) given = rw given (changed-fit (is_socket id) _ (connect-keeps _ peer isn (later_moment h now)) h.entries all)
 
 left-fit : (h : SocketsView) (how : Leave) (id : SocketId) → Filled h → Filled (after_leaving h how id)
 left-fit h how id all = retained-fit _ _ (forsaken-keeps h.kept id) (let w : SocketsView = after_socket_left h how id in w.entries) (by_role (role_of h id))
@@ -383,7 +383,7 @@ event-fit h MakesDatagrams all = all_joined (λ (e : Entry). Fits e.role) h.entr
 event-fit h (Binds id local) all = bound-fit h id local all
 event-fit h (Listens id backlog) all = changed-fit _ _ (listen-keeps backlog) h.entries all
 event-fit h (Accepts id) all = changed-fit _ _ accept-keeps h.entries all
-event-fit h (Connects isn id peer routed) all = connected-fit h isn id peer routed all
+event-fit h (Connects now isn id peer routed) all = connected-fit h now isn id peer routed all
 event-fit h (Sends id octets) all = changed-fit _ _ (connection-keeps _) h.entries all
 event-fit h (Receives id len) all = changed-fit _ _ (connection-keeps _) h.entries all
 event-fit h (Shuts id) all = changed-fit _ _ (connection-keeps _) h.entries all

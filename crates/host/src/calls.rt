@@ -58,24 +58,24 @@ impl Host {
         self.layers.sockets.accept(id)
     }
 
-    /// Opens a connection to `peer`, whose initial sequence number here is `isn`, where one of the host's routes leads to it (RFC 1122 section
-    /// 3.3.1.1). EBADF, EOPNOTSUPP, ECONNREFUSED, ECONNRESET, ETIMEDOUT, EALREADY, EISCONN, EADDRNOTAVAIL, ENETUNREACH, EADDRINUSE. See
-    /// `Sockets::connect`.
+    /// Opens a connection to `peer`, whose initial sequence number here is `isn`, at this moment, or at that of the last tick where that is later, where one
+    /// of the host's routes leads to the peer (RFC 1122 section 3.3.1.1). EBADF, EOPNOTSUPP, ECONNREFUSED, ECONNRESET, ETIMEDOUT, EALREADY, EISCONN,
+    /// EADDRNOTAVAIL, ENETUNREACH, EADDRINUSE. See `Sockets::connect`.
     pub fn connect(
         &mut self,
-        _now: Moment,
+        now: Moment,
         isn: Seq,
         id: SocketId,
         peer: Endpoint,
     ) -> Result<(), Refusal>
         ensures refused { result_err result ≡ connect_refusal self.old.sockets id peer (is_routed self.old.interface peer.addr) }
-        ensures ok { OnOk result (self.new ≡ with_sockets self.old (after_connect self.old.sockets isn.0 id peer (is_routed self.old.interface peer.addr))) }
+        ensures ok { OnOk result (self.new ≡ with_sockets self.old (after_connect self.old.sockets now isn.0 id peer (is_routed self.old.interface peer.addr))) }
         ensures numbered { isn.0 < 2 ^ 32 }
         ensures err { OnErr result (self.new ≡ self.old) }
     {
         self.sound();
         let is_routed = self.layers.interface.is_routed(peer.addr);
-        self.layers.sockets.connect(isn, id, peer, is_routed)
+        self.layers.sockets.connect(now, isn, id, peer, is_routed)
     }
 
     /// The pair that `connect` would open; None where it would be refused.

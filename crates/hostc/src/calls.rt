@@ -6,7 +6,7 @@ ghost use Rattle.interface.specs.Ways.{is_routed};
 ghost use Rattle.sockets.specs.Calls.{bind_refusal, after_bind, listen_refusal, after_listen, accept_answer, after_accept, connect_refusal, after_connect, send_answer, after_send, recv_answer, recv_front, after_recv, shutdown_refusal, after_shutdown, nodelay_refusal, after_nodelay, keepalive_refusal, after_keepalive, close_refusal, after_close, after_abort};
 ghost use Rattle.hostc.specs.Calls.{of_host, left_in, after_call, SocketCall};
 ghost use Rattle.hostc.specs.Numbers.{answered, done, numbered, received_count, kind_of};
-ghost use Rattle.hostc.specs.Types.{addr_of, endpoint_of, every_of, socket_of, end_of, written};
+ghost use Rattle.hostc.specs.Types.{addr_of, endpoint_of, every_of, moment_of, socket_of, end_of, written};
 
 use crate::convert::{counted, done, end_of, endpoint_of, kind_of, received, refused, told};
 use crate::handle::Handle;
@@ -91,7 +91,7 @@ pub extern "C" fn host_connect(
     port: u16,
 ) -> i64
     ensures answer { result ≡ answered (of_host (λ h. done (connect_refusal h.sockets (socket_of id) (endpoint_of addr port) (is_routed h.interface (addr_of addr)))) handle.old.host) }
-    ensures after { handle.new.host ≡ option_map (λ h. after_call (connect_refusal h.sockets (socket_of id) (endpoint_of addr port) (is_routed h.interface (addr_of addr))) h (after_connect h.sockets isn (socket_of id) (endpoint_of addr port) (is_routed h.interface (addr_of addr)))) handle.old.host }
+    ensures after { handle.new.host ≡ option_map (λ h. after_call (connect_refusal h.sockets (socket_of id) (endpoint_of addr port) (is_routed h.interface (addr_of addr))) h (after_connect h.sockets (moment_of now) isn (socket_of id) (endpoint_of addr port) (is_routed h.interface (addr_of addr)))) handle.old.host }
     ensures counters { handle.new.counters ≡ handle.old.counters }
 {
     let peer = endpoint_of(addr, port);

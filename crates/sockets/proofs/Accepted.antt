@@ -175,7 +175,7 @@ step_past : (h : SocketsView) (e : Event) (x y : Entry) → IsStepOf h e x (Some
 step_past h e x _ stays keeps past = past
 step_past h e _ _ (moves ev id c None meets kept) keeps past = let p = event_past c ev in λ passive. p.past (past (sym p.passive ∙ passive))
 step_past h e _ _ (moves ev id c (Some l) meets kept) keeps past = tt
-step_past h _ _ _ (opens isn named peer routed id buffers bound local names) keeps past = λ passive. cc
+step_past h _ _ _ (opens now isn named peer routed id buffers bound local names) keeps past = λ passive. cc
 step_past h _ _ _ (accepted named id c None next) keeps past = past
 step_past h _ _ _ (accepted named id c (Some l) next) keeps past = λ passive. ready_past c l keeps.0.sent (keeps.1 named next)
 step_past h e _ _ _ keeps past = tt

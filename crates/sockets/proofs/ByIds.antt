@@ -113,7 +113,7 @@ kept_id false id l (Some d) y is = let same : y ≡ connected id d l = cc in ap 
 socket_id : (h : SocketsView) (e : Event) (x y : Entry) → IsSocketLeft h e x (Some y) → y.id ≡ x.id
 socket_id h e x _ (remains stays) = refl
 socket_id h e x _ (changes y same alone may) = same
-socket_id h _ _ _ (opens isn named peer routed port id buffers bound socket given) = refl
+socket_id h _ _ _ (opens now isn named peer routed port id buffers bound socket given) = refl
 
 pub one_id : (h : SocketsView) (e : Event) (x y : Entry) → IsOneEvent h e x (Some y) → y.id ≡ x.id
 one_id h e x y step = by_role x.role step

@@ -164,7 +164,7 @@ step_caused h e _ _ sound (moves ev id c l meets kept) = (
 step_caused h e _ _ sound (ends ev id c l meets removed) = removal_for h id c l e ev sound meets removed
 step_caused h _ _ _ sound (binds named asked id buffers bound local socket) = (refl, inl refl, λ closes. cc, λ error told. inl told)
 step_caused h _ _ _ sound (listens named backlog id buffers local socket) = (refl, inr refl, λ closes. cc, λ error told. inl told)
-step_caused h _ _ _ sound (opens isn named peer routed id buffers bound local socket) = (refl, inr refl, λ closes. cc, λ error told. inl told)
+step_caused h _ _ _ sound (opens now isn named peer routed id buffers bound local socket) = (refl, inr refl, λ closes. cc, λ error told. inl told)
 step_caused h _ _ _ sound (accepted named id c l next) = (refl, inl refl, λ closes. let none = never (is_closed c.state) in cc, λ error told. inl told)
 step_caused h e _ _ sound (requeues id bound before after) = (refl, tt, λ closes. cc, λ error told. inl told)
 step_caused h e _ _ sound (binds_datagrams id bound local before after takes) = (refl, tt, λ closes. cc, λ error told. inl told)

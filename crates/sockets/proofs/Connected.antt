@@ -4,6 +4,7 @@ use Rattle.std.proofs.lemmas.Grind.{common_steps}
 use Rattle.std.specs.Option.{ok_or}
 use Rattle.std.specs.List.{find}
 use Rattle.ipv4.specs.declared.addr.Endpoint.{Endpoint}
+use Rattle.clock.specs.declared.moment.Moment.{Moment}
 use Rattle.tcp_state.specs.declared.state.State.{State}
 use Rattle.tcp_state.specs.declared.calls.Refusal.{Refusal as Error}
 use Rattle.sockets.specs.declared.entry.SocketId.{SocketId}
@@ -13,7 +14,7 @@ use Rattle.sockets.specs.declared.role.Role.TheVariants.{Connected}
 use Rattle.sockets.specs.declared.refusal.Refusal.{Refusal}
 use Rattle.sockets.specs.declared.refusal.Refusal.TheVariants.{EBADF, EADDRINUSE}
 use Rattle.sockets.specs.Entries.{is_socket, role_after_connect}
-use Rattle.sockets.specs.SocketsView.{SocketsView, role_of, with_socket}
+use Rattle.sockets.specs.SocketsView.{SocketsView, role_of, with_socket, later_moment}
 use Rattle.sockets.specs.Calls.{had_connection, open_answer, reach_refusal, port_for, bound_of, last_port_after, port_connected, after_connect}
 
 pub had_opens_none : (state : State) (told : Option Error) (bound : Option Endpoint) → had_connection state told ≡ Ok bound → ⊥
@@ -24,15 +25,15 @@ bound_same : (role : Role) (bound : Option Endpoint) → open_answer role ≡ Ok
 bound_same (Connected c l) bound opens = absurd (had_opens_none c.state c.pending_error bound opens)
 bound_same _ bound opens = cc
 
-pub after_connect-given : (h : SocketsView) (isn : ℕ) (id : SocketId) (peer : Endpoint) (routed : Bool) (role : Role) (bound : Option Endpoint) (port : ℕ) → role_of h id ≡ Some role → open_answer role ≡ Ok bound → reach_refusal h peer routed ≡ None → port_for h bound peer ≡ Some port
-    → after_connect h isn id peer routed ≡ with_socket (record h { last_port = last_port_after h bound port }) id (role_after_connect (record { addr = h.addr; port = port }) peer isn h.kept)
-after_connect-given h isn id peer routed role bound port is opens reached given =
+pub after_connect-given : (h : SocketsView) (now : Moment) (isn : ℕ) (id : SocketId) (peer : Endpoint) (routed : Bool) (role : Role) (bound : Option Endpoint) (port : ℕ) → role_of h id ≡ Some role → open_answer role ≡ Ok bound → reach_refusal h peer routed ≡ None → port_for h bound peer ≡ Some port
+    → after_connect h now isn id peer routed ≡ with_socket (record h { last_port = last_port_after h bound port }) id (role_after_connect (record { addr = h.addr; port = port }) peer isn (later_moment h now))
+after_connect-given h now isn id peer routed role bound port is opens reached given =
     let bound_there : option_and_then bound_of (role_of h id) ≡ bound = ap (λ (o : Option Role). option_and_then bound_of o) is ∙ bound_same role bound opens in
-    rw (is, opens, reached, given) (ap (λ (b : Option Endpoint). with_socket (record h { last_port = last_port_after h b port }) id (role_after_connect (record { addr = h.addr; port = port }) peer isn h.kept)) bound_there)
+    rw (is, opens, reached, given) (ap (λ (b : Option Endpoint). with_socket (record h { last_port = last_port_after h b port }) id (role_after_connect (record { addr = h.addr; port = port }) peer isn (later_moment h now))) bound_there)
 
-pub after_connect-accepted : (h : SocketsView) (isn : ℕ) (id : SocketId) (peer : Endpoint) (routed : Bool) (x : Entry) (bound : Option Endpoint) (port : ℕ) → find (is_socket id) h.entries ≡ Some x → open_answer x.role ≡ Ok bound → reach_refusal h peer routed ≡ None → port_for h bound peer ≡ Some port
-    → after_connect h isn id peer routed ≡ with_socket (record h { last_port = last_port_after h bound port }) id (role_after_connect (record { addr = h.addr; port = port }) peer isn h.kept)
-after_connect-accepted h isn id peer routed x bound port found = after_connect-given h isn id peer routed x.role bound port (ap (λ (o : Option Entry). option_map (λ (e : Entry). e.role) o) found)
+pub after_connect-accepted : (h : SocketsView) (now : Moment) (isn : ℕ) (id : SocketId) (peer : Endpoint) (routed : Bool) (x : Entry) (bound : Option Endpoint) (port : ℕ) → find (is_socket id) h.entries ≡ Some x → open_answer x.role ≡ Ok bound → reach_refusal h peer routed ≡ None → port_for h bound peer ≡ Some port
+    → after_connect h now isn id peer routed ≡ with_socket (record h { last_port = last_port_after h bound port }) id (role_after_connect (record { addr = h.addr; port = port }) peer isn (later_moment h now))
+after_connect-accepted h now isn id peer routed x bound port found = after_connect-given h now isn id peer routed x.role bound port (ap (λ (o : Option Entry). option_map (λ (e : Entry). e.role) o) found)
 
 -- a socket that is given this port by a connect
 pub record IsConnecting (h : SocketsView) (id : SocketId) (peer : Endpoint) (routed : Bool) (port : ℕ) : Type 0 where

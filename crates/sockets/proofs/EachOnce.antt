@@ -20,7 +20,7 @@ use Rattle.sockets.specs.declared.role.Role.TheVariants.{Idle, Listener, Connect
 use Rattle.sockets.specs.Lists.{change_first}
 use Rattle.sockets.specs.Entries.{on_connection, in_connection, on_datagrams, is_socket, is_between, waits_at, is_waiting_id, sends, is_kept, entries_after_step, entries_after_steps, is_datagrams_at, with_role}
 use Rattle.sockets.specs.Entries as role
-use Rattle.sockets.specs.SocketsView.{SocketsView}
+use Rattle.sockets.specs.SocketsView.{SocketsView, later_moment}
 use Rattle.sockets.specs.Calls.{port_bound, after_bind, next_offered, is_next_at, port_connected, after_connect}
 use Rattle.sockets.specs.Datagrams.{end_sent_from, after_sendto, reception, after_reception}
 use Rattle.sockets.specs.Causes.{Event, Binds, Listens, Accepts, Connects, Sends, Receives, Shuts, SetsNoDelay, SetsKeepAlive, SendsTo, HearsDatagram, after_event, Follows}
@@ -56,22 +56,22 @@ module _ (h : SocketsView) where
   listens named backlog id (Listener l b) socket = remains refl
   listens named backlog id (Datagrams bound queues) socket = remains refl
 
-  connects : (isn port : ℕ) (named : SocketId) (peer : Endpoint) (routed : Bool) → port_connected h named peer routed ≡ Ok port → (id : SocketId) (r : Role) → is_socket named (entry id r) ≡ true
-      → IsLeft h (Connects isn named peer routed) id r (Some (entry id (role.role_after_connect (record { addr = h.addr; port = port }) peer isn h.kept r)))
-  connects isn port named peer routed given id (Connected c l) socket = refl
-  connects isn port named peer routed given id (Idle buffers bound) socket = opens isn named peer routed port id buffers bound socket given
-  connects isn port named peer routed given id (Listener l b) socket = remains refl
-  connects isn port named peer routed given id (Datagrams bound queues) socket = remains refl
+  connects : (now : Moment) (isn port : ℕ) (named : SocketId) (peer : Endpoint) (routed : Bool) → port_connected h named peer routed ≡ Ok port → (id : SocketId) (r : Role) → is_socket named (entry id r) ≡ true
+      → IsLeft h (Connects now isn named peer routed) id r (Some (entry id (role.role_after_connect (record { addr = h.addr; port = port }) peer isn (later_moment h now) r)))
+  connects now isn port named peer routed given id (Connected c l) socket = refl
+  connects now isn port named peer routed given id (Idle buffers bound) socket = opens now isn named peer routed port id buffers bound socket given
+  connects now isn port named peer routed given id (Listener l b) socket = remains refl
+  connects now isn port named peer routed given id (Datagrams bound queues) socket = remains refl
 
-  pub connected_once : (isn : ℕ) (named : SocketId) (peer : Endpoint) (routed : Bool) → Follows (IsOneEvent h (Connects isn named peer routed)) IsNothing h.entries (let w = after_connect h isn named peer routed in w.entries)
-  connected_once isn named peer routed = by_port (port_connected h named peer routed) refl
+  pub connected_once : (now : Moment) (isn : ℕ) (named : SocketId) (peer : Endpoint) (routed : Bool) → Follows (IsOneEvent h (Connects now isn named peer routed)) IsNothing h.entries (let w = after_connect h now isn named peer routed in w.entries)
+  connected_once now isn named peer routed = by_port (port_connected h named peer routed) refl
     where
       e : Event
-      e = Connects isn named peer routed
+      e = Connects now isn named peer routed
 
-      by_port : (r : Result ℕ Refusal) → port_connected h named peer routed ≡ r → Follows (IsOneEvent h e) IsNothing h.entries (let w = after_connect h isn named peer routed in w.entries)
+      by_port : (r : Result ℕ Refusal) → port_connected h named peer routed ≡ r → Follows (IsOneEvent h e) IsNothing h.entries (let w = after_connect h now isn named peer routed in w.entries)
       by_port (Err refusal) given = rw given (unchanged h e (λ x l. (refl, refl)) (λ x. refl) (λ x. refl))
-      by_port (Ok port) given = rw given (sockets_change h e (λ x l. (refl, refl)) (λ x. refl) (λ x. refl) (is_socket named) (role.role_after_connect (record { addr = h.addr; port = port }) peer isn h.kept) (λ id r passes. connects isn port named peer routed given id r passes))
+      by_port (Ok port) given = rw given (sockets_change h e (λ x l. (refl, refl)) (λ x. refl) (λ x. refl) (is_socket named) (role.role_after_connect (record { addr = h.addr; port = port }) peer isn (later_moment h now)) (λ id r passes. connects now isn port named peer routed given id r passes))
 
 -- what a UDP socket makes of itself is no event of a connection
 pub queues_change : (h : SocketsView) (e : Event) → IsPlain h e → ((x : Entry) → closes_socket e x ≡ false) → ((x : Entry) → event_of h e x ≡ None) → (bind : Option Endpoint → Option Endpoint) (change : Queues → Queues) (test : Entry → Bool) → ((x : Entry) → test x ≡ true → may_change h e x ≡ true)

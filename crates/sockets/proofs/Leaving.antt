@@ -43,7 +43,7 @@ step_leaves : (h : SocketsView) (e : Event) → IsSized e → (x y : Entry) → 
 step_leaves h e sized x _ stays sound leaves = leaves
 step_leaves h e sized _ _ (moves ev id c l meets kept) sound leaves = event_leaves c ev sound.sound (sized_of h _ e ev meets sized) leaves
 step_leaves h _ sized _ _ (binds named asked id buffers bound local names) sound leaves = leaves
-step_leaves h _ sized _ _ (opens isn named peer routed id buffers bound local names) sound leaves = active_leaves buffers local peer isn h.kept leaves
+step_leaves h _ sized _ _ (opens now isn named peer routed id buffers bound local names) sound leaves = active_leaves buffers local peer isn (later_moment h now) leaves
 step_leaves h _ sized _ _ (accepted named id c l next) sound leaves = leaves
 step_leaves h e sized _ _ _ sound leaves = tt
 

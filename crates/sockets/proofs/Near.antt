@@ -146,7 +146,7 @@ told_by h last kept x _ _ (loses_it lost moment hopless) up now is = same_moment
 step_near : (h : SocketsView) (e : Event) (last : Moment) → h.kept.0 ≤ last.0 → IsUpTo last e → (x y : Entry) → IsStepOf h e x (Some y) → IsSoundRole x.role → IsNearIn last x.role → IsNearIn last y.role
 step_near h e last kept up x _ stays sound near = near
 step_near h e last kept up _ _ (moves ev id c l meets is) sound near = event_near last c ev sound.sound (told_by h last kept _ e ev meets up) near
-step_near h _ last kept up _ _ (opens isn named peer routed id buffers bound local names) sound near = record { since = omega arith; unheard = from_then last h.kept kept; timers = none_near last; asked = omega arith }
+step_near h _ last kept up _ _ (opens now isn named peer routed id buffers bound local names) sound near = record { since = omega arith; unheard = from_then last (later_moment h now) (later_up_to h now last kept up); timers = none_near last; asked = omega arith }
 step_near h _ last kept up _ _ (accepted named id c l next) sound near = near
 step_near h e last kept up _ _ _ sound near = tt
 

@@ -184,12 +184,12 @@ bind-outcome h id local =
     let there : Endpoint = record { addr = local.addr; port = port } in
     rw given (still h _ refl refl (changed (is_socket id) (role_after_bind there) h.entries (λ x passes. bound-stays there x.role))))
 
-connect-outcome : (h : SocketsView) (isn : ℕ) (id : SocketId) (peer : Endpoint) (routed : Bool) → Outcome h (after_connect h isn id peer routed)
-connect-outcome h isn id peer routed =
+connect-outcome : (h : SocketsView) (now : Moment) (isn : ℕ) (id : SocketId) (peer : Endpoint) (routed : Bool) → Outcome h (after_connect h now isn id peer routed)
+connect-outcome h now isn id peer routed =
     by_result (port_connected h id peer routed) (λ refusal given. rw given (nothing-happens h))
     (λ port given.
     let local : Endpoint = record { addr = h.addr; port = port } in
-    rw given (still h _ refl refl (changed (is_socket id) (role_after_connect local peer isn h.kept) h.entries (λ x passes. connecting-stays local peer isn h.kept x.role))))
+    rw given (still h _ refl refl (changed (is_socket id) (role_after_connect local peer isn (later_moment h now)) h.entries (λ x passes. connecting-stays local peer isn (later_moment h now) x.role))))
 
 sendto-outcome : (h : SocketsView) (id : SocketId) (peer : Endpoint) (octets : List ℕ) (routed : Bool) → Outcome h (after_sendto h id peer octets routed)
 sendto-outcome h id peer octets routed =
@@ -331,7 +331,7 @@ outcome h MakesDatagrams allowed = Joined (record { new = new_datagram_socket (r
 outcome h (Binds id local) allowed = bind-outcome h id local
 outcome h (Listens id backlog) allowed = still h _ refl refl (changed (is_socket id) (role_after_listen backlog) h.entries (λ x passes. listening-stays backlog x.role))
 outcome h (Accepts id) allowed = accept-outcome h id
-outcome h (Connects isn id peer routed) allowed = connect-outcome h isn id peer routed
+outcome h (Connects now isn id peer routed) allowed = connect-outcome h now isn id peer routed
 outcome h (Sends id octets) allowed = called h id _
 outcome h (Receives id len) allowed = called h id _
 outcome h (Shuts id) allowed = called h id _

@@ -1,21 +1,25 @@
 -- What is opened is what was foreseen.
-use Rattle.std.proofs.Common.{◌≡◌, ℕ, ◌==◌, Bool, true, cond, List, [], ◌∷◌, Option, Some, None, option_map, option_and_then, Result, Ok, Err, refl, sym, ◌∙◌, ap}
+use Rattle.std.proofs.Common.{◌≡◌, ℕ, ◌==◌, Bool, true, cond, List, [], ◌∷◌, Option, Some, None, option_map, option_and_then, Result, Ok, Err, refl, sym, ◌∙◌, ap, subst}
 use Rattle.std.specs.List.{find}
 use Rattle.std.proofs.lemmas.Bool.{and_parts, and_from}
 use Rattle.clock.specs.declared.moment.Moment.{Moment}
+use Rattle.clock.specs.Moments.{after}
 use Rattle.ipv4.specs.declared.addr.Endpoint.{Endpoint}
 use Rattle.ipv4.specs.declared.addr.Pair.{Pair}
 use Rattle.ipv4.specs.Addresses.{pair_of}
+use Rattle.tcp_state.specs.declared.state.State.TheVariants.{SynSent}
+use Rattle.tcp_state.specs.View.{View, opened_actively}
+use Rattle.tcp_state.specs.Hop.{unheard_until}
 use Rattle.sockets.specs.declared.entry.SocketId.{SocketId}
 use Rattle.sockets.specs.declared.entry.Entry.{Entry}
 use Rattle.sockets.specs.declared.role.Role.{Role}
 use Rattle.sockets.specs.declared.role.Role.TheVariants.{Idle, Connected}
 use Rattle.sockets.specs.declared.refusal.Refusal.{Refusal}
 use Rattle.sockets.specs.Entries.{is_socket, has_socket, role_after_connect, with_role}
-use Rattle.sockets.specs.SocketsView.{SocketsView, role_of, with_socket}
+use Rattle.sockets.specs.SocketsView.{SocketsView, role_of, with_socket, later_moment}
 use Rattle.sockets.specs.Lists.{change_first}
 use Rattle.sockets.specs.Pairs.{pair_in, socket_pair}
-use Rattle.sockets.specs.Calls.{open_answer, last_port_after, port_connected, after_connect, pair_connected}
+use Rattle.sockets.specs.Calls.{open_answer, last_port_after, port_connected, connect_refusal, after_connect, pair_connected}
 use Rattle.sockets.proofs.Connected.{had_opens_none, after_connect-given, connecting}
 use Rattle.sockets.proofs.Followed.{by_test}
 
@@ -57,16 +61,39 @@ socket_changed h id change role is socket = by_entry (find (is_socket id) h.entr
         let still : is_socket id (with_role change x) ≡ true = and_from (x.id.0 == id.0) (has_socket (change x.role)) named.0 (ap (λ (r : Role). has_socket (change r)) same ∙ socket) in
         ap (λ (o : Option Entry). option_map (λ (e : Entry). e.role) o) (found_changed (is_socket id) (with_role change) h.entries x found still) ∙ ap (λ (r : Role). Some (change r)) same
 
-pub connect_opens : (h : SocketsView) (isn : ℕ) (id : SocketId) (peer : Endpoint) (routed : Bool) (pair : Pair) → pair_connected h id peer routed ≡ Some pair → socket_pair (after_connect h isn id peer routed) id ≡ Some pair
-connect_opens h isn id peer routed pair foreseen = by_port (port_connected h id peer routed) refl
+pub connect_opens : (h : SocketsView) (now : Moment) (isn : ℕ) (id : SocketId) (peer : Endpoint) (routed : Bool) (pair : Pair) → pair_connected h id peer routed ≡ Some pair → socket_pair (after_connect h now isn id peer routed) id ≡ Some pair
+connect_opens h now isn id peer routed pair foreseen = by_port (port_connected h id peer routed) refl
   where
-    by_port : (r : Result ℕ Refusal) → port_connected h id peer routed ≡ r → socket_pair (after_connect h isn id peer routed) id ≡ Some pair
+    by_port : (r : Result ℕ Refusal) → port_connected h id peer routed ≡ r → socket_pair (after_connect h now isn id peer routed) id ≡ Some pair
     by_port (Err refusal) given = let none : pair_connected h id peer routed ≡ None = rw given in cc
     by_port (Ok port) given =
         let local : Endpoint = record { addr = h.addr; port = port } in
         let c = connecting h id peer routed port given in
-        let parts = opens_pair c.role c.bound local peer isn h.kept c.opens in
+        let parts = opens_pair c.role c.bound local peer isn (later_moment h now) c.opens in
         let told : pair_connected h id peer routed ≡ Some (pair_of local peer) = rw given in
-        ap (λ (w : SocketsView). socket_pair w id) (after_connect-given h isn id peer routed c.role c.bound port c.is c.opens c.reached c.given)
-        ∙ ap (λ (o : Option Role). option_and_then pair_in o) (socket_changed (record h { last_port = last_port_after h c.bound port }) id (role_after_connect local peer isn h.kept) c.role c.is parts.0)
+        ap (λ (w : SocketsView). socket_pair w id) (after_connect-given h now isn id peer routed c.role c.bound port c.is c.opens c.reached c.given)
+        ∙ ap (λ (o : Option Role). option_and_then pair_in o) (socket_changed (record h { last_port = last_port_after h c.bound port }) id (role_after_connect local peer isn (later_moment h now)) c.role c.is parts.0)
         ∙ parts.1 ∙ sym told ∙ foreseen
+
+-- in SYN-SENT, at this moment, from which its SYN waits for the hop
+abbrev IsOpenedAt : Moment → Option Role → Type 0
+IsOpenedAt now o = (c : View) × (o ≡ Some (Connected c None)) × (c.state ≡ SynSent) × (c.unheard ≡ Some now) × (unheard_until c ≡ Some (after now 483000))
+
+opens_at : (role : Role) (bound : Option Endpoint) (local peer : Endpoint) (isn : ℕ) (now : Moment) → open_answer role ≡ Ok bound → IsOpenedAt now (Some (role_after_connect local peer isn now role))
+opens_at (Idle buffers b) bound local peer isn now e = (opened_actively buffers local peer isn now, refl, refl, refl, refl)
+opens_at (Connected c l) bound local peer isn now e = absurd (had_opens_none c.state c.pending_error bound e)
+opens_at _ bound local peer isn now e = cc
+
+pub connect_opens_at : (h : SocketsView) (now : Moment) (isn : ℕ) (id : SocketId) (peer : Endpoint) (routed : Bool) → connect_refusal h id peer routed ≡ None → IsOpenedAt (later_moment h now) (role_of (after_connect h now isn id peer routed) id)
+connect_opens_at h now isn id peer routed allowed = by_port (port_connected h id peer routed) refl
+  where
+    by_port : (r : Result ℕ Refusal) → port_connected h id peer routed ≡ r → IsOpenedAt (later_moment h now) (role_of (after_connect h now isn id peer routed) id)
+    by_port (Err refusal) given = let told : connect_refusal h id peer routed ≡ Some refusal = rw given in cc
+    by_port (Ok port) given =
+        let local : Endpoint = record { addr = h.addr; port = port } in
+        let c = connecting h id peer routed port given in
+        let parts = opens_pair c.role c.bound local peer isn (later_moment h now) c.opens in
+        subst (IsOpenedAt (later_moment h now))
+        (sym (ap (λ (w : SocketsView). role_of w id) (after_connect-given h now isn id peer routed c.role c.bound port c.is c.opens c.reached c.given)
+        ∙ socket_changed (record h { last_port = last_port_after h c.bound port }) id (role_after_connect local peer isn (later_moment h now)) c.role c.is parts.0))
+        (opens_at c.role c.bound local peer isn (later_moment h now) c.opens)

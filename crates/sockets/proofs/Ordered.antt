@@ -49,7 +49,7 @@ step_keeps h e own free _ _ (moves ev id c l meets kept) = (refl, keeps_connecti
 step_keeps h e own free _ _ (ends ev id c l meets removed) = tt
 step_keeps h _ own free _ _ (binds named asked id buffers bound local socket) = cc
 step_keeps h _ own free _ _ (listens named backlog id buffers local socket) = (refl, record { ends = λ l p e live. cc; port = λ port e has. has; datagrams = λ port e has. cc; own = λ lies. tt })
-step_keeps h _ own free _ _ (opens isn named peer routed id buffers bound local socket) = cc
+step_keeps h _ own free _ _ (opens now isn named peer routed id buffers bound local socket) = cc
 step_keeps h _ own free _ _ (accepted named id c l next) = (refl, keeps_connection c c l None (keeps-nothing c) own)
 step_keeps h e own free _ _ (requeues id bound before after) = (refl, keeps_queues bound before after own)
 step_keeps h e own free _ _ (binds_datagrams id bound local before after takes) = let bad : true ≡ false = sym takes ∙ free in cc
@@ -165,12 +165,12 @@ connecting_role : (h : SocketsView) (local peer : Endpoint) (isn : ℕ) (now : M
 connecting_role h local peer isn now own other (Idle buffers bound) = record { ends = λ l p apart live. let bad : true ≡ false = sym live ∙ apart in cc; port = λ port e has. cc; datagrams = λ port e has. cc; own = λ lies. (own, other) }
 connecting_role h local peer isn now own other _ = record { ends = λ l p e live. live; port = λ port e has. has; datagrams = λ port e has. has; own = λ lies. lies }
 
-opened_ordered : (h : SocketsView) (id : SocketId) (peer : Endpoint) (isn port last : ℕ) → IsDynamic last → same_addr peer.addr h.addr ≡ false → is_pair_held h port peer ≡ false → IsOrdered h
-    → IsOrdered (record h { last_port = last; entries = change_first (is_socket id) (with_role (role_after_connect (record { addr = h.addr; port = port }) peer isn h.kept)) h.entries })
-opened_ordered h id peer isn port last dynamic reached free o =
+opened_ordered : (h : SocketsView) (now : Moment) (id : SocketId) (peer : Endpoint) (isn port last : ℕ) → IsDynamic last → same_addr peer.addr h.addr ≡ false → is_pair_held h port peer ≡ false → IsOrdered h
+    → IsOrdered (record h { last_port = last; entries = change_first (is_socket id) (with_role (role_after_connect (record { addr = h.addr; port = port }) peer isn (later_moment h now))) h.entries })
+opened_ordered h now id peer isn port last dynamic reached free o =
     let w : SocketsView = record h { last_port = last; entries = changed } in
     ordered_by at_ends no_port no_port h w refl refl (λ (d : IsDynamic h.last_port). dynamic)
-    (first_changed (Keeps at_ends no_port no_port h.addr) IsNothing refl (is_socket id) (with_role (role_after_connect local peer isn h.kept)) h.entries (itself at_ends no_port no_port h) (λ x passes found. (refl, connecting_role h local peer isn h.kept refl reached x.role)))
+    (first_changed (Keeps at_ends no_port no_port h.addr) IsNothing refl (is_socket id) (with_role (role_after_connect local peer isn (later_moment h now))) h.entries (itself at_ends no_port no_port h) (λ x passes found. (refl, connecting_role h local peer isn (later_moment h now) refl reached x.role)))
     at_them
     (λ n e. cc) (λ n e. cc) o
   where
@@ -181,12 +181,12 @@ opened_ordered h id peer isn port last dynamic reached free o =
     at_ends l p = same_end local l && same_end peer p
 
     changed : List Entry
-    changed = change_first (is_socket id) (with_role (role_after_connect local peer isn h.kept)) h.entries
+    changed = change_first (is_socket id) (with_role (role_after_connect local peer isn (later_moment h now))) h.entries
 
     one : count_by (is_between local peer) changed ≤ 1
     one =
         let none : count_by (is_between local peer) h.entries ≡ 0 = count_none (is_between local peer) h.entries free in
-        let more : count_by (is_between local peer) changed ≤ count_by (is_between local peer) h.entries + 1 = count_changed (is_socket id) (is_between local peer) (with_role (role_after_connect local peer isn h.kept)) h.entries in
+        let more : count_by (is_between local peer) changed ≤ count_by (is_between local peer) h.entries + 1 = count_changed (is_socket id) (is_between local peer) (with_role (role_after_connect local peer isn (later_moment h now))) h.entries in
         omega arith
 
     at_them : (l p : Endpoint) → at_ends l p ≡ true → count_by (is_between l p) changed ≤ 1
@@ -195,12 +195,12 @@ opened_ordered h id peer isn port last dynamic reached free o =
         subst (λ (x : Endpoint). count_by (is_between x p) changed ≤ 1) (same_end-true local l parts.0)
         (subst (λ (x : Endpoint). count_by (is_between local x) changed ≤ 1) (same_end-true peer p parts.1) one)
 
-connect_ordered : (h : SocketsView) (isn : ℕ) (id : SocketId) (peer : Endpoint) (routed : Bool) → connect_refusal h id peer routed ≡ None → IsOrdered h → IsOrdered (after_connect h isn id peer routed)
-connect_ordered h isn id peer routed allowed o =
+connect_ordered : (h : SocketsView) (now : Moment) (isn : ℕ) (id : SocketId) (peer : Endpoint) (routed : Bool) → connect_refusal h id peer routed ≡ None → IsOrdered h → IsOrdered (after_connect h now isn id peer routed)
+connect_ordered h now isn id peer routed allowed o =
     let p = port-allowed (port_connected h id peer routed) allowed in
     let c = connecting h id peer routed p.0 p.1 in
-    subst IsOrdered (sym (after_connect-given h isn id peer routed c.role c.bound p.0 c.is c.opens c.reached c.given))
-    (opened_ordered h id peer isn p.0 (last_port_after h c.bound p.0) (counted_dynamic h c.bound peer p.0 o.last_port c.given) (peer_apart h peer routed c.reached) (port_free h c.bound peer p.0 c.given) o)
+    subst IsOrdered (sym (after_connect-given h now isn id peer routed c.role c.bound p.0 c.is c.opens c.reached c.given))
+    (opened_ordered h now id peer isn p.0 (last_port_after h c.bound p.0) (counted_dynamic h c.bound peer p.0 o.last_port c.given) (peer_apart h peer routed c.reached) (port_free h c.bound peer p.0 c.given) o)
 
 -- What else joins the table.
 
@@ -273,6 +273,6 @@ by_step h e _ free (joined {x = x} j) allowed o = joining_ordered h e x j allowe
 
 pub stays_ordered : (h : SocketsView) (e : Event) → IsAllowed h e → IsOrdered h → IsOrdered (after_event h e)
 stays_ordered h (Binds id local) allowed o = bind_ordered h id local allowed o
-stays_ordered h (Connects isn id peer routed) allowed o = connect_ordered h isn id peer routed allowed o
+stays_ordered h (Connects now isn id peer routed) allowed o = connect_ordered h now isn id peer routed allowed o
 stays_ordered h (SendsTo id peer octets routed) allowed o = sendto_ordered h id peer octets routed o
 stays_ordered h e allowed o = by_step h e (after_event h e) refl (stepped h e) allowed o

@@ -71,7 +71,7 @@ entry id role = record { id = id; role = role }
 -- an event that may bind a socket, or open a connection from one
 abbrev pub takes_end : Event → Bool
 takes_end (Binds id local) = true
-takes_end (Connects isn id peer routed) = true
+takes_end (Connects now isn id peer routed) = true
 takes_end (SendsTo id peer octets routed) = true
 takes_end _ = false
 
@@ -87,8 +87,8 @@ pub data IsStepOf (h : SocketsView) : Event → Entry → Option Entry → Type 
       → IsStepOf h (Binds named asked) (entry id (Idle buffers bound)) (Some (entry id (Idle buffers (Some local))))
   listens : (named : SocketId) (backlog : ℕ) (id : SocketId) (buffers : Buffers) (local : Endpoint) → is_socket named (entry id (Idle buffers (Some local))) ≡ true
       → IsStepOf h (Listens named backlog) (entry id (Idle buffers (Some local))) (Some (entry id (Listener local backlog)))
-  opens : (isn : ℕ) (named : SocketId) (peer : Endpoint) (routed : Bool) (id : SocketId) (buffers : Buffers) (bound : Option Endpoint) (local : Endpoint) → is_socket named (entry id (Idle buffers bound)) ≡ true
-      → IsStepOf h (Connects isn named peer routed) (entry id (Idle buffers bound)) (Some (entry id (Connected (opened_actively buffers local peer isn h.kept) None)))
+  opens : (now : Moment) (isn : ℕ) (named : SocketId) (peer : Endpoint) (routed : Bool) (id : SocketId) (buffers : Buffers) (bound : Option Endpoint) (local : Endpoint) → is_socket named (entry id (Idle buffers bound)) ≡ true
+      → IsStepOf h (Connects now isn named peer routed) (entry id (Idle buffers bound)) (Some (entry id (Connected (opened_actively buffers local peer isn (later_moment h now)) None)))
   accepted : (named id : SocketId) (c : View) (l : Option SocketId) → is_next_at h named (entry id (Connected c l)) ≡ true → IsStepOf h (Accepts named) (entry id (Connected c l)) (Some (entry id (Connected c None)))
   requeues : {e : Event} (id : SocketId) (bound : Option Endpoint) (before after : Queues) → IsStepOf h e (entry id (Datagrams bound before)) (Some (entry id (Datagrams bound after)))
   binds_datagrams : {e : Event} (id : SocketId) (bound : Option Endpoint) (local : Endpoint) (before after : Queues) → takes_end e ≡ true → IsStepOf h e (entry id (Datagrams bound before)) (Some (entry id (Datagrams (Some local) after)))
@@ -225,17 +225,17 @@ accepting : (h : SocketsView) (named id : SocketId) (role : Role) → is_next_at
 accepting h named id (Connected c l) next = accepted named id c l next
 accepting h named id _ next = stays
 
-opening : (h : SocketsView) (isn : ℕ) (named id : SocketId) (local peer : Endpoint) (routed : Bool) (role : Role) → is_socket named (entry id role) ≡ true → IsStepOf h (Connects isn named peer routed) (entry id role) (Some (entry id (role_after_connect local peer isn h.kept role)))
-opening h isn named id local peer routed (Idle buffers before) socket = opens isn named peer routed id buffers before local socket
-opening h isn named id local peer routed _ socket = stays
+opening : (h : SocketsView) (now : Moment) (isn : ℕ) (named id : SocketId) (local peer : Endpoint) (routed : Bool) (role : Role) → is_socket named (entry id role) ≡ true → IsStepOf h (Connects now isn named peer routed) (entry id role) (Some (entry id (role_after_connect local peer isn (later_moment h now) role)))
+opening h now isn named id local peer routed (Idle buffers before) socket = opens now isn named peer routed id buffers before local socket
+opening h now isn named id local peer routed _ socket = stays
 
-connect_stepped : (h : SocketsView) (isn : ℕ) (id : SocketId) (peer : Endpoint) (routed : Bool) → IsStepped h (Connects isn id peer routed) (after_connect h isn id peer routed)
-connect_stepped h isn id peer routed = by_port (port_connected h id peer routed) refl
+connect_stepped : (h : SocketsView) (now : Moment) (isn : ℕ) (id : SocketId) (peer : Endpoint) (routed : Bool) → IsStepped h (Connects now isn id peer routed) (after_connect h now isn id peer routed)
+connect_stepped h now isn id peer routed = by_port (port_connected h id peer routed) refl
   where
-    by_port : (r : Result ℕ Refusal) → port_connected h id peer routed ≡ r → IsStepped h (Connects isn id peer routed) (after_connect h isn id peer routed)
-    by_port (Err refusal) given = rw given (unchanged h (Connects isn id peer routed) refl)
-    by_port (Ok port) given = rw given (ported h (Connects isn id peer routed) refl _ h.identification _ (λ none. refl) refl
-        (changes h (Connects isn id peer routed) (is_socket id) (role_after_connect (record { addr = h.addr; port = port }) peer isn h.kept) (λ x passes. opening h isn id x.id (record { addr = h.addr; port = port }) peer routed x.role passes)))
+    by_port : (r : Result ℕ Refusal) → port_connected h id peer routed ≡ r → IsStepped h (Connects now isn id peer routed) (after_connect h now isn id peer routed)
+    by_port (Err refusal) given = rw given (unchanged h (Connects now isn id peer routed) refl)
+    by_port (Ok port) given = rw given (ported h (Connects now isn id peer routed) refl _ h.identification _ (λ none. refl) refl
+        (changes h (Connects now isn id peer routed) (is_socket id) (role_after_connect (record { addr = h.addr; port = port }) peer isn (later_moment h now)) (λ x passes. opening h now isn id x.id (record { addr = h.addr; port = port }) peer routed x.role passes)))
 
 -- a read into an empty buffer leaves the connection
 pub read_either : (c : View) (len : ℕ) → let d : View = if len == 0 then c else after_recv c len in (d ≡ c) ⊎ (d ≡ edge.after_event c (edge.Receives len))
@@ -469,7 +469,7 @@ stepped h MakesDatagrams = joined made_datagrams
 stepped h (Binds id local) = bind_stepped h id local
 stepped h (Listens id backlog) = plain h (Listens id backlog) _ _ refl (changes h (Listens id backlog) (is_socket id) (role_after_listen backlog) (λ x passes. listening h id x.id backlog x.role passes))
 stepped h (Accepts id) = plain h (Accepts id) _ _ refl (changes h (Accepts id) (is_next_at h id) role_after_accept (λ x passes. accepting h id x.id x.role passes))
-stepped h (Connects isn id peer routed) = connect_stepped h isn id peer routed
+stepped h (Connects now isn id peer routed) = connect_stepped h now isn id peer routed
 stepped h (Sends id octets) = calls h (Sends id octets) id _ (edge.Sends octets h.kept) refl (λ c. inr refl) (λ x named. sends_it id octets named) staying
 stepped h (Receives id len) = calls h (Receives id len) id _ (edge.Receives len) refl (λ c. read_either c len) (λ x named. reads_it id len named) staying
 stepped h (Shuts id) = calls h (Shuts id) id _ (edge.Shuts h.kept) refl (λ c. shut_either c h.kept) (λ x named. shuts_it id named) staying

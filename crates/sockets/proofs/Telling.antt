@@ -46,7 +46,7 @@ module _ (id : SocketId) (error : Error) where
   step_tells h e _ _ (moves ev i c l meets is) keeps tells = λ same. told_on c ev l keeps (tells same)
   step_tells h _ _ _ (binds named asked i buffers bound local names) keeps tells = tells
   step_tells h _ _ _ (listens named backlog i buffers local names) keeps tells = tells
-  step_tells h _ _ _ (opens isn named peer routed i buffers bound local names) keeps tells = tells
+  step_tells h _ _ _ (opens now isn named peer routed i buffers bound local names) keeps tells = tells
   step_tells h _ _ _ (accepted named i c l next) keeps tells = tells
   step_tells h e _ _ (requeues i bound before after) keeps tells = tells
   step_tells h e _ _ (binds_datagrams i bound local before after takes) keeps tells = tells

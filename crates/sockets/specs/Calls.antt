@@ -7,6 +7,7 @@ use Rattle.ipv4.specs.declared.addr.Addr.{Addr}
 use Rattle.ipv4.specs.declared.addr.Endpoint.{Endpoint}
 use Rattle.ipv4.specs.declared.addr.Pair.{Pair}
 use Rattle.ipv4.specs.Addresses.{pair_of, same_addr, is_unicast}
+use Rattle.clock.specs.declared.moment.Moment.{Moment}
 use Rattle.tcp_halves.specs.declared.buffers.Buffers.{Buffers}
 use Rattle.tcp_state.specs.declared.state.State.{State}
 use Rattle.tcp_state.specs.declared.calls.Received.{Received}
@@ -30,7 +31,7 @@ use Rattle.sockets.specs.declared.refusal.Refusal.{Refusal}
 use Rattle.sockets.specs.declared.refusal.Refusal.TheVariants.{EBADF, EINVAL, EADDRINUSE, EADDRNOTAVAIL, EISCONN, ENOTCONN, EALREADY, EAGAIN, ENETUNREACH, EOPNOTSUPP, ECONNREFUSED, ECONNRESET, ETIMEDOUT, EPIPE, EDESTADDRREQ}
 use Rattle.sockets.specs.Ports.{first_port, is_free_port, is_unused_port, is_free_datagram_port}
 use Rattle.sockets.specs.Entries.{is_socket, is_between, is_waiting_as, is_waiting_id, peer_of, shown_state, new_socket, new_datagram_socket, role_after_bind, role_after_listen, role_after_connect, role_after_accept, role_after_send, role_after_recv, role_after_shutdown, role_after_nodelay, role_after_keepalive, role_after_leaving, leaving_fate_of, role_after_listener_close, listener_close_fate_of, entries_after_step, entries_after_steps, with_role}
-use Rattle.sockets.specs.SocketsView.{SocketsView, role_of, with_socket, room_of}
+use Rattle.sockets.specs.SocketsView.{SocketsView, role_of, with_socket, later_moment, room_of}
 use Rattle.sockets.specs.Lists.{change_first, remove_first}
 
 -- what `of` says of a socket's role, and `none` where there is no such socket
@@ -362,10 +363,10 @@ bound_of (Listener local backlog) = None
 bound_of (Connected c listener) = None
 bound_of (Datagrams bound socket) = bound
 
--- the socket is a connection in SYN-SENT from our address and the port that it is given
-abbrev pub after_connect : SocketsView → ℕ → SocketId → Endpoint → Bool → SocketsView
-after_connect h isn id peer routed = of_port (port_connected h id peer routed)
+-- the socket is a connection in SYN-SENT from our address and the port that it is given, opened at the later of the call's moment and the kept one
+abbrev pub after_connect : SocketsView → Moment → ℕ → SocketId → Endpoint → Bool → SocketsView
+after_connect h now isn id peer routed = of_port (port_connected h id peer routed)
   where
     of_port : Result ℕ Refusal → SocketsView
     of_port (Err refusal) = h
-    of_port (Ok port) = with_socket (record h { last_port = last_port_after h (option_and_then bound_of (role_of h id)) port }) id (role_after_connect (record { addr = h.addr; port = port }) peer isn h.kept)
+    of_port (Ok port) = with_socket (record h { last_port = last_port_after h (option_and_then bound_of (role_of h id)) port }) id (role_after_connect (record { addr = h.addr; port = port }) peer isn (later_moment h now))

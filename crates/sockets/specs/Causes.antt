@@ -35,7 +35,7 @@ pub data Event : Type 0 where
   Binds : SocketId → Endpoint → Event
   Listens : SocketId → ℕ → Event
   Accepts : SocketId → Event
-  Connects : ℕ → SocketId → Endpoint → Bool → Event
+  Connects : Moment → ℕ → SocketId → Endpoint → Bool → Event
   Sends : SocketId → List ℕ → Event
   Receives : SocketId → ℕ → Event
   Shuts : SocketId → Event
@@ -64,7 +64,7 @@ after_event h MakesDatagrams = after_datagram_socket h
 after_event h (Binds id local) = after_bind h id local
 after_event h (Listens id backlog) = after_listen h id backlog
 after_event h (Accepts id) = after_accept h id
-after_event h (Connects isn id peer routed) = after_connect h isn id peer routed
+after_event h (Connects now isn id peer routed) = after_connect h now isn id peer routed
 after_event h (Sends id octets) = after_send h id octets
 after_event h (Receives id len) = after_recv h id len
 after_event h (Shuts id) = after_shutdown h id

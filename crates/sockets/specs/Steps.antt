@@ -1,6 +1,7 @@
 -- What an event of the table is to a connection in it: one event of the connection's own, or none (RFC 9293 section 3.10).
 use Rattle.std.specs.Prelude.{◌≡◌, ℕ, ◌==◌, ◌&&◌, not, Bool, true, false, if◌then◌else◌, Option, Some, None, option_map, Ok}
 use Rattle.ipv4.specs.declared.addr.Endpoint.{Endpoint}
+use Rattle.clock.specs.declared.moment.Moment.{Moment}
 use Rattle.tcp_halves.specs.declared.buffers.Buffers.{Buffers}
 use Rattle.tcp_state.specs.View.{View, opened_actively}
 use Rattle.tcp_state.specs.Edges as edge
@@ -81,9 +82,9 @@ may_change h _ x = false
 pub data IsSocketLeft (h : SocketsView) : Event → Entry → Option Entry → Type 0 where
   remains : {e : Event} {x : Entry} → closes_socket e x ≡ false → IsSocketLeft h e x (Some x)
   changes : {e : Event} {x : Entry} (y : Entry) → y.id ≡ x.id → in_connection None (λ c. Some c) y.role ≡ None → may_change h e x ≡ true → IsSocketLeft h e x (Some y)
-  opens : (isn : ℕ) (named : SocketId) (peer : Endpoint) (routed : Bool) (port : ℕ) (id : SocketId) (buffers : Buffers) (bound : Option Endpoint)
+  opens : (now : Moment) (isn : ℕ) (named : SocketId) (peer : Endpoint) (routed : Bool) (port : ℕ) (id : SocketId) (buffers : Buffers) (bound : Option Endpoint)
       → is_socket named (record { id = id; role = Idle buffers bound }) ≡ true → port_connected h named peer routed ≡ Ok port
-      → IsSocketLeft h (Connects isn named peer routed) (record { id = id; role = Idle buffers bound }) (Some (connected id (opened_actively buffers (record { addr = h.addr; port = port }) peer isn h.kept) None))
+      → IsSocketLeft h (Connects now isn named peer routed) (record { id = id; role = Idle buffers bound }) (Some (connected id (opened_actively buffers (record { addr = h.addr; port = port }) peer isn (later_moment h now)) None))
   closes : (how : Leave) (named : SocketId) (x : Entry) → is_socket named x ≡ true → IsSocketLeft h (Leaves how named) x None
 
 -- what is left of an entry: of a connection exactly what its one event leaves, or all of it where it has none

@@ -27,7 +27,7 @@ EachKeepsTime h = AllByRecursion (λ (e : Entry). KeepsTimeIn e.role) h.entries
 
 -- the initial sequence number of a connection that an event may open has 32 bits
 abbrev pub IsNumbered : Event → Type 0
-IsNumbered (Connects isn id peer routed) = isn < 2 ^ 32
+IsNumbered (Connects now isn id peer routed) = isn < 2 ^ 32
 IsNumbered (Hears now isn source s) = isn < 2 ^ 32
 IsNumbered _ = Unit {0}
 
@@ -66,6 +66,7 @@ NoneAsks h = AllByRecursion (λ (e : Entry). AsksNone e.role) h.entries
 
 -- an event names this moment at the latest, where it names one
 abbrev pub IsUpTo : Moment → Event → Type 0
+IsUpTo latest (Connects now isn id peer routed) = now.0 ≤ latest.0
 IsUpTo latest (Ticks now) = now.0 ≤ latest.0
 IsUpTo latest (Hears now isn source s) = now.0 ≤ latest.0
 IsUpTo latest (Emits goes now) = now.0 ≤ latest.0

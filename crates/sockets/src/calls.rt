@@ -14,6 +14,7 @@ use crate::sockets::Sockets;
 use crate::state::SocketState;
 use crate::table::{self, ENTRIES};
 use crate::{index, ports};
+use clock::Moment;
 use ipv4::{Addr, Endpoint, Pair};
 use std::alloc::{AllocError, Global};
 use tcp_segment::Seq;
@@ -268,23 +269,26 @@ impl Sockets {
         Some((turn, place))
     }
 
-    /// Opens a connection to `peer`, whose initial sequence number here is `isn` (RFC 9293 section 3.10.1).
+    /// Opens a connection to `peer`, whose initial sequence number here is `isn` (RFC 9293 section 3.10.1), at this moment, or at the kept one where that is later:
+    /// its wait for the hop to the peer is counted from then on.
     ///
     /// EBADF; EOPNOTSUPP of a UDP socket and where the socket listens; the error that its connection reports; EALREADY while it opens a
     /// connection; EISCONN where it has had one; EADDRNOTAVAIL for port 0, an address that isn't unicast or our own; ENETUNREACH where no route leads
     /// to the peer's address, which `is_routed` says (RFC 1122 section 3.3.1.1); EADDRINUSE where the pair is held or no dynamic port is free.
     pub fn connect(
         &mut self,
+        now: Moment,
         isn: Seq,
         id: SocketId,
         peer: Endpoint,
         is_routed: bool,
     ) -> Result<(), Refusal>
         ensures refused { result_err result ≡ connect_refusal self.old id peer is_routed }
-        ensures ok { OnOk result (self.new ≡ after_connect self.old isn.0 id peer is_routed) }
+        ensures ok { OnOk result (self.new ≡ after_connect self.old now isn.0 id peer is_routed) }
         ensures numbered { isn.0 < 2 ^ 32 }
         ensures err { OnErr result (self.new ≡ self.old) }
     {
+        let now = self.later_moment(now);
         let place = self.socket_place(id)?;
         let bound = may_open(&self.entries[place].role)?;
         self.may_reach(peer, is_routed)?;
@@ -293,7 +297,6 @@ impl Sockets {
         self.last_port = self.last_port_after(bound, port);
         let local = Endpoint { addr, port };
         index::file(&mut self.ends, id, local, peer);
-        let now = self.kept;
         self.entries[place].role.connect(now, local, peer, isn);
         Ok(())
     }

@@ -11,13 +11,14 @@ ghost use Rattle.tcp_segment.specs.declared.head.Head.{Head};
 ghost use Rattle.tcp_segment.specs.Segment.{Segment, FieldsFit};
 ghost use Rattle.tcp_segment.specs.Sent.{CanBeSent};
 ghost use Rattle.clock.specs.declared.moment.Moment.{Moment};
-ghost use Rattle.clock.specs.Moments.{has_come};
+ghost use Rattle.clock.specs.Moments.{after, has_come};
 ghost use Rattle.tcp_segment.specs.declared.TheConstants.{MSS};
 ghost use Rattle.tcp_halves.specs.declared.buffers.Manner.{Manner};
 ghost use Rattle.tcp_halves.specs.Stream.{size_of, receive_window};
 ghost use Rattle.tcp_state.specs.Due.{first_due};
 ghost use Rattle.tcp_state.specs.Hop.{unheard_until};
 ghost use Rattle.tcp_state.specs.View.{View, is_opening, is_closed};
+ghost use Rattle.tcp_state.specs.declared.state.State.TheVariants.{SynSent};
 ghost use Rattle.tcp_state.specs.declared.calls.Refusal.{Refusal as Error};
 ghost use Rattle.sockets.specs.declared.entry.SocketId.{SocketId};
 ghost use Rattle.sockets.specs.declared.entry.Entry.{Entry};
@@ -69,8 +70,15 @@ pub fn answers_are_resets()
 /// `would_connect` foresees a pair exactly where `connect` is not refused, and after the `connect` the socket has a connection of that pair.
 pub fn connects_are_foreseen()
     ensures foreseen { (h : SocketsView) (id : SocketId) (peer : Endpoint) (routed : Bool) → is_some (pair_connected h id peer routed) ≡ not (is_some (connect_refusal h id peer routed)) }
-    ensures opened { (h : SocketsView) (isn : ℕ) (id : SocketId) (peer : Endpoint) (routed : Bool) (pair : Pair) → pair_connected h id peer routed ≡ Some pair
-        → socket_pair (after_connect h isn id peer routed) id ≡ Some pair }
+    ensures opened { (h : SocketsView) (now : Moment) (isn : ℕ) (id : SocketId) (peer : Endpoint) (routed : Bool) (pair : Pair) → pair_connected h id peer routed ≡ Some pair
+        → socket_pair (after_connect h now isn id peer routed) id ≡ Some pair }
+{}
+
+/// Where `connect` is not refused its connection opens, in SYN-SENT, at the call's own moment, or at the kept one where that is later: from then on its SYN waits for the hop to the peer,
+/// and it does so for 483,000 ms (RFC 1122 section 4.2.3.5). So it is, whenever the table was ticked last.
+pub fn a_connection_opens_at_its_moment()
+    ensures { (h : SocketsView) (now : Moment) (isn : ℕ) (id : SocketId) (peer : Endpoint) (routed : Bool) → connect_refusal h id peer routed ≡ None
+        → (c : View) × (role_of (after_connect h now isn id peer routed) id ≡ Some (Connected c None)) × (c.state ≡ SynSent) × (c.unheard ≡ Some (later_moment h now)) × (unheard_until c ≡ Some (after (later_moment h now) 483000)) }
 {}
 
 /// The state of an entry stays, or goes along an edge of the table of states. An entry becomes CLOSED, or is taken out of the table, only
@@ -109,7 +117,7 @@ pub fn ticks_leave_tables_sound()
 {}
 
 /// No timer of a connection runs until later than a minute past the latest moment that the table was told of, and no wait is counted from a later one: in a new table, over each event, and over a list
-/// of them. So no deadline lies more than a day past it, and none more than 240,000 ms, the time that TIME-WAIT lasts (RFC 9293 section 3.4.2), where no silent peer is asked; and no wait for a hop ends more than 483,000 ms past it. A segment, an emission and what is given up are taken at a moment that the table
+/// of them. So no deadline lies more than a day past it, and none more than 240,000 ms, the time that TIME-WAIT lasts (RFC 9293 section 3.4.2), where no silent peer is asked; and no wait for a hop ends more than 483,000 ms past it. A `connect`, a segment, an emission and what is given up are taken at a moment that the table
 /// doesn't keep; where each names none but what the table keeps, since a tick told it, all this is said of the kept moment.
 pub fn timers_lie_near()
     ensures fresh { (addr : Addr) (manner : Manner) (latest : Moment) → AreNear latest (new_sockets addr manner) }

@@ -83,62 +83,62 @@ use Rattle.wire_sim.proofs.runs.RunsAreLawful.{own-again, own-with}
 abbrev IsSizedCall : List Route → table.Event → Type 0
 IsSizedCall routes e = IsCall routes e × leaving.IsSized e
 
-abbrev IsCalled : InterfaceView → SocketsView → SocketsView → Type 0
-IsCalled i h new = (new ≡ h) ⊎ ((e : table.Event) × IsAllowed h e × timing.IsNumbered e × ((latest : Moment) → timing.IsUpTo latest e) × (new ≡ table.after_event h e) × IsSizedCall i.routes e)
+abbrev IsCalled : InterfaceView → Moment → SocketsView → SocketsView → Type 0
+IsCalled i now h new = (new ≡ h) ⊎ ((e : table.Event) × IsAllowed h e × timing.IsNumbered e × ((latest : Moment) → now.0 ≤ latest.0 → timing.IsUpTo latest e) × (new ≡ table.after_event h e) × IsSizedCall i.routes e)
 
 -- a call that changes nothing
-asked : {T : Type 0} (i : InterfaceView) (r : Result T Refusal) (told : T → Answer) (h : SocketsView) (answer : Answer) (new : SocketsView) → Answers r told h h answer new → IsCalled i h new
-asked i (Ok value) told h answer new meets = inl meets.1
-asked i (Err refusal) told h answer new meets = inl meets.1
+asked : {T : Type 0} (i : InterfaceView) (now : Moment) (r : Result T Refusal) (told : T → Answer) (h : SocketsView) (answer : Answer) (new : SocketsView) → Answers r told h h answer new → IsCalled i now h new
+asked i now (Ok value) told h answer new meets = inl meets.1
+asked i now (Err refusal) told h answer new meets = inl meets.1
 
 -- a call that is allowed where it is answered
-answered : {T : Type 0} (i : InterfaceView) (r : Result T Refusal) (told : T → Answer) (h : SocketsView) (e : table.Event) (answer : Answer) (new : SocketsView) → timing.IsNumbered e → ((latest : Moment) → timing.IsUpTo latest e) → IsSizedCall i.routes e → (is_ok r ≡ true → IsAllowed h e) → Answers r told (table.after_event h e) h answer new → IsCalled i h new
-answered i (Ok value) told h e answer new small up own allowed meets = inr (e, allowed refl, small, up, meets.1, own)
-answered i (Err refusal) told h e answer new small up own allowed meets = inl meets.1
+answered : {T : Type 0} (i : InterfaceView) (now : Moment) (r : Result T Refusal) (told : T → Answer) (h : SocketsView) (e : table.Event) (answer : Answer) (new : SocketsView) → timing.IsNumbered e → ((latest : Moment) → now.0 ≤ latest.0 → timing.IsUpTo latest e) → IsSizedCall i.routes e → (is_ok r ≡ true → IsAllowed h e) → Answers r told (table.after_event h e) h answer new → IsCalled i now h new
+answered i now (Ok value) told h e answer new small up own allowed meets = inr (e, allowed refl, small, up, meets.1, own)
+answered i now (Err refusal) told h e answer new small up own allowed meets = inl meets.1
 
 -- .. or where it isn't refused
 unrefused : (r : Option Refusal) → is_ok (unless_refused r (tt {0})) ≡ true → r ≡ None
 unrefused None is = refl
 unrefused (Some refusal) is = cc
 
-made : (i : InterfaceView) (kind : Kind) (h : SocketsView) (answer : Answer) (new : SocketsView) → MeetsSocket kind h answer new → IsCalled i h new
-made i Tcp h (reply.Socket id) new meets = inr (table.Makes (room_of h.manner), meets.0, tt, λ latest. tt, meets.2, (tt, room_wide h.manner))
-made i Udp h (reply.Socket id) new meets = inr (table.MakesDatagrams, meets.0, tt, λ latest. tt, meets.2, (tt, tt))
-made i kind h (reply.Refused EMFILE) new meets = inl meets.1
-made i kind h (reply.Refused ENOMEM) new meets = inl meets.1
-made i kind h _ new meets = absurd meets
+made : (i : InterfaceView) (now : Moment) (kind : Kind) (h : SocketsView) (answer : Answer) (new : SocketsView) → MeetsSocket kind h answer new → IsCalled i now h new
+made i now Tcp h (reply.Socket id) new meets = inr (table.Makes (room_of h.manner), meets.0, tt, λ latest up. tt, meets.2, (tt, room_wide h.manner))
+made i now Udp h (reply.Socket id) new meets = inr (table.MakesDatagrams, meets.0, tt, λ latest up. tt, meets.2, (tt, tt))
+made i now kind h (reply.Refused EMFILE) new meets = inl meets.1
+made i now kind h (reply.Refused ENOMEM) new meets = inl meets.1
+made i now kind h _ new meets = absurd meets
 
-read : (i : InterfaceView) (h : SocketsView) (id : SocketId) (len : ℕ) (r : Result Received Refusal) → recv_answer h id len ≡ r → (answer : Answer) (new : SocketsView) → MeetsReceived h id len r answer new → IsCalled i h new
-read i h id len (Ok (received.Octets count)) is (reply.Octets octets) new meets = inr (table.Receives id len, ap is_ok is, tt, λ latest. tt, meets.1, (tt, tt))
-read i h id len (Ok received.EndOfStream) is reply.EndOfStream new meets = inr (table.Receives id len, ap is_ok is, tt, λ latest. tt, meets, (tt, tt))
-read i h id len (Err refusal) is (reply.Refused told) new meets = inl meets.1
-read i h id len _ is _ new meets = absurd meets
+read : (i : InterfaceView) (now : Moment) (h : SocketsView) (id : SocketId) (len : ℕ) (r : Result Received Refusal) → recv_answer h id len ≡ r → (answer : Answer) (new : SocketsView) → MeetsReceived h id len r answer new → IsCalled i now h new
+read i now h id len (Ok (received.Octets count)) is (reply.Octets octets) new meets = inr (table.Receives id len, ap is_ok is, tt, λ latest up. tt, meets.1, (tt, tt))
+read i now h id len (Ok received.EndOfStream) is reply.EndOfStream new meets = inr (table.Receives id len, ap is_ok is, tt, λ latest up. tt, meets, (tt, tt))
+read i now h id len (Err refusal) is (reply.Refused told) new meets = inl meets.1
+read i now h id len _ is _ new meets = absurd meets
 
-read_from : (i : InterfaceView) (h : SocketsView) (id : SocketId) (len : ℕ) (r : Result (ℕ × Endpoint) Refusal) → recvfrom_answer h id len ≡ r → (answer : Answer) (new : SocketsView) → MeetsReceivedFrom h id r answer new → IsCalled i h new
-read_from i h id len (Ok (count, from)) is (reply.Datagram octets told) new meets = inr (table.ReceivesFrom id len, ap is_ok is, tt, λ latest. tt, meets.2, (tt, tt))
-read_from i h id len (Err refusal) is (reply.Refused told) new meets = inl meets.1
-read_from i h id len _ is _ new meets = absurd meets
+read_from : (i : InterfaceView) (now : Moment) (h : SocketsView) (id : SocketId) (len : ℕ) (r : Result (ℕ × Endpoint) Refusal) → recvfrom_answer h id len ≡ r → (answer : Answer) (new : SocketsView) → MeetsReceivedFrom h id r answer new → IsCalled i now h new
+read_from i now h id len (Ok (count, from)) is (reply.Datagram octets told) new meets = inr (table.ReceivesFrom id len, ap is_ok is, tt, λ latest up. tt, meets.2, (tt, tt))
+read_from i now h id len (Err refusal) is (reply.Refused told) new meets = inl meets.1
+read_from i now h id len _ is _ new meets = absurd meets
 
-called : (i : InterfaceView) (c : Call) (h : SocketsView) (answer : Answer) (new : SocketsView) → IsNumberedCall c → MeetsCall (is_routed i) c h answer new → IsCalled i h new
-called i (call.Socket kind) h answer new small meets = made i kind h answer new meets
-called i (call.Bind id local) h answer new small meets = answered i _ _ h (table.Binds id local) answer new tt (λ latest. tt) (tt, tt) (unrefused (bind_refusal h id local)) meets
-called i (call.Listen id backlog) h answer new small meets = answered i _ _ h (table.Listens id backlog) answer new tt (λ latest. tt) (tt, tt) (unrefused (listen_refusal h id backlog)) meets
-called i (call.Accept id) h answer new small meets = answered i (accept_answer h id) _ h (table.Accepts id) answer new tt (λ latest. tt) (tt, tt) (λ taken. taken) meets
-called i (call.Connect isn id peer) h answer new small meets = answered i _ _ h (table.Connects isn.0 id peer (is_routed i peer.addr)) answer new small (λ latest. tt) (refl, tt) (unrefused (connect_refusal h id peer (is_routed i peer.addr))) meets
-called i (call.Send id octets) h answer new small meets = answered i (send_answer h id octets.items) _ h (table.Sends id octets.items) answer new tt (λ latest. tt) (tt, tt) (λ taken. taken) meets
-called i (call.Recv id len) h answer new small meets = read i h id (recv_len len) (recv_answer h id (recv_len len)) refl answer new meets
-called i (call.SendTo id peer octets) h answer new small meets = answered i (sendto_answer h id peer octets.items (is_routed i peer.addr)) _ h (table.SendsTo id peer octets.items (is_routed i peer.addr)) answer new tt (λ latest. tt) (refl, tt) (λ taken. taken) meets
-called i (call.RecvFrom id len) h answer new small meets = read_from i h id (recv_len len) (recvfrom_answer h id (recv_len len)) refl answer new meets
-called i (call.Shutdown id) h answer new small meets = answered i _ _ h (table.Shuts id) answer new tt (λ latest. tt) (tt, tt) (unrefused (shutdown_refusal h id)) meets
-called i (call.SetNoDelay id on) h answer new small meets = answered i _ _ h (table.SetsNoDelay id on) answer new tt (λ latest. tt) (tt, tt) (unrefused (nodelay_refusal h id)) meets
-called i (call.SetKeepAlive id every) h answer new small meets = answered i _ _ h (table.SetsKeepAlive id every) answer new tt (λ latest. tt) (tt, tt) (unrefused (keepalive_refusal h id every)) meets
-called i (call.Close id) h answer new small meets = answered i _ _ h (table.Leaves Close id) answer new tt (λ latest. tt) (tt, tt) (unrefused (close_refusal h id)) meets
-called i (call.Abort id) h answer new small meets = answered i _ _ h (table.Leaves Abort id) answer new tt (λ latest. tt) (tt, tt) (unrefused (close_refusal h id)) meets
-called i (call.State id) h answer new small meets = asked i (state_answer h id) _ h answer new meets
-called i (call.Ready id) h answer new small meets = asked i (readiness h id) _ h answer new meets
-called i (call.Info id) h answer new small meets = asked i (info_answer h id) _ h answer new meets
-called i (call.SockName id) h answer new small meets = asked i (sockname_answer h id) _ h answer new meets
-called i (call.PeerName id) h answer new small meets = asked i (peername_answer h id) _ h answer new meets
+called : (i : InterfaceView) (now : Moment) (c : Call) (h : SocketsView) (answer : Answer) (new : SocketsView) → IsNumberedCall c → MeetsCall (is_routed i) now c h answer new → IsCalled i now h new
+called i now (call.Socket kind) h answer new small meets = made i now kind h answer new meets
+called i now (call.Bind id local) h answer new small meets = answered i now _ _ h (table.Binds id local) answer new tt (λ latest up. tt) (tt, tt) (unrefused (bind_refusal h id local)) meets
+called i now (call.Listen id backlog) h answer new small meets = answered i now _ _ h (table.Listens id backlog) answer new tt (λ latest up. tt) (tt, tt) (unrefused (listen_refusal h id backlog)) meets
+called i now (call.Accept id) h answer new small meets = answered i now (accept_answer h id) _ h (table.Accepts id) answer new tt (λ latest up. tt) (tt, tt) (λ taken. taken) meets
+called i now (call.Connect isn id peer) h answer new small meets = answered i now _ _ h (table.Connects now isn.0 id peer (is_routed i peer.addr)) answer new small (λ latest up. up) (refl, tt) (unrefused (connect_refusal h id peer (is_routed i peer.addr))) meets
+called i now (call.Send id octets) h answer new small meets = answered i now (send_answer h id octets.items) _ h (table.Sends id octets.items) answer new tt (λ latest up. tt) (tt, tt) (λ taken. taken) meets
+called i now (call.Recv id len) h answer new small meets = read i now h id (recv_len len) (recv_answer h id (recv_len len)) refl answer new meets
+called i now (call.SendTo id peer octets) h answer new small meets = answered i now (sendto_answer h id peer octets.items (is_routed i peer.addr)) _ h (table.SendsTo id peer octets.items (is_routed i peer.addr)) answer new tt (λ latest up. tt) (refl, tt) (λ taken. taken) meets
+called i now (call.RecvFrom id len) h answer new small meets = read_from i now h id (recv_len len) (recvfrom_answer h id (recv_len len)) refl answer new meets
+called i now (call.Shutdown id) h answer new small meets = answered i now _ _ h (table.Shuts id) answer new tt (λ latest up. tt) (tt, tt) (unrefused (shutdown_refusal h id)) meets
+called i now (call.SetNoDelay id on) h answer new small meets = answered i now _ _ h (table.SetsNoDelay id on) answer new tt (λ latest up. tt) (tt, tt) (unrefused (nodelay_refusal h id)) meets
+called i now (call.SetKeepAlive id every) h answer new small meets = answered i now _ _ h (table.SetsKeepAlive id every) answer new tt (λ latest up. tt) (tt, tt) (unrefused (keepalive_refusal h id every)) meets
+called i now (call.Close id) h answer new small meets = answered i now _ _ h (table.Leaves Close id) answer new tt (λ latest up. tt) (tt, tt) (unrefused (close_refusal h id)) meets
+called i now (call.Abort id) h answer new small meets = answered i now _ _ h (table.Leaves Abort id) answer new tt (λ latest up. tt) (tt, tt) (unrefused (close_refusal h id)) meets
+called i now (call.State id) h answer new small meets = asked i now (state_answer h id) _ h answer new meets
+called i now (call.Ready id) h answer new small meets = asked i now (readiness h id) _ h answer new meets
+called i now (call.Info id) h answer new small meets = asked i now (info_answer h id) _ h answer new meets
+called i now (call.SockName id) h answer new small meets = asked i now (sockname_answer h id) _ h answer new meets
+called i now (call.PeerName id) h answer new small meets = asked i now (peername_answer h id) _ h answer new meets
 
 -- What an event of a world makes of a host: it stays, or takes one event of its own, and what that delivers is a frame that the event delivered.
 
@@ -165,15 +165,15 @@ IsOwnCall routes (Emits now) = Unit {0}
 abbrev pub IsMoved : NetworkView → Moment → Side → Event → HostView → HostView → Type 0
 IsMoved n latest side happens h new = (new ≡ h) ⊎ ((e : HostEvent) × IsNumbered e × Makes e h new × AreBrought n side happens e × IsUpTo latest e × IsOwnCall h.interface.routes e)
 
-call-moves : (n : NetworkView) (latest : Moment) (s : Side) (c : Call) (h : HostView) (answer : Answer) (new : HostView) → IsNumberedCall c → HostMeetsCall c h answer new → IsMoved n latest s (event.Call s c) h new
-call-moves n latest s c h answer new small meets = by_table (called h.interface c h.sockets answer new.sockets small meets.table)
+call-moves : (n : NetworkView) (now latest : Moment) → now.0 ≤ latest.0 → (s : Side) (c : Call) (h : HostView) (answer : Answer) (new : HostView) → IsNumberedCall c → HostMeetsCall now c h answer new → IsMoved n latest s (event.Call s c) h new
+call-moves n now latest before s c h answer new small meets = by_table (called h.interface now c h.sockets answer new.sockets small meets.table)
   where
     with_table : (t : SocketsView) → new.sockets ≡ t → new ≡ record h { sockets = t }
     with_table t is = meets.others ∙ ap (λ (x : SocketsView). let k : HostView = record h { sockets = x } in k) is
 
-    by_table : IsCalled h.interface h.sockets new.sockets → IsMoved n latest s (event.Call s c) h new
+    by_table : IsCalled h.interface now h.sockets new.sockets → IsMoved n latest s (event.Call s c) h new
     by_table (inl same) = inl (with_table h.sockets same)
-    by_table (inr (e, allowed, numbered, up, is, own)) = inr (Calls e, numbered, (allowed, with_table (table.after_event h.sockets e) is), λ now isn octets none. cc, up latest, own)
+    by_table (inr (e, allowed, numbered, up, is, own)) = inr (Calls e, numbered, (allowed, with_table (table.after_event h.sockets e) is), λ then isn octets none. cc, up latest before, own)
 
 frame-moves : (n : NetworkView) (latest : Moment) (s : Side) (index : ℕ) (number : Seq) (f : Frame) (h : HostView) (now : Moment) (answer : Answer) (new : HostView) → number.0 < 2 ^ 32 → now.0 ≤ latest.0 → slice_get n.frames index ≡ Some f
     → MeetsFrame h now number.0 f.octets.items answer new → IsMoved n latest s (event.Deliver s index number) h new
@@ -188,7 +188,7 @@ frame-moves n latest s index number f h now answer new small up there meets = by
     by_answer _ meets = absurd meets
 
 own-moves : (happens : Event) (place : ℕ) (answer : Answer) (n m : NetworkView) → world.IsNumbered happens → Steps happens place answer n m → IsMoved n (clock_of m (side_of happens)) (side_of happens) happens (host_of n (side_of happens)) (host_of m (side_of happens))
-own-moves (event.Call s c) place answer n m small step = call-moves n (clock_of m s) s c (host_of n s) answer (host_of m s) small step.0
+own-moves (event.Call s c) place answer n m small step = call-moves n (clock_of n s) (clock_of m s) (clock-goes-on (event.Call s c) place answer n m step s) s c (host_of n s) answer (host_of m s) small step.0
 own-moves (event.Tick s moment) place answer n m small step =
     inr (Ticks moment, tt, ap (λ (k : NetworkView). host_of k s) step.1 ∙ own-with n s (station_after_tick (station_of n s) moment), λ now isn octets none. cc, tick-told s moment place answer n m step, tt)
 own-moves (event.Emit s) place answer n m small step = by_answer answer step

@@ -102,31 +102,31 @@ MeetsReceivedFrom h id (Ok (count, from)) (reply.Datagram octets told) new = (oc
 MeetsReceivedFrom h id (Err refusal) (reply.Refused told) new = (told ≡ refusal) × (new ≡ h)
 MeetsReceivedFrom h id _ _ new = ⊥
 
--- what is answered to a call, and what the table becomes, where it is told to which addresses a route leads
-abbrev pub MeetsCall : (Addr → Bool) → Call → SocketsView → Answer → SocketsView → Type 0
-MeetsCall routed (call.Socket kind) h answer new = MeetsSocket kind h answer new
-MeetsCall routed (call.Bind id local) h answer new = Answers (unless_refused (bind_refusal h id local) (tt {0})) (λ _. reply.Done) (after_bind h id local) h answer new
-MeetsCall routed (call.Listen id backlog) h answer new = Answers (unless_refused (listen_refusal h id backlog) (tt {0})) (λ _. reply.Done) (after_listen h id backlog) h answer new
-MeetsCall routed (call.Accept id) h answer new = Answers (accept_answer h id) (λ p. reply.Accepted p.0 p.1) (after_accept h id) h answer new
-MeetsCall routed (call.Connect isn id peer) h answer new = Answers (unless_refused (connect_refusal h id peer (routed peer.addr)) (tt {0})) (λ _. reply.Started) (after_connect h isn.0 id peer (routed peer.addr)) h answer new
-MeetsCall routed (call.Send id octets) h answer new = Answers (send_answer h id octets.items) (λ count. reply.Sent count) (after_send h id octets.items) h answer new
-MeetsCall routed (call.Recv id len) h answer new = MeetsReceived h id (recv_len len) (recv_answer h id (recv_len len)) answer new
-MeetsCall routed (call.SendTo id peer octets) h answer new = Answers (sendto_answer h id peer octets.items (routed peer.addr)) (λ count. reply.Sent count) (after_sendto h id peer octets.items (routed peer.addr)) h answer new
-MeetsCall routed (call.RecvFrom id len) h answer new = MeetsReceivedFrom h id (recvfrom_answer h id (recv_len len)) answer new
-MeetsCall routed (call.Shutdown id) h answer new = Answers (unless_refused (shutdown_refusal h id) (tt {0})) (λ _. reply.Done) (after_shutdown h id) h answer new
-MeetsCall routed (call.SetNoDelay id on) h answer new = Answers (unless_refused (nodelay_refusal h id) (tt {0})) (λ _. reply.Done) (after_nodelay h id on) h answer new
-MeetsCall routed (call.SetKeepAlive id every) h answer new = Answers (unless_refused (keepalive_refusal h id every) (tt {0})) (λ _. reply.Done) (after_keepalive h id every) h answer new
-MeetsCall routed (call.Close id) h answer new = Answers (unless_refused (close_refusal h id) (tt {0})) (λ _. reply.Done) (after_close h id) h answer new
-MeetsCall routed (call.Abort id) h answer new = Answers (unless_refused (close_refusal h id) (tt {0})) (λ _. reply.Done) (after_abort h id) h answer new
-MeetsCall routed (call.State id) h answer new = Answers (state_answer h id) (λ state. reply.State state) h h answer new
-MeetsCall routed (call.Ready id) h answer new = Answers (readiness h id) (λ ready. reply.Ready ready) h h answer new
-MeetsCall routed (call.Info id) h answer new = Answers (info_answer h id) (λ info. reply.Info info) h h answer new
-MeetsCall routed (call.SockName id) h answer new = Answers (sockname_answer h id) (λ local. reply.Endpoint local) h h answer new
-MeetsCall routed (call.PeerName id) h answer new = Answers (peername_answer h id) (λ peer. reply.Endpoint peer) h h answer new
+-- what is answered to a call at a moment, and what the table becomes, where it is told to which addresses a route leads
+abbrev pub MeetsCall : (Addr → Bool) → Moment → Call → SocketsView → Answer → SocketsView → Type 0
+MeetsCall routed now (call.Socket kind) h answer new = MeetsSocket kind h answer new
+MeetsCall routed now (call.Bind id local) h answer new = Answers (unless_refused (bind_refusal h id local) (tt {0})) (λ _. reply.Done) (after_bind h id local) h answer new
+MeetsCall routed now (call.Listen id backlog) h answer new = Answers (unless_refused (listen_refusal h id backlog) (tt {0})) (λ _. reply.Done) (after_listen h id backlog) h answer new
+MeetsCall routed now (call.Accept id) h answer new = Answers (accept_answer h id) (λ p. reply.Accepted p.0 p.1) (after_accept h id) h answer new
+MeetsCall routed now (call.Connect isn id peer) h answer new = Answers (unless_refused (connect_refusal h id peer (routed peer.addr)) (tt {0})) (λ _. reply.Started) (after_connect h now isn.0 id peer (routed peer.addr)) h answer new
+MeetsCall routed now (call.Send id octets) h answer new = Answers (send_answer h id octets.items) (λ count. reply.Sent count) (after_send h id octets.items) h answer new
+MeetsCall routed now (call.Recv id len) h answer new = MeetsReceived h id (recv_len len) (recv_answer h id (recv_len len)) answer new
+MeetsCall routed now (call.SendTo id peer octets) h answer new = Answers (sendto_answer h id peer octets.items (routed peer.addr)) (λ count. reply.Sent count) (after_sendto h id peer octets.items (routed peer.addr)) h answer new
+MeetsCall routed now (call.RecvFrom id len) h answer new = MeetsReceivedFrom h id (recvfrom_answer h id (recv_len len)) answer new
+MeetsCall routed now (call.Shutdown id) h answer new = Answers (unless_refused (shutdown_refusal h id) (tt {0})) (λ _. reply.Done) (after_shutdown h id) h answer new
+MeetsCall routed now (call.SetNoDelay id on) h answer new = Answers (unless_refused (nodelay_refusal h id) (tt {0})) (λ _. reply.Done) (after_nodelay h id on) h answer new
+MeetsCall routed now (call.SetKeepAlive id every) h answer new = Answers (unless_refused (keepalive_refusal h id every) (tt {0})) (λ _. reply.Done) (after_keepalive h id every) h answer new
+MeetsCall routed now (call.Close id) h answer new = Answers (unless_refused (close_refusal h id) (tt {0})) (λ _. reply.Done) (after_close h id) h answer new
+MeetsCall routed now (call.Abort id) h answer new = Answers (unless_refused (close_refusal h id) (tt {0})) (λ _. reply.Done) (after_abort h id) h answer new
+MeetsCall routed now (call.State id) h answer new = Answers (state_answer h id) (λ state. reply.State state) h h answer new
+MeetsCall routed now (call.Ready id) h answer new = Answers (readiness h id) (λ ready. reply.Ready ready) h h answer new
+MeetsCall routed now (call.Info id) h answer new = Answers (info_answer h id) (λ info. reply.Info info) h h answer new
+MeetsCall routed now (call.SockName id) h answer new = Answers (sockname_answer h id) (λ local. reply.Endpoint local) h h answer new
+MeetsCall routed now (call.PeerName id) h answer new = Answers (peername_answer h id) (λ peer. reply.Endpoint peer) h h answer new
 
--- a call is of the table alone, and its interface says where a route leads
-pub record HostMeetsCall (c : Call) (h : HostView) (answer : Answer) (new : HostView) : Type 0 where
-  pub table : MeetsCall (is_routed h.interface) c h.sockets answer new.sockets
+-- a call at a moment is of the table alone, and its interface says where a route leads
+pub record HostMeetsCall (now : Moment) (c : Call) (h : HostView) (answer : Answer) (new : HostView) : Type 0 where
+  pub table : MeetsCall (is_routed h.interface) now c h.sockets answer new.sockets
   pub others : new ≡ record h { sockets = new.sockets }
 
 -- an opening is added, if there is one, with nothing counted yet
@@ -191,7 +191,7 @@ MeetsEmission side _ old new = ⊥
 
 -- what an event, answered so, makes of the network; its place in the trace is given
 abbrev pub Steps : Event → ℕ → Answer → NetworkView → NetworkView → Type 0
-Steps (event.Call side c) place answer old new = HostMeetsCall c (host_of old side) answer (host_of new side) × (new ≡ after_call side c answer place old (host_of new side))
+Steps (event.Call side c) place answer old new = HostMeetsCall (clock_of old side) c (host_of old side) answer (host_of new side) × (new ≡ after_call side c answer place old (host_of new side))
 Steps (event.Tick side moment) place answer old new = (answer ≡ reply.Done) × (new ≡ with_station old side (station_after_tick (station_of old side) moment))
 Steps (event.Emit side) place answer old new = MeetsEmission side answer old new
 Steps (event.Deliver side index isn) place answer old new = DeliversFrame side isn.0 place answer old new (slice_get old.frames index)

@@ -53,6 +53,31 @@ const SYN_IS_GIVEN_UP: &[Step] = &[
     (A, Act::Emit(None)),
 ];
 
+/// A host that was never ticked connects where its clock stands at a thousand seconds. The tick right after gives nothing up: the SYN waits for
+/// its hop from then on, for as long as any, and goes out.
+const CONNECTS_LATE: &[Step] = &[
+    (
+        A,
+        Act::ConnectAt(1_000_000, 4_294_967_295, ONE, SERVER, Ok(())),
+    ),
+    (A, Act::Deadline(Some(Moment(1_483_000)))),
+    (A, Act::Tick(1_000_000)),
+    (A, Act::State(ONE, Ok(Stream(State::SynSent)))),
+    (A, Act::Info(ONE, Ok((None, 0)))),
+    (A, Act::Sends(REQUEST)),
+    (A, Act::Hear(0, REPLY, Ok(()))),
+    (A, Act::Sends(SYN)),
+    (A, Act::Deadline(Some(Moment(1_001_000)))),
+];
+
+/// A tick that came before counts from its own moment, where that is later.
+const CONNECTS_EARLY: &[Step] = &[
+    (A, Act::Tick(1_000_000)),
+    (A, Act::ConnectAt(1, 5, ONE, SERVER, Ok(()))),
+    (A, Act::Deadline(Some(Moment(1_483_000)))),
+    (A, Act::State(ONE, Ok(Stream(State::SynSent)))),
+];
+
 /// Eight SYNs from a host that answers no request leave a listener no place for three seconds.
 const FLOOD: &[Step] = &[
     (B, Act::Socket(ONE)),
@@ -222,6 +247,16 @@ pub(super) const SCENARIOS: &[Scenario] = &[
         name: "a SYN waits for its hop for 483 seconds at most",
         hosts: FRESH,
         parts: &[LISTENING, SYN_IS_GIVEN_UP],
+    },
+    Scenario {
+        name: "a connection opens at its own moment",
+        hosts: FRESH,
+        parts: &[LISTENING, CONNECTS_LATE],
+    },
+    Scenario {
+        name: "a connection opens no earlier than the last tick",
+        hosts: FRESH,
+        parts: &[LISTENING, CONNECTS_EARLY],
     },
     Scenario {
         name: "silent hosts leave a listener no place for three seconds",

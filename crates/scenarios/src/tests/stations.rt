@@ -68,7 +68,7 @@ pub(super) enum Side {
 /// Octets of a frame that are others, by place.
 pub(super) type Changes = &'static [(usize, u8)];
 
-/// What is done at a host, or asked of it, and the answer. All is done at moment 0, but for a tick, and moments are in milliseconds.
+/// What is done at a host, or asked of it, and the answer. All is done at moment 0, but for a tick and `ConnectAt`, and moments are in milliseconds.
 #[derive(Clone, Copy)]
 pub(super) enum Act {
     /// Makes a TCP socket, with this id.
@@ -83,6 +83,8 @@ pub(super) enum Act {
     Accept(SocketId, SocketId, Endpoint),
     /// Opens a connection with this initial number to a peer.
     Connect(u32, SocketId, Endpoint, Result<(), Refusal>),
+    /// The same, at this moment.
+    ConnectAt(u64, u32, SocketId, Endpoint, Result<(), Refusal>),
     /// Writes octets: how many are taken.
     Send(SocketId, &'static [u8], Result<usize, Refusal>),
     /// Writes octets until no more are taken: so many are.
@@ -307,12 +309,13 @@ impl Station {
 
     fn connects(
         &mut self,
+        now: u64,
         isn: u32,
         id: SocketId,
         peer: Endpoint,
         want: Result<(), Refusal>,
     ) -> bool {
-        self.host.connect(Moment(0), Seq(isn), id, peer) == want
+        self.host.connect(Moment(now), Seq(isn), id, peer) == want
     }
 
     fn sends(&mut self, id: SocketId, octets: &[u8], want: Result<usize, Refusal>) -> bool {
@@ -459,7 +462,8 @@ pub(super) fn is_answered(station: &mut Station, other: &mut Station, act: Act) 
         Act::Bind(id, local, want) => station.binds(id, local, want),
         Act::Listen(id, backlog) => station.listens(id, backlog),
         Act::Accept(id, accepted, peer) => station.accepts(id, accepted, peer),
-        Act::Connect(isn, id, peer, want) => station.connects(isn, id, peer, want),
+        Act::Connect(isn, id, peer, want) => station.connects(0, isn, id, peer, want),
+        Act::ConnectAt(now, isn, id, peer, want) => station.connects(now, isn, id, peer, want),
         Act::Send(id, octets, want) => station.sends(id, octets, want),
         Act::Fill(id, want) => station.fills(id, want),
         Act::Recv(id, want) => station.reads(id, want),

@@ -8,6 +8,7 @@ use Rattle.tcp_segment.specs.declared.seq.Seq.{Seq}
 use Rattle.tcp_state.specs.declared.calls.Refusal.{Refusal as ConnectionRefusal}
 use Rattle.tcp_state.specs.declared.calls.Refusal.TheVariants as connection
 use Rattle.tcp_state.specs.Calls.{unless_pending, send_count}
+use Rattle.clock.specs.declared.moment.Moment.{Moment}
 use Rattle.sockets.specs.declared.entry.Entry.{Entry}
 use Rattle.sockets.specs.declared.entry.SocketId.{SocketId}
 use Rattle.sockets.specs.declared.role.Role.{Role}
@@ -110,27 +111,27 @@ connect-grows side isn id peer place i n answer next old new (Err e) meets =
     subst (λ a. count_at (after_call side (call.Connect isn id peer) a place n new) i ≤ count_at n i + most_held) (sym meets.0) (kept-grows n side new i)
 
 -- what a call makes of the counts
-called-grows : (side : Side) (c : Call) (place i : ℕ) (n : NetworkView) (answer : Answer) (routed : Addr → Bool) (new : HostView) → IsSoundTable (table_of n side) → MeetsCall routed c (table_of n side) answer new.sockets → count_at (after_call side c answer place n new) i ≤ count_at n i + most_held
-called-grows side (call.Socket kind) place i n answer routed new sound meets = kept-grows n side new i
-called-grows side (call.Bind id local) place i n answer routed new sound meets = kept-grows n side new i
-called-grows side (call.Listen id backlog) place i n answer routed new sound meets = kept-grows n side new i
-called-grows side (call.Accept id) place i n answer routed new sound meets = kept-grows n side new i
-called-grows side (call.Connect isn id peer) place i n answer routed new sound meets = connect-grows side isn id peer place i n answer _ _ new _ meets
-called-grows side (call.Send id octets) place i n answer routed new sound meets =
+called-grows : (side : Side) (c : Call) (place i : ℕ) (n : NetworkView) (answer : Answer) (routed : Addr → Bool) (now : Moment) (new : HostView) → IsSoundTable (table_of n side) → MeetsCall routed now c (table_of n side) answer new.sockets → count_at (after_call side c answer place n new) i ≤ count_at n i + most_held
+called-grows side (call.Socket kind) place i n answer routed now new sound meets = kept-grows n side new i
+called-grows side (call.Bind id local) place i n answer routed now new sound meets = kept-grows n side new i
+called-grows side (call.Listen id backlog) place i n answer routed now new sound meets = kept-grows n side new i
+called-grows side (call.Accept id) place i n answer routed now new sound meets = kept-grows n side new i
+called-grows side (call.Connect isn id peer) place i n answer routed now new sound meets = connect-grows side isn id peer place i n answer _ _ new _ meets
+called-grows side (call.Send id octets) place i n answer routed now new sound meets =
     send-grows side id octets place i n answer _ _ new _ (λ v. took (table_of n side) id octets.items v _ sound refl) meets
-called-grows side (call.Recv id len) place i n answer routed new sound meets = kept-grows n side new i
-called-grows side (call.SendTo id peer octets) place i n answer routed new sound meets = kept-grows n side new i
-called-grows side (call.RecvFrom id len) place i n answer routed new sound meets = kept-grows n side new i
-called-grows side (call.Shutdown id) place i n answer routed new sound meets = kept-grows n side new i
-called-grows side (call.SetNoDelay id on) place i n answer routed new sound meets = kept-grows n side new i
-called-grows side (call.SetKeepAlive id every) place i n answer routed new sound meets = kept-grows n side new i
-called-grows side (call.Close id) place i n answer routed new sound meets = kept-grows n side new i
-called-grows side (call.Abort id) place i n answer routed new sound meets = kept-grows n side new i
-called-grows side (call.State id) place i n answer routed new sound meets = kept-grows n side new i
-called-grows side (call.Ready id) place i n answer routed new sound meets = kept-grows n side new i
-called-grows side (call.Info id) place i n answer routed new sound meets = kept-grows n side new i
-called-grows side (call.SockName id) place i n answer routed new sound meets = kept-grows n side new i
-called-grows side (call.PeerName id) place i n answer routed new sound meets = kept-grows n side new i
+called-grows side (call.Recv id len) place i n answer routed now new sound meets = kept-grows n side new i
+called-grows side (call.SendTo id peer octets) place i n answer routed now new sound meets = kept-grows n side new i
+called-grows side (call.RecvFrom id len) place i n answer routed now new sound meets = kept-grows n side new i
+called-grows side (call.Shutdown id) place i n answer routed now new sound meets = kept-grows n side new i
+called-grows side (call.SetNoDelay id on) place i n answer routed now new sound meets = kept-grows n side new i
+called-grows side (call.SetKeepAlive id every) place i n answer routed now new sound meets = kept-grows n side new i
+called-grows side (call.Close id) place i n answer routed now new sound meets = kept-grows n side new i
+called-grows side (call.Abort id) place i n answer routed now new sound meets = kept-grows n side new i
+called-grows side (call.State id) place i n answer routed now new sound meets = kept-grows n side new i
+called-grows side (call.Ready id) place i n answer routed now new sound meets = kept-grows n side new i
+called-grows side (call.Info id) place i n answer routed now new sound meets = kept-grows n side new i
+called-grows side (call.SockName id) place i n answer routed now new sound meets = kept-grows n side new i
+called-grows side (call.PeerName id) place i n answer routed now new sound meets = kept-grows n side new i
 
 -- what a frame makes of them
 delivered-grows : (side : Side) (place i : ℕ) (o : Option Note) (n : NetworkView) (new : HostView) → count_at (after_delivery side place o n new) i ≤ count_at n i + most_held
@@ -174,7 +175,7 @@ sound-tables n a b B = b.table
 
 pub Steps-grows : (event : Event) (place i : ℕ) (answer : Answer) (old new : NetworkView) → AreSoundTables old → Steps event place answer old new → count_at new i ≤ count_at old i + most_held
 Steps-grows (event.Call side c) place i answer old new sound steps =
-    omega (arith, ap (λ m. count_at m i) steps.1, called-grows side c place i old answer _ (host_of new side) (sound side) steps.0.table)
+    omega (arith, ap (λ m. count_at m i) steps.1, called-grows side c place i old answer _ _ (host_of new side) (sound side) steps.0.table)
 Steps-grows (event.Tick side moment) place i answer old new sound steps =
     omega (arith, ap (λ m. count_at m i) steps.1, with_station-written old side (station_after_tick (station_of old side) moment) i)
 Steps-grows (event.Emit side) place i answer old new sound steps = emitted-grows side place i answer old new steps

@@ -1,6 +1,7 @@
 -- What a call makes of a table that keeps to what was accepted.
 use Rattle.std.proofs.Common.{◌≡◌, inl, inr, Bool, List, [], ◌++◌, length, append-nil, refl, sym, subst}
 use Rattle.ipv4.specs.declared.addr.Addr.{Addr}
+use Rattle.clock.specs.declared.moment.Moment.{Moment}
 use Rattle.sockets.specs.Info.{info_answer}
 use Rattle.sockets.specs.Ready.{readiness}
 use Rattle.sockets.specs.declared.role.Leave.TheVariants.{Close, Abort}
@@ -30,38 +31,38 @@ unadded : (own other : List Accepted) (old new : SocketsView) → IsTableOf own 
 unadded own other old new t same = subst (λ xs. IsTableOf xs other new) (sym (append-nil own)) (subst (IsTableOf own other) (sym same) t)
 
 -- every call
-pub call-kept : (own other : List Accepted) (routed : Addr → Bool) (c : Call) (old new : SocketsView) (answer : Answer) → length old.addr.0 ≡ 4 → IsNumberedCall c → MeetsCall routed c old answer new → IsTableOf own other old → StaysOf own other c answer old new
-call-kept own other routed (call.Socket kind) old new answer width numbered m t =
+pub call-kept : (own other : List Accepted) (routed : Addr → Bool) (now : Moment) (c : Call) (old new : SocketsView) (answer : Answer) → length old.addr.0 ≡ 4 → IsNumberedCall c → MeetsCall routed now c old answer new → IsTableOf own other old → StaysOf own other c answer old new
+call-kept own other routed now (call.Socket kind) old new answer width numbered m t =
     elim (socket_outcome kind old answer new m) [
       | inl made ↦ unadded own other new new (kept-made own other kind old new made t) refl
       | inr same ↦ unadded own other old new t same
     ]
-call-kept own other routed (call.Bind id local) old new answer width numbered m t =
+call-kept own other routed now (call.Bind id local) old new answer width numbered m t =
     elim (outcome (unless_refused (bind_refusal old id local) (tt {0})) (λ _. reply.Done) (after_bind old id local) old answer new m) [
       | inl x ↦ unadded own other (after_bind old id local) new (kept-bind own other old id local numbered.port t) x.3
       | inr x ↦ unadded own other old new t x.3
     ]
-call-kept own other routed (call.Listen id backlog) old new answer width numbered m t =
+call-kept own other routed now (call.Listen id backlog) old new answer width numbered m t =
     elim (outcome (unless_refused (listen_refusal old id backlog) (tt {0})) (λ _. reply.Done) (after_listen old id backlog) old answer new m) [
       | inl x ↦ unadded own other (after_listen old id backlog) new (kept-listen own other old id backlog t) x.3
       | inr x ↦ unadded own other old new t x.3
     ]
-call-kept own other routed (call.Accept id) old new answer width numbered m t =
+call-kept own other routed now (call.Accept id) old new answer width numbered m t =
     elim (outcome (accept_answer old id) (λ p. reply.Accepted p.0 p.1) (after_accept old id) old answer new m) [
       | inl x ↦ unadded own other (after_accept old id) new (kept-accept own other old id t) x.3
       | inr x ↦ unadded own other old new t x.3
     ]
-call-kept own other routed (call.Connect isn id peer) old new answer width numbered m t =
-    elim (outcome (unless_refused (connect_refusal old id peer (routed peer.addr)) (tt {0})) (λ _. reply.Started) (after_connect old isn.0 id peer (routed peer.addr)) old answer new m) [
-      | inl x ↦ unadded own other (after_connect old isn.0 id peer (routed peer.addr)) new (kept-connect own other old isn.0 id peer (routed peer.addr) t) x.3
+call-kept own other routed now (call.Connect isn id peer) old new answer width numbered m t =
+    elim (outcome (unless_refused (connect_refusal old id peer (routed peer.addr)) (tt {0})) (λ _. reply.Started) (after_connect old now isn.0 id peer (routed peer.addr)) old answer new m) [
+      | inl x ↦ unadded own other (after_connect old now isn.0 id peer (routed peer.addr)) new (kept-connect own other old now isn.0 id peer (routed peer.addr) t) x.3
       | inr x ↦ unadded own other old new t x.3
     ]
-call-kept own other routed (call.Send id octets) old new answer width numbered m t =
+call-kept own other routed now (call.Send id octets) old new answer width numbered m t =
     elim (outcome (send_answer old id octets.items) (λ count. reply.Sent count) (after_send old id octets.items) old answer new m) [
       | inl x ↦ unadded own other (after_send old id octets.items) new (kept-send own other old id octets.items t) x.3
       | inr x ↦ unadded own other old new t x.3
     ]
-call-kept own other routed (call.Recv id len) old new answer width numbered m t =
+call-kept own other routed now (call.Recv id len) old new answer width numbered m t =
     elim (recv_outcome old id (recv_len len) answer new m) [
       | inl r ↦ unadded own other (after_recv old id (recv_len len)) new (kept-recv own other old id (recv_len len) t) r.becomes
       | inr y ↦ elim y [
@@ -69,7 +70,7 @@ call-kept own other routed (call.Recv id len) old new answer width numbered m t 
         | inr x ↦ unadded own other old new t x.2
       ]
     ]
-call-kept own other routed (call.SendTo id peer octets) old new answer width numbered m t =
+call-kept own other routed now (call.SendTo id peer octets) old new answer width numbered m t =
     let given = after_sendto old id peer octets.items (routed peer.addr) in
     elim (outcome (sendto_answer old id peer octets.items (routed peer.addr)) (λ count. reply.Sent count) given old answer new m) [
       | inl x ↦
@@ -79,57 +80,57 @@ call-kept own other routed (call.SendTo id peer octets) old new answer width num
       | inr x ↦
           subst (λ r. StaysOf own other (call.SendTo id peer octets) r old new) (sym x.2) (unadded own other old new t x.3)
     ]
-call-kept own other routed (call.RecvFrom id len) old new answer width numbered m t =
+call-kept own other routed now (call.RecvFrom id len) old new answer width numbered m t =
     elim (recvfrom_outcome old id (recvfrom_answer old id (recv_len len)) answer new m) [
       | inl same ↦ unadded own other (after_recvfrom old id) new (kept-recvfrom own other old id t) same
       | inr same ↦ unadded own other old new t same
     ]
-call-kept own other routed (call.Shutdown id) old new answer width numbered m t =
+call-kept own other routed now (call.Shutdown id) old new answer width numbered m t =
     elim (outcome (unless_refused (shutdown_refusal old id) (tt {0})) (λ _. reply.Done) (after_shutdown old id) old answer new m) [
       | inl x ↦ unadded own other (after_shutdown old id) new (kept-shutdown own other old id t) x.3
       | inr x ↦ unadded own other old new t x.3
     ]
-call-kept own other routed (call.SetNoDelay id on) old new answer width numbered m t =
+call-kept own other routed now (call.SetNoDelay id on) old new answer width numbered m t =
     elim (outcome (unless_refused (nodelay_refusal old id) (tt {0})) (λ _. reply.Done) (after_nodelay old id on) old answer new m) [
       | inl x ↦ unadded own other (after_nodelay old id on) new (kept-nodelay own other old id on t) x.3
       | inr x ↦ unadded own other old new t x.3
     ]
-call-kept own other routed (call.SetKeepAlive id every) old new answer width numbered m t =
+call-kept own other routed now (call.SetKeepAlive id every) old new answer width numbered m t =
     elim (outcome (unless_refused (keepalive_refusal old id every) (tt {0})) (λ _. reply.Done) (after_keepalive old id every) old answer new m) [
       | inl x ↦ unadded own other (after_keepalive old id every) new (kept-keepalive own other old id every t) x.3
       | inr x ↦ unadded own other old new t x.3
     ]
-call-kept own other routed (call.Close id) old new answer width numbered m t =
+call-kept own other routed now (call.Close id) old new answer width numbered m t =
     elim (outcome (unless_refused (close_refusal old id) (tt {0})) (λ _. reply.Done) (after_close old id) old answer new m) [
       | inl x ↦ unadded own other (after_close old id) new (kept-leaving own other old Close id t) x.3
       | inr x ↦ unadded own other old new t x.3
     ]
-call-kept own other routed (call.Abort id) old new answer width numbered m t =
+call-kept own other routed now (call.Abort id) old new answer width numbered m t =
     elim (outcome (unless_refused (close_refusal old id) (tt {0})) (λ _. reply.Done) (after_abort old id) old answer new m) [
       | inl x ↦ unadded own other (after_abort old id) new (kept-leaving own other old Abort id t) x.3
       | inr x ↦ unadded own other old new t x.3
     ]
-call-kept own other routed (call.State id) old new answer width numbered m t =
+call-kept own other routed now (call.State id) old new answer width numbered m t =
     elim (outcome (state_answer old id) (λ s. reply.State s) old old answer new m) [
       | inl x ↦ unadded own other old new t x.3
       | inr x ↦ unadded own other old new t x.3
     ]
-call-kept own other routed (call.Ready id) old new answer width numbered m t =
+call-kept own other routed now (call.Ready id) old new answer width numbered m t =
     elim (outcome (readiness old id) (λ s. reply.Ready s) old old answer new m) [
       | inl x ↦ unadded own other old new t x.3
       | inr x ↦ unadded own other old new t x.3
     ]
-call-kept own other routed (call.Info id) old new answer width numbered m t =
+call-kept own other routed now (call.Info id) old new answer width numbered m t =
     elim (outcome (info_answer old id) (λ s. reply.Info s) old old answer new m) [
       | inl x ↦ unadded own other old new t x.3
       | inr x ↦ unadded own other old new t x.3
     ]
-call-kept own other routed (call.SockName id) old new answer width numbered m t =
+call-kept own other routed now (call.SockName id) old new answer width numbered m t =
     elim (outcome (sockname_answer old id) (λ e. reply.Endpoint e) old old answer new m) [
       | inl x ↦ unadded own other old new t x.3
       | inr x ↦ unadded own other old new t x.3
     ]
-call-kept own other routed (call.PeerName id) old new answer width numbered m t =
+call-kept own other routed now (call.PeerName id) old new answer width numbered m t =
     elim (outcome (peername_answer old id) (λ e. reply.Endpoint e) old old answer new m) [
       | inl x ↦ unadded own other old new t x.3
       | inr x ↦ unadded own other old new t x.3

@@ -195,7 +195,7 @@ hosts-called hs ts own other old new place c answer opposite numbered sound step
     let left = call-leaves hs ts c answer place old host' opposite in
     let width : length host.sockets.addr.0 ≡ 4 = ap (λ (x : Addr). length x.0) (sym sound.own) ∙ sound.interface.addr in
     hosts-of hs ts (own ++ more) other host' (host_of old ts) old.frames new refl (ap (λ m. host_of m ts) step.1 ∙ left.other) (ap (λ (m : NetworkView). m.frames) step.1 ∙ left.frames)
-    (host-step own other more host host' (λ heard t. call-kept own heard (is_routed host.interface) c host.sockets host'.sockets answer width numbered step.0.table t)
+    (host-step own other more host host' (λ heard t. call-kept own heard (is_routed host.interface) _ c host.sockets host'.sockets answer width numbered step.0.table t)
     (λ pool. subst (IsPoolOf other) (sym (ap (λ (x : HostView). x.pool) step.0.others)) pool) w.here)
     (host-more other own more (host_of old ts) w.there)
     (All-weaker (IsFrameOf hs ts own other) (IsFrameOf hs ts (own ++ more) other) (frame-more hs ts own other more) old.frames w.frames)

@@ -3,6 +3,7 @@ use Rattle.std.proofs.Common.{◌≡◌, ℕ, Bool, List, [], ◌++◌, append-n
 use Rattle.std.proofs.lemmas.List.Elements.{All-nil, All-cons, All-append, All-weaker}
 use Rattle.ipv4.specs.declared.addr.Addr.{Addr}
 use Rattle.ipv4.specs.declared.addr.Endpoint.{Endpoint}
+use Rattle.clock.specs.declared.moment.Moment.{Moment}
 use Rattle.sockets.specs.declared.refusal.Refusal.{Refusal}
 use Rattle.sockets.specs.Datagrams.{recvfrom_answer}
 use Rattle.sockets.specs.SocketsView.{SocketsView}
@@ -81,8 +82,8 @@ was-accepted_more : (accepted more : List Accepted) (r : ReadDatagram) → WasAc
 was-accepted_more accepted more r (octets, came, is) = (octets, still _ accepted more came, is)
 
 -- by a call of a table that keeps to what was accepted
-read-call : (own other : List Accepted) (routed : Addr → Bool) (c : Call) (answer : Answer) (old new : SocketsView) → MeetsCall routed c old answer new → IsTableOf own other old → All (WasAccepted other) (read_by_call c answer old)
-read-call own other routed (call.RecvFrom id len) (reply.Datagram octets told) old new m t = All-cons (WasAccepted other) _ [] (by_answer (recvfrom_answer old id (recv_len len)) refl m) (All-nil (WasAccepted other))
+read-call : (own other : List Accepted) (routed : Addr → Bool) (now : Moment) (c : Call) (answer : Answer) (old new : SocketsView) → MeetsCall routed now c old answer new → IsTableOf own other old → All (WasAccepted other) (read_by_call c answer old)
+read-call own other routed now (call.RecvFrom id len) (reply.Datagram octets told) old new m t = All-cons (WasAccepted other) _ [] (by_answer (recvfrom_answer old id (recv_len len)) refl m) (All-nil (WasAccepted other))
   where
     by_answer : (r : Result (ℕ × Endpoint) Refusal) → recvfrom_answer old id (recv_len len) ≡ r → MeetsReceivedFrom old id r (reply.Datagram octets told) new
         → WasAccepted other (record { local = socket_end old id; from = told; room = recv_len len; octets = octets.items })
@@ -90,13 +91,13 @@ read-call own other routed (call.RecvFrom id len) (reply.Datagram octets told) o
         let one = read-of_one own other old id (recv_len len) count from is t in
         (one.0, subst (λ (x : Endpoint). CameFrom other x (socket_end old id) one.0) (sym m.1) one.1, m.0 ∙ one.2)
     by_answer (Err refusal) is m = absurd m
-read-call own other routed c answer old new m t = All-nil (WasAccepted other)
+read-call own other routed now c answer old new m t = All-nil (WasAccepted other)
 
 -- by an event
 read-event : (accepted : Side → List Accepted) (old new : WorldView) (reader : Side) (happens : Event) (answer : Answer) → IsStep happens answer old new → AreFew (accepted (other_side reader)) → AreHostsOf A B (accepted A) (accepted B) old.network
     → All (WasAccepted (accepted (other_side reader))) (read_by reader happens answer old)
-read-event accepted old new A (event.Call A c) answer step few w = read-call (accepted A) (accepted B) _ c answer (table_of old.network A) (table_of new.network A) step.network.0.table (w.here.few few)
-read-event accepted old new B (event.Call B c) answer step few w = read-call (accepted B) (accepted A) _ c answer (table_of old.network B) (table_of new.network B) step.network.0.table (w.there.few few)
+read-event accepted old new A (event.Call A c) answer step few w = read-call (accepted A) (accepted B) _ _ c answer (table_of old.network A) (table_of new.network A) step.network.0.table (w.here.few few)
+read-event accepted old new B (event.Call B c) answer step few w = read-call (accepted B) (accepted A) _ _ c answer (table_of old.network B) (table_of new.network B) step.network.0.table (w.there.few few)
 read-event accepted old new A (event.Call B c) answer step few w = All-nil (WasAccepted (accepted B))
 read-event accepted old new B (event.Call A c) answer step few w = All-nil (WasAccepted (accepted A))
 read-event accepted old new reader (event.Tick side moment) answer step few w = All-nil (WasAccepted (accepted (other_side reader)))

@@ -7,6 +7,7 @@ use Rattle.ipv4.specs.declared.addr.Addr.{Addr}
 use Rattle.ipv4.specs.declared.addr.Endpoint.{Endpoint}
 use Rattle.tcp_halves.specs.declared.buffers.Manner.{Manner}
 use Rattle.ipv4.specs.Addresses.{same_addr}
+use Rattle.clock.specs.declared.moment.Moment.{Moment}
 use Rattle.sockets.specs.declared.entry.Entry.{Entry}
 use Rattle.sockets.specs.declared.entry.Kind.{Kind}
 use Rattle.sockets.specs.declared.entry.Kind.TheVariants.{Tcp, Udp}
@@ -20,7 +21,7 @@ use Rattle.sockets.specs.Calls.{of_socket, bound_of, last_port_after, IsMade, an
 use Rattle.sockets.specs.Entries.{is_socket, new_socket as new_entry, new_datagram_socket, with_role, role_after_bind, role_after_listen, role_after_connect, role_after_accept, role_after_leaving, role_after_listener_close, listener_close_fate_of, leaving_fate_of, entries_after_step}
 use Rattle.sockets.specs.Lists.{change_first}
 use Rattle.sockets.specs.Ports.{first_port, is_free_datagram_port}
-use Rattle.sockets.specs.SocketsView.{SocketsView, new_sockets, role_of, with_socket, room_of}
+use Rattle.sockets.specs.SocketsView.{SocketsView, new_sockets, later_moment, role_of, with_socket, room_of}
 use Rattle.datagram_law.specs.Accepted.{Accepted, AreInTurn}
 use Rattle.datagram_law.specs.Sockets.{IsSocketOf}
 use Rattle.datagram_law.proofs.Keeping.{new}
@@ -93,20 +94,20 @@ kept-accept own other h id t = record {
 }
 
 -- a port is given, or nothing changes
-pub kept-connect : (own other : List Accepted) (h : SocketsView) (isn : ℕ) (id : SocketId) (peer : Endpoint) (routed : Bool) → IsTableOf own other h
-    → IsTableOf own other (after_connect h isn id peer routed)
-kept-connect own other h isn id peer routed t = by_port (port_connected h id peer routed) refl
+pub kept-connect : (own other : List Accepted) (h : SocketsView) (now : Moment) (isn : ℕ) (id : SocketId) (peer : Endpoint) (routed : Bool) → IsTableOf own other h
+    → IsTableOf own other (after_connect h now isn id peer routed)
+kept-connect own other h now isn id peer routed t = by_port (port_connected h id peer routed) refl
   where
-    by_port : (o : Result ℕ Refusal) → port_connected h id peer routed ≡ o → IsTableOf own other (after_connect h isn id peer routed)
+    by_port : (o : Result ℕ Refusal) → port_connected h id peer routed ≡ o → IsTableOf own other (after_connect h now isn id peer routed)
     by_port (Err refusal) is =
-        let same : after_connect h isn id peer routed ≡ h = rw is in
+        let same : after_connect h now isn id peer routed ≡ h = rw is in
         subst (IsTableOf own other) (sym same) t
     by_port (Ok port) is =
         let local : Endpoint = record { addr = h.addr; port = port } in
         let given : SocketsView = record h { last_port = last_port_after h (option_and_then bound_of (role_of h id)) port } in
-        let same : after_connect h isn id peer routed ≡ with_socket given id (role_after_connect local peer isn h.kept) = rw is in
+        let same : after_connect h now isn id peer routed ≡ with_socket given id (role_after_connect local peer isn (later_moment h now)) = rw is in
         let there : IsTableOf own other given = record { numbered = t.numbered; in_turn = t.in_turn; sockets = t.sockets } in
-        subst (IsTableOf own other) (sym same) (kept-changed own other given id (role_after_connect local peer isn h.kept) (keeps-connecting local peer isn h.kept) there)
+        subst (IsTableOf own other) (sym same) (kept-changed own other given id (role_after_connect local peer isn (later_moment h now)) (keeps-connecting local peer isn (later_moment h now)) there)
 
 -- the port that is asked for, or a dynamic one
 port_at-below : (h : SocketsView) (is_free : ℕ → Bool) (local : Endpoint) (port : ℕ) → local.port < 2 ^ 16 → port_at h is_free local ≡ Ok port → port < 2 ^ 16

@@ -66,7 +66,7 @@ moved-hop leads h e ev id c l where_to sound meets (inl silent) = elim (silent-m
 step-hop : (leads : Addr → Type 0) (h : SocketsView) (e : Event) → GoesWhere leads h e → (x y : Entry) → IsStepOf h e x (Some y) → IsSoundRole x.role → HasHopIn leads x.role → HasHopIn leads y.role
 step-hop leads h e where_to x _ stays sound known = known
 step-hop leads h e where_to _ _ (moves ev id c l meets is) sound known = moved-hop leads h e ev id c l where_to sound.sound meets known
-step-hop leads h _ where_to _ _ (opens isn named peer routed id buffers bound local names) sound known = inl (inl (refl, refl))
+step-hop leads h _ where_to _ _ (opens now isn named peer routed id buffers bound local names) sound known = inl (inl (refl, refl))
 step-hop leads h _ where_to _ _ (accepted named id c l next) sound known = known
 step-hop leads h e where_to _ _ _ sound known = tt
 

@@ -123,34 +123,34 @@ left-keeps own how id accepted pair none =
     in
     unheld-all (listener_close_fate_of id) (role_after_listener_close own.kept id) pair (let w = after_socket_left own how id in w.entries) (unheld_forsaken own.kept id) gone
 
-call-keeps : (routed : Addr → Bool) (c : Call) (answer : Answer) (own own' : SocketsView) → is_connecting c ≡ false → MeetsCall routed c own answer own' → KeepsPairs own own'
-call-keeps routed (call.Socket kind) answer own own' other m =
+call-keeps : (routed : Addr → Bool) (now : Moment) (c : Call) (answer : Answer) (own own' : SocketsView) → is_connecting c ≡ false → MeetsCall routed now c own answer own' → KeepsPairs own own'
+call-keeps routed now (call.Socket kind) answer own own' other m =
     elim (socket_outcome kind own answer own' m) [
       | inl made ↦ made-keeps kind own own' made
       | inr same ↦ keeps-same own own' same
     ]
-call-keeps routed (call.Bind id local) answer own own' other m =
+call-keeps routed now (call.Bind id local) answer own own' other m =
     elim (outcome (unless_refused (bind_refusal own id local) (tt {0})) (λ _. reply.Done) (after_bind own id local) own answer own' m) [
       | inl x ↦ keeps-next own (after_bind own id local) own' x.3 (bound-keeps own id local)
       | inr x ↦ keeps-same own own' x.3
     ]
-call-keeps routed (call.Listen id backlog) answer own own' other m =
+call-keeps routed now (call.Listen id backlog) answer own own' other m =
     elim (outcome (unless_refused (listen_refusal own id backlog) (tt {0})) (λ _. reply.Done) (after_listen own id backlog) own answer own' m) [
       | inl x ↦ keeps-next own (after_listen own id backlog) own' x.3 (λ pair none. unheld-changed (is_socket id) (role_after_listen backlog) pair own.entries (unheld_listening backlog) none)
       | inr x ↦ keeps-same own own' x.3
     ]
-call-keeps routed (call.Accept id) answer own own' other m =
+call-keeps routed now (call.Accept id) answer own own' other m =
     elim (outcome (accept_answer own id) (λ p. reply.Accepted p.0 p.1) (after_accept own id) own answer own' m) [
       | inl x ↦ keeps-next own (after_accept own id) own' x.3 (λ pair none. unheld-changed (is_next_at own id) role_after_accept pair own.entries unheld_accepted none)
       | inr x ↦ keeps-same own own' x.3
     ]
-call-keeps routed (call.Connect isn id peer) answer own own' other m = let bad : true ≡ false = other in cc
-call-keeps routed (call.Send id octets) answer own own' other m =
+call-keeps routed now (call.Connect isn id peer) answer own own' other m = let bad : true ≡ false = other in cc
+call-keeps routed now (call.Send id octets) answer own own' other m =
     elim (outcome (send_answer own id octets.items) (λ count. reply.Sent count) (after_send own id octets.items) own answer own' m) [
       | inl x ↦ keeps-next own (after_send own id octets.items) own' x.3 (λ pair none. unheld-changed (is_socket id) (role_after_send own.kept octets.items) pair own.entries (unheld_sent own.kept octets.items) none)
       | inr x ↦ keeps-same own own' x.3
     ]
-call-keeps routed (call.Recv id len) answer own own' other m = by_outcome (recv_outcome own id (recv_len len) answer own' m)
+call-keeps routed now (call.Recv id len) answer own own' other m = by_outcome (recv_outcome own id (recv_len len) answer own' m)
   where
     reads : own' ≡ after_recv own id (recv_len len) → KeepsPairs own own'
     reads same = keeps-next own (after_recv own id (recv_len len)) own' same (λ pair none. unheld-changed (is_socket id) (role_after_recv (recv_len len)) pair own.entries (unheld_received (recv_len len)) none)
@@ -159,63 +159,63 @@ call-keeps routed (call.Recv id len) answer own own' other m = by_outcome (recv_
     by_outcome (inl x) = reads x.becomes
     by_outcome (inr (inl x)) = reads x.becomes
     by_outcome (inr (inr x)) = keeps-same own own' x.2
-call-keeps routed (call.SendTo id peer octets) answer own own' other m =
+call-keeps routed now (call.SendTo id peer octets) answer own own' other m =
     let reached = routed peer.addr in
     elim (outcome (sendto_answer own id peer octets.items reached) (λ count. reply.Sent count) (after_sendto own id peer octets.items reached) own answer own' m) [
       | inl x ↦ keeps-next own (after_sendto own id peer octets.items reached) own' x.3 (sent_to-keeps own id peer octets.items reached)
       | inr x ↦ keeps-same own own' x.3
     ]
-call-keeps routed (call.RecvFrom id len) answer own own' other m =
+call-keeps routed now (call.RecvFrom id len) answer own own' other m =
     elim (recvfrom_outcome own id (recvfrom_answer own id (recv_len len)) answer own' m) [
       | inl same ↦ keeps-next own (after_recvfrom own id) own' same (λ pair none. unheld-changed (is_socket id) role_after_recvfrom pair own.entries (unheld_datagrams _ _) none)
       | inr same ↦ keeps-same own own' same
     ]
-call-keeps routed (call.Shutdown id) answer own own' other m =
+call-keeps routed now (call.Shutdown id) answer own own' other m =
     elim (outcome (unless_refused (shutdown_refusal own id) (tt {0})) (λ _. reply.Done) (after_shutdown own id) own answer own' m) [
       | inl x ↦ keeps-next own (after_shutdown own id) own' x.3 (λ pair none. unheld-changed (is_socket id) (role_after_shutdown own.kept) pair own.entries (unheld_write_shut own.kept) none)
       | inr x ↦ keeps-same own own' x.3
     ]
-call-keeps routed (call.SetNoDelay id on) answer own own' other m =
+call-keeps routed now (call.SetNoDelay id on) answer own own' other m =
     elim (outcome (unless_refused (nodelay_refusal own id) (tt {0})) (λ _. reply.Done) (after_nodelay own id on) own answer own' m) [
       | inl x ↦ keeps-next own (after_nodelay own id on) own' x.3 (λ pair none. unheld-changed (is_socket id) (role_after_nodelay on own.kept) pair own.entries (unheld_delayed on own.kept) none)
       | inr x ↦ keeps-same own own' x.3
     ]
-call-keeps routed (call.SetKeepAlive id every) answer own own' other m =
+call-keeps routed now (call.SetKeepAlive id every) answer own own' other m =
     elim (outcome (unless_refused (keepalive_refusal own id every) (tt {0})) (λ _. reply.Done) (after_keepalive own id every) own answer own' m) [
       | inl x ↦ keeps-next own (after_keepalive own id every) own' x.3 (λ pair none. unheld-changed (is_socket id) (role_after_keepalive every own.kept) pair own.entries (unheld_asked every own.kept) none)
       | inr x ↦ keeps-same own own' x.3
     ]
-call-keeps routed (call.Close id) answer own own' other m =
+call-keeps routed now (call.Close id) answer own own' other m =
     elim (outcome (unless_refused (close_refusal own id) (tt {0})) (λ _. reply.Done) (after_close own id) own answer own' m) [
       | inl x ↦ keeps-next own (after_close own id) own' x.3 (left-keeps own Close id (not_refused (close_refusal own id) x.0 x.1))
       | inr x ↦ keeps-same own own' x.3
     ]
-call-keeps routed (call.Abort id) answer own own' other m =
+call-keeps routed now (call.Abort id) answer own own' other m =
     elim (outcome (unless_refused (close_refusal own id) (tt {0})) (λ _. reply.Done) (after_abort own id) own answer own' m) [
       | inl x ↦ keeps-next own (after_abort own id) own' x.3 (left-keeps own Abort id (not_refused (close_refusal own id) x.0 x.1))
       | inr x ↦ keeps-same own own' x.3
     ]
-call-keeps routed (call.State id) answer own own' other m =
+call-keeps routed now (call.State id) answer own own' other m =
     elim (outcome (state_answer own id) (λ s. reply.State s) own own answer own' m) [
       | inl x ↦ keeps-same own own' x.3
       | inr x ↦ keeps-same own own' x.3
     ]
-call-keeps routed (call.Ready id) answer own own' other m =
+call-keeps routed now (call.Ready id) answer own own' other m =
     elim (outcome (readiness own id) (λ s. reply.Ready s) own own answer own' m) [
       | inl x ↦ keeps-same own own' x.3
       | inr x ↦ keeps-same own own' x.3
     ]
-call-keeps routed (call.Info id) answer own own' other m =
+call-keeps routed now (call.Info id) answer own own' other m =
     elim (outcome (info_answer own id) (λ s. reply.Info s) own own answer own' m) [
       | inl x ↦ keeps-same own own' x.3
       | inr x ↦ keeps-same own own' x.3
     ]
-call-keeps routed (call.SockName id) answer own own' other m =
+call-keeps routed now (call.SockName id) answer own own' other m =
     elim (outcome (sockname_answer own id) (λ e. reply.Endpoint e) own own answer own' m) [
       | inl x ↦ keeps-same own own' x.3
       | inr x ↦ keeps-same own own' x.3
     ]
-call-keeps routed (call.PeerName id) answer own own' other m =
+call-keeps routed now (call.PeerName id) answer own own' other m =
     elim (outcome (peername_answer own id) (λ e. reply.Endpoint e) own own answer own' m) [
       | inl x ↦ keeps-same own own' x.3
       | inr x ↦ keeps-same own own' x.3
@@ -284,9 +284,10 @@ connect-noted limit hs ts old new isn i peer answer w step x y id free held =
     let host' = host_of new.network hs in
     let routed = is_routed (host_of old.network hs).interface peer.addr in
     let c = call.Connect isn i peer in
-    elim (outcome (unless_refused (connect_refusal own i peer routed) (tt {0})) (λ _. reply.Started) (after_connect own isn.0 i peer routed) own answer own' step.0.table) [
+    let now = clock_of old.network hs in
+    elim (outcome (unless_refused (connect_refusal own i peer routed) (tt {0})) (λ _. reply.Started) (after_connect own now isn.0 i peer routed) own answer own' step.0.table) [
       | inl z ↦
-          let k = connecting-host limit hs ts old.network old.trace w isn i peer (length old.trace) (not_refused (connect_refusal own i peer routed) z.0 z.1) in
+          let k = connecting-host limit hs ts old.network old.trace w now isn i peer (length old.trace) (not_refused (connect_refusal own i peer routed) z.0 z.1) in
           let other = table_of old.network (other_side hs) in
           let o : Opening = record { side = hs; pair = k.pair; epoch = epoch_connected old.network.openings other k.pair; id = i; place = length old.trace } in
           let added : opened_by_connect old.network.openings hs i (length old.trace) own' other ≡ Some o = ap (λ v. opened_by_connect old.network.openings hs i (length old.trace) v other) z.3 ∙ k.opens in
@@ -391,7 +392,7 @@ call-noted : (limit : ℕ) (hs ts : Side) (old new : WorldView) (c : Call) (answ
     → holder_id (table_of old.network hs) (pair_of x y) ≡ None → holder_id (table_of new.network hs) (pair_of x y) ≡ Some id → Noted (event.Call hs c) old new hs (pair_of x y) id
 call-noted limit hs ts old new (call.Connect isn i peer) answer w step x y id free held = connect-noted limit hs ts old new isn i peer answer w step x y id free held
 call-noted limit hs ts old new c answer w step x y id free held =
-    absurd (holds-none (table_of old.network hs) (table_of new.network hs) (pair_of x y) id (call-keeps (is_routed (host_of old.network hs).interface) c answer (table_of old.network hs) (table_of new.network hs) refl step.0.table) free held)
+    absurd (holds-none (table_of old.network hs) (table_of new.network hs) (pair_of x y) id (call-keeps (is_routed (host_of old.network hs).interface) (clock_of old.network hs) c answer (table_of old.network hs) (table_of new.network hs) refl step.0.table) free held)
 
 tick-none : (side : Side) (moment : Moment) (answer : Answer) (place : ℕ) (n m : NetworkView) → Steps (event.Tick side moment) place answer n m → (pair : Pair) (id : SocketId) → holder_id (table_of n side) pair ≡ None → holder_id (table_of m side) pair ≡ Some id → ⊥
 tick-none side moment answer place n m step pair id free held =

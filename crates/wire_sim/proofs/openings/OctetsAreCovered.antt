@@ -4,6 +4,7 @@ use Rattle.std.specs.List.{find, slice_get}
 use Rattle.std.proofs.lemmas.Bool.{and_parts}
 use Rattle.std.proofs.lemmas.List.{append-nil}
 use Rattle.tcp_state.specs.View.{View}
+use Rattle.clock.specs.declared.moment.Moment.{Moment}
 use Rattle.sockets.specs.declared.entry.SocketId.{SocketId}
 use Rattle.sockets.specs.declared.entry.Entry.{Entry}
 use Rattle.sockets.specs.declared.role.Role.TheVariants.{Connected}
@@ -195,9 +196,9 @@ socket-opened limit hs ts n trace w id i c l found none = decide (id.0 == i.0) r
         let bad : Some opened.opening ≡ None = sym opened.at ∙ (ap (λ x. find (is_opening_at hs x) n.openings) (sym (same_id id i is)) ∙ none) in
         cc
 
-unread-call : (limit : ℕ) (hs ts : Side) (n : NetworkView) (trace : List Happening) → IsOrderly limit hs ts n trace → (routed : Addr → Bool) (c : Call) (answer : Answer) (new : SocketsView) → MeetsCall routed c (table_of n hs) answer new
+unread-call : (limit : ℕ) (hs ts : Side) (n : NetworkView) (trace : List Happening) → IsOrderly limit hs ts n trace → (routed : Addr → Bool) (now : Moment) (c : Call) (answer : Answer) (new : SocketsView) → MeetsCall routed now c (table_of n hs) answer new
     → (id : SocketId) → find (is_opening_at hs id) n.openings ≡ None → IsUnread hs id (answered hs c answer)
-unread-call limit hs ts n trace w routed (call.Send i octets) answer new m id none =
+unread-call limit hs ts n trace w routed now (call.Send i octets) answer new m id none =
     elim (outcome (send_answer (table_of n hs) i octets.items) (λ count. reply.Sent count) (after_send (table_of n hs) i octets.items) (table_of n hs) answer new m) [
       | inl k ↦
           let s = sends-on (table_of n hs) i octets.items k.0 k.1 in
@@ -205,7 +206,7 @@ unread-call limit hs ts n trace w routed (call.Send i octets) answer new m id no
           subst (λ a. IsUnread hs id (answered hs (call.Send i octets) a)) (sym k.2) (sent_by-send hs i id octets k.0 ∙ ap (λ b. cond b (take k.0 octets.items) []) apart, refl, refl)
       | inr k ↦ subst (λ a. IsUnread hs id (answered hs (call.Send i octets) a)) (sym k.2) (refl, refl, refl)
     ]
-unread-call limit hs ts n trace w routed (call.Recv i len) answer new m id none =
+unread-call limit hs ts n trace w routed now (call.Recv i len) answer new m id none =
     elim (recv_outcome (table_of n hs) i (recv_len len) answer new m) [
       | inl k ↦
           let apart = socket-opened limit hs ts n trace w id i k.c k.l k.found none in
@@ -215,7 +216,7 @@ unread-call limit hs ts n trace w routed (call.Recv i len) answer new m id none 
           subst (λ a. IsUnread hs id (answered hs (call.Recv i len) a)) (sym k.is_answer) (refl, refl, ended_by-recv hs i id len ∙ apart)
       | inr (inr k) ↦ subst (λ a. IsUnread hs id (answered hs (call.Recv i len) a)) (sym k.1) (refl, refl, refl)
     ]
-unread-call limit hs ts n trace w routed _ answer new m id none = (refl, refl, refl)
+unread-call limit hs ts n trace w routed now _ answer new m id none = (refl, refl, refl)
 
 -- a call of the other side
 unread-other : (side : Side) (c : Call) (a : Answer) (i : SocketId) → IsUnread (other_side side) i (answered side c a)
@@ -223,11 +224,11 @@ unread-other side c a i = let q = other-quiet side c a i in (q.0, q.2, q.3)
 
 unread-step : (limit : ℕ) (old new : WorldView) (happens : Event) (answer : Answer) → IsReached limit old → Steps happens (length old.trace) answer old.network new.network → (side : Side) (id : SocketId)
     → find (is_opening_at side id) old.network.openings ≡ None → IsUnread side id (record { event = happens; answer = answer })
-unread-step limit old new (event.Call A c) answer reached step A id none = unread-call limit A B old.network old.trace (orderly limit old reached) (is_routed (host_of old.network A).interface) c answer (table_of new.network A) step.0.table id none
+unread-step limit old new (event.Call A c) answer reached step A id none = unread-call limit A B old.network old.trace (orderly limit old reached) (is_routed (host_of old.network A).interface) _ c answer (table_of new.network A) step.0.table id none
 unread-step limit old new (event.Call A c) answer reached step B id none = unread-other A c answer id
 unread-step limit old new (event.Call B c) answer reached step A id none = unread-other B c answer id
 unread-step limit old new (event.Call B c) answer reached step B id none =
-    unread-call limit B A old.network old.trace (orderly-swapped limit A B old.network old.trace (orderly limit old reached)) (is_routed (host_of old.network B).interface) c answer (table_of new.network B) step.0.table id none
+    unread-call limit B A old.network old.trace (orderly-swapped limit A B old.network old.trace (orderly limit old reached)) (is_routed (host_of old.network B).interface) _ c answer (table_of new.network B) step.0.table id none
 unread-step limit old new (event.Tick s moment) answer reached step side id none = (refl, refl, refl)
 unread-step limit old new (event.Emit s) answer reached step side id none = (refl, refl, refl)
 unread-step limit old new (event.Deliver s index isn) answer reached step side id none = (refl, refl, refl)

@@ -7,12 +7,13 @@ use Rattle.ipv4.specs.declared.addr.Pair.{Pair}
 use Rattle.ipv4.specs.Addresses.{pair_of}
 use Rattle.tcp_segment.specs.declared.seq.Seq.{Seq}
 use Rattle.tcp_state.specs.View.{opened_actively}
+use Rattle.clock.specs.declared.moment.Moment.{Moment}
 use Rattle.sockets.specs.declared.entry.SocketId.{SocketId}
 use Rattle.sockets.specs.declared.entry.Entry.{Entry}
 use Rattle.sockets.specs.declared.role.Role.TheVariants.{Idle}
 use Rattle.sockets.specs.Calls.{unless_refused, connect_refusal, after_connect, last_port_after}
 use Rattle.sockets.specs.Entries.{is_socket, is_of_pair, role_after_connect, with_role}
-use Rattle.sockets.specs.SocketsView.{SocketsView, holder_id}
+use Rattle.sockets.specs.SocketsView.{SocketsView, holder_id, later_moment}
 use Rattle.sockets.specs.Lists.{change_first}
 use Rattle.sockets.specs.Pairs.{socket_pair}
 use Rattle.interface.specs.Ways.{is_routed}
@@ -33,7 +34,7 @@ use Rattle.wire_sim.specs.Holding.{IsBegun, EveryOpeningIsBegun}
 use Rattle.wire_sim.specs.Openings.{epoch_of, epoch_connected, opened_as, opened_by_connect, opened_by_frame, held_anew}
 use Rattle.sides.specs.Sides.{other_side}
 use Rattle.wire_sim.specs.Steps.{with_host, with_opening, after_call, after_delivery, station_after_tick, MeetsEmission, DeliversFrame, Steps}
-use Rattle.wire_sim.specs.WorldView.{NetworkView, WorldView, station_of, host_of, table_of}
+use Rattle.wire_sim.specs.WorldView.{NetworkView, WorldView, station_of, host_of, table_of, clock_of}
 use Rattle.wire_sim.proofs.tables.CallsOnTable.{outcome, not_refused, connects-on, socket_pair-connected, found-connecting}
 use Rattle.wire_sim.proofs.openings.OctetsAreCovered.{as_list, opens}
 use Rattle.wire_sim.proofs.lists.FoundAfterChange.{found-made}
@@ -63,32 +64,32 @@ pub record Connecting (hs : Side) (n : NetworkView) (own own' : SocketsView) (id
   pub others : (x y : Endpoint) → find (is_of_pair (pair_of x y)) own.entries ≡ None → (pair ≡ pair_of x y) ⊎ (find (is_of_pair (pair_of x y)) own'.entries ≡ None)
   pub opens : opened_by_connect n.openings hs id place own' (table_of n (other_side hs)) ≡ Some (record { side = hs; pair = pair; epoch = epoch_connected n.openings (table_of n (other_side hs)) pair; id = id; place = place })
 
-pub connecting-host : (limit : ℕ) (hs ts : Side) (n : NetworkView) (trace : List Happening) → IsOrderly limit hs ts n trace → (isn : Seq) (id : SocketId) (peer : Endpoint) (place : ℕ) → connect_refusal (table_of n hs) id peer (is_routed (host_of n hs).interface peer.addr) ≡ None
-    → Connecting hs n (table_of n hs) (after_connect (table_of n hs) isn.0 id peer (is_routed (host_of n hs).interface peer.addr)) id place
-connecting-host limit hs ts n trace w isn id peer place may =
+pub connecting-host : (limit : ℕ) (hs ts : Side) (n : NetworkView) (trace : List Happening) → IsOrderly limit hs ts n trace → (now : Moment) (isn : Seq) (id : SocketId) (peer : Endpoint) (place : ℕ) → connect_refusal (table_of n hs) id peer (is_routed (host_of n hs).interface peer.addr) ≡ None
+    → Connecting hs n (table_of n hs) (after_connect (table_of n hs) now isn.0 id peer (is_routed (host_of n hs).interface peer.addr)) id place
+connecting-host limit hs ts n trace w now isn id peer place may =
     let own = table_of n hs in
     let h = w.projects in
     let a = w.a in
     let routed = is_routed (host_of n hs).interface peer.addr in
     let k = connects-on own id peer routed may in
     let local : Endpoint = record { addr = own.addr; port = k.port } in
-    let c = opened_actively k.b local peer isn.0 own.kept in
-    let g = role_after_connect local peer isn.0 own.kept in
+    let c = opened_actively k.b local peer isn.0 (later_moment own now) in
+    let g = role_after_connect local peer isn.0 (later_moment own now) in
     let base : SocketsView = record own { last_port = last_port_after own k.bound k.port } in
     let next : SocketsView = record base { entries = change_first (is_socket id) (with_role g) own.entries } in
-    let is_next : after_connect own isn.0 id peer routed ≡ next = k.becomes isn.0 in
+    let is_next : after_connect own now isn.0 id peer routed ≡ next = k.becomes now isn.0 in
     let pair = pair_of local peer in
     let x : Entry = record { id = id; role = Idle k.b k.bound } in
     let free : find (is_of_pair pair) own.entries ≡ None =
     unheld-between local peer own.entries k.apart h.own_table.sole (table-ours hs a own.addr own.last_id own.entries n.openings (told hs trace) h.own_addr h.own_table) k.free in
-    let named : socket_pair next id ≡ Some pair = socket_pair-connected next id c None (found-connecting own.entries id k.b k.bound local peer isn.0 own.kept k.found) in
+    let named : socket_pair next id ≡ Some pair = socket_pair-connected next id c None (found-connecting own.entries id k.b k.bound local peer isn.0 (later_moment own now) k.found) in
     record {
       pair = pair;
       unheld = ap (option_map (λ (e : Entry). e.id)) free;
       held = ap (λ w. holder_id w pair) is_next ∙ ap (option_map (λ (e : Entry). e.id)) (found-made (is_socket id) (is_of_pair pair) (with_role g) own.entries x k.found free (joins_own c None refl));
       others = λ p q none. elim (joined c None p q) [
         | inl same ↦ inl same
-        | inr out ↦ inr (ap (λ (w : SocketsView). find (is_of_pair (pair_of p q)) w.entries) is_next ∙ unheld-changed_at (is_socket id) g (pair_of p q) own.entries (unheld_connecting k.b local peer isn.0 own.kept (pair_of p q) out) none)
+        | inr out ↦ inr (ap (λ (w : SocketsView). find (is_of_pair (pair_of p q)) w.entries) is_next ∙ unheld-changed_at (is_socket id) g (pair_of p q) own.entries (unheld_connecting k.b local peer isn.0 (later_moment own now) (pair_of p q) out) none)
       ];
       opens = ap (λ w. opened_by_connect n.openings hs id place w (table_of n (other_side hs))) is_next ∙ ap (opened_as n.openings hs id place (table_of n (other_side hs))) named;
     }
@@ -109,9 +110,10 @@ connect-noted limit hs ts old new isn id peer answer w step =
     let host' = host_of new.network hs in
     let routed = is_routed (host_of old.network hs).interface peer.addr in
     let c = call.Connect isn id peer in
-    elim (outcome (unless_refused (connect_refusal own id peer routed) (tt {0})) (λ _. reply.Started) (after_connect own isn.0 id peer routed) own answer own' step.0.table) [
+    let now = clock_of old.network hs in
+    elim (outcome (unless_refused (connect_refusal own id peer routed) (tt {0})) (λ _. reply.Started) (after_connect own now isn.0 id peer routed) own answer own' step.0.table) [
       | inl x ↦
-          let k = connecting-host limit hs ts old.network old.trace w isn id peer (length old.trace) (not_refused (connect_refusal own id peer routed) x.0 x.1) in
+          let k = connecting-host limit hs ts old.network old.trace w now isn id peer (length old.trace) (not_refused (connect_refusal own id peer routed) x.0 x.1) in
           let other = table_of old.network (other_side hs) in
           let o : Opening = record { side = hs; pair = k.pair; epoch = epoch_connected old.network.openings other k.pair; id = id; place = length old.trace } in
           let added : opened_by_connect old.network.openings hs id (length old.trace) own' other ≡ Some o = ap (λ v. opened_by_connect old.network.openings hs id (length old.trace) v other) x.3 ∙ k.opens in

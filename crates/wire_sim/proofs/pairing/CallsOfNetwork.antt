@@ -5,6 +5,7 @@ use Rattle.ipv4.specs.declared.addr.Addr.{Addr}
 use Rattle.ipv4.specs.declared.addr.Endpoint.{Endpoint}
 use Rattle.tcp_segment.specs.declared.seq.Seq.{Seq}
 use Rattle.interface.specs.Ways.{is_routed}
+use Rattle.clock.specs.declared.moment.Moment.{Moment}
 use Rattle.sockets.specs.Info.{info_answer}
 use Rattle.sockets.specs.Ready.{readiness}
 use Rattle.sockets.specs.declared.entry.SocketId.{SocketId}
@@ -64,63 +65,63 @@ fair-first hs host n other isn id peer is_host is_other fair pair foreseen =
     ap (λ w. second_in n.openings hs pair (epoch_connected n.openings w pair)) is_other ∙ (sym (ap (second_by_connect n hs) seen) ∙ fair)
 
 -- a connect that was started
-call-connects : (limit : ℕ) (hs ts : Side) (a b : Addr) (host host' : HostView) (other : SocketsView) (n : NetworkView) (bag : Bag) (place : ℕ) (trace : List Happening) (isn : Seq) (id : SocketId) (peer : Endpoint)
+call-connects : (limit : ℕ) (hs ts : Side) (a b : Addr) (host host' : HostView) (other : SocketsView) (n : NetworkView) (bag : Bag) (place : ℕ) (trace : List Happening) (now : Moment) (isn : Seq) (id : SocketId) (peer : Endpoint)
     → isn.0 < 2 ^ 32 → host ≡ host_of n hs → other ≡ table_of n (other_side hs) → unfair_call n hs (call.Connect isn id peer) ≡ None → connect_refusal host.sockets id peer (is_routed host.interface peer.addr) ≡ None
-    → host'.sockets ≡ after_connect host.sockets isn.0 id peer (is_routed host.interface peer.addr) → Projects limit hs ts a b host.sockets other bag n.openings trace
+    → host'.sockets ≡ after_connect host.sockets now isn.0 id peer (is_routed host.interface peer.addr) → Projects limit hs ts a b host.sockets other bag n.openings trace
     → CallGoes limit hs ts a b host' other n bag (call.Connect isn id peer) reply.Started place trace
-call-connects limit hs ts a b host host' other n bag place trace isn id peer fits is_host is_other fair accepted becomes h =
+call-connects limit hs ts a b host host' other n bag place trace now isn id peer fits is_host is_other fair accepted becomes h =
     let routed = is_routed host.interface peer.addr in
-    let k = projects-connects limit hs ts a b host.sockets other bag n.openings place trace isn.0 id peer routed fits (fair-first hs host n other isn id peer is_host is_other fair) accepted h in
+    let k = projects-connects limit hs ts a b host.sockets other bag n.openings place trace now isn.0 id peer routed fits (fair-first hs host n other isn id peer is_host is_other fair) accepted h in
     let o = k.opening in
     let e = answered hs (call.Connect isn id peer) reply.Started in
     let silent = quiet-everywhere hs (call.Connect isn id peer) reply.Started (λ i. quiet-connect hs isn id peer reply.Started i) in
     let opens : opened_by_connect n.openings hs id place host'.sockets (table_of n (other_side hs)) ≡ Some o =
     ap (λ w. opened_by_connect n.openings hs id place w (table_of n (other_side hs))) becomes
-    ∙ (ap (opened_by_connect n.openings hs id place (after_connect host.sockets isn.0 id peer routed)) (sym is_other) ∙ k.opens) in
+    ∙ (ap (opened_by_connect n.openings hs id place (after_connect host.sockets now isn.0 id peer routed)) (sym is_other) ∙ k.opens) in
     GoesOpened o (ap (with_opening (with_host n hs host')) opens)
-    (projects-silent limit hs ts a b host'.sockets other bag (n.openings ++ o ∷ []) trace e silent (kept limit hs ts a b (after_connect host.sockets isn.0 id peer routed) host'.sockets other bag (n.openings ++ o ∷ []) trace becomes k.projects))
+    (projects-silent limit hs ts a b host'.sockets other bag (n.openings ++ o ∷ []) trace e silent (kept limit hs ts a b (after_connect host.sockets now isn.0 id peer routed) host'.sockets other bag (n.openings ++ o ∷ []) trace becomes k.projects))
     (tallies-quiet trace (n.openings ++ o ∷ []) e (λ s i. (silent s i).0) ∙ tallies-opened trace n.openings o k.unsent)
 
 -- every call
-pub projects-called : (limit : ℕ) (hs ts : Side) (a b : Addr) (host host' : HostView) (other : SocketsView) (n : NetworkView) (bag : Bag) (place : ℕ) (trace : List Happening) (c : Call) (answer : Answer) → IsSoundTable host.sockets → ts ≡ other_side hs → host ≡ host_of n hs
-    → other ≡ table_of n (other_side hs) → IsNumberedCall c → unfair_call n hs c ≡ None → MeetsCall (is_routed host.interface) c host.sockets answer host'.sockets → Projects limit hs ts a b host.sockets other bag n.openings trace
+pub projects-called : (limit : ℕ) (hs ts : Side) (a b : Addr) (host host' : HostView) (other : SocketsView) (n : NetworkView) (bag : Bag) (place : ℕ) (trace : List Happening) (now : Moment) (c : Call) (answer : Answer) → IsSoundTable host.sockets → ts ≡ other_side hs → host ≡ host_of n hs
+    → other ≡ table_of n (other_side hs) → IsNumberedCall c → unfair_call n hs c ≡ None → MeetsCall (is_routed host.interface) now c host.sockets answer host'.sockets → Projects limit hs ts a b host.sockets other bag n.openings trace
     → CallGoes limit hs ts a b host' other n bag c answer place trace
-projects-called limit hs ts a b host host' other n bag place trace (call.Socket kind) answer sound opposite is_host is_other numbered fair m h =
+projects-called limit hs ts a b host host' other n bag place trace now (call.Socket kind) answer sound opposite is_host is_other numbered fair m h =
     let own = host.sockets in
     elim (socket_outcome kind own answer host'.sockets m) [
       | inl made ↦ plain limit hs ts a b host' other n bag (call.Socket kind) answer place trace refl (λ i. quiet-socket hs kind answer i) (projects-socket_made limit hs ts a b own host'.sockets other bag n.openings trace kind made h)
       | inr same ↦ plain limit hs ts a b host' other n bag (call.Socket kind) answer place trace refl (λ i. quiet-socket hs kind answer i) (kept limit hs ts a b own host'.sockets other bag n.openings trace same h)
     ]
-projects-called limit hs ts a b host host' other n bag place trace (call.Bind id local) answer sound opposite is_host is_other numbered fair m h =
+projects-called limit hs ts a b host host' other n bag place trace now (call.Bind id local) answer sound opposite is_host is_other numbered fair m h =
     let own = host.sockets in
     elim (outcome (unless_refused (bind_refusal own id local) (tt {0})) (λ _. reply.Done) (after_bind own id local) own answer host'.sockets m) [
       | inl x ↦ plain limit hs ts a b host' other n bag (call.Bind id local) answer place trace refl (λ i. quiet-bind hs id local answer i) (kept limit hs ts a b (after_bind own id local) host'.sockets other bag n.openings trace x.3 (projects-bound limit hs ts a b own other bag n.openings trace id local h))
       | inr x ↦ plain limit hs ts a b host' other n bag (call.Bind id local) answer place trace refl (λ i. quiet-bind hs id local answer i) (kept limit hs ts a b own host'.sockets other bag n.openings trace x.3 h)
     ]
-projects-called limit hs ts a b host host' other n bag place trace (call.Listen id backlog) answer sound opposite is_host is_other numbered fair m h =
+projects-called limit hs ts a b host host' other n bag place trace now (call.Listen id backlog) answer sound opposite is_host is_other numbered fair m h =
     let own = host.sockets in
     elim (outcome (unless_refused (listen_refusal own id backlog) (tt {0})) (λ _. reply.Done) (after_listen own id backlog) own answer host'.sockets m) [
       | inl x ↦ plain limit hs ts a b host' other n bag (call.Listen id backlog) answer place trace refl (λ i. quiet-listen hs id backlog answer i) (changed limit hs ts a b own host'.sockets other bag n.openings trace (is_socket id) (role_after_listen backlog) (quiet_listening backlog) x.3 h)
       | inr x ↦ plain limit hs ts a b host' other n bag (call.Listen id backlog) answer place trace refl (λ i. quiet-listen hs id backlog answer i) (kept limit hs ts a b own host'.sockets other bag n.openings trace x.3 h)
     ]
-projects-called limit hs ts a b host host' other n bag place trace (call.Accept id) answer sound opposite is_host is_other numbered fair m h =
+projects-called limit hs ts a b host host' other n bag place trace now (call.Accept id) answer sound opposite is_host is_other numbered fair m h =
     let own = host.sockets in
     elim (outcome (accept_answer own id) (λ p. reply.Accepted p.0 p.1) (after_accept own id) own answer host'.sockets m) [
       | inl x ↦ plain limit hs ts a b host' other n bag (call.Accept id) answer place trace refl (λ i. quiet-accept hs id answer i) (kept limit hs ts a b (after_accept own id) host'.sockets other bag n.openings trace x.3 (projects-accepted limit hs ts a b own other bag n.openings trace id h))
       | inr x ↦ plain limit hs ts a b host' other n bag (call.Accept id) answer place trace refl (λ i. quiet-accept hs id answer i) (kept limit hs ts a b own host'.sockets other bag n.openings trace x.3 h)
     ]
-projects-called limit hs ts a b host host' other n bag place trace (call.Connect isn id peer) answer sound opposite is_host is_other numbered fair m h =
+projects-called limit hs ts a b host host' other n bag place trace now (call.Connect isn id peer) answer sound opposite is_host is_other numbered fair m h =
     let own = host.sockets in
     let routed = is_routed host.interface peer.addr in
-    elim (outcome (unless_refused (connect_refusal own id peer routed) (tt {0})) (λ _. reply.Started) (after_connect own isn.0 id peer routed) own answer host'.sockets m) [
+    elim (outcome (unless_refused (connect_refusal own id peer routed) (tt {0})) (λ _. reply.Started) (after_connect own now isn.0 id peer routed) own answer host'.sockets m) [
       | inl x ↦
           subst (λ r. CallGoes limit hs ts a b host' other n bag (call.Connect isn id peer) r place trace) (sym x.2)
-          (call-connects limit hs ts a b host host' other n bag place trace isn id peer numbered is_host is_other fair (not_refused (connect_refusal own id peer routed) x.0 x.1) x.3 h)
+          (call-connects limit hs ts a b host host' other n bag place trace now isn id peer numbered is_host is_other fair (not_refused (connect_refusal own id peer routed) x.0 x.1) x.3 h)
       | inr x ↦
           subst (λ r. CallGoes limit hs ts a b host' other n bag (call.Connect isn id peer) r place trace) (sym x.2)
           (plain limit hs ts a b host' other n bag (call.Connect isn id peer) (reply.Refused x.0) place trace refl (λ i. quiet-connect hs isn id peer (reply.Refused x.0) i) (kept limit hs ts a b own host'.sockets other bag n.openings trace x.3 h))
     ]
-projects-called limit hs ts a b host host' other n bag place trace (call.Send id octets) answer sound opposite is_host is_other numbered fair m h =
+projects-called limit hs ts a b host host' other n bag place trace now (call.Send id octets) answer sound opposite is_host is_other numbered fair m h =
     let own = host.sockets in
     elim (outcome (send_answer own id octets.items) (λ count. reply.Sent count) (after_send own id octets.items) own answer host'.sockets m) [
       | inl x ↦
@@ -133,7 +134,7 @@ projects-called limit hs ts a b host host' other n bag place trace (call.Send id
           subst (λ r. CallGoes limit hs ts a b host' other n bag (call.Send id octets) r place trace) (sym x.2)
           (plain limit hs ts a b host' other n bag (call.Send id octets) (reply.Refused x.0) place trace refl (λ i. quiet-send_refused hs id octets x.0 i) (kept limit hs ts a b own host'.sockets other bag n.openings trace x.3 h))
     ]
-projects-called limit hs ts a b host host' other n bag place trace (call.Recv id len) answer sound opposite is_host is_other numbered fair m h =
+projects-called limit hs ts a b host host' other n bag place trace now (call.Recv id len) answer sound opposite is_host is_other numbered fair m h =
     let own = host.sockets in
     elim (recv_outcome own id (recv_len len) answer host'.sockets m) [
       | inl r ↦
@@ -156,7 +157,7 @@ projects-called limit hs ts a b host host' other n bag place trace (call.Recv id
             (plain limit hs ts a b host' other n bag (call.Recv id len) (reply.Refused x.0) place trace refl (λ i. quiet-recv_refused hs id len x.0 i) (kept limit hs ts a b own host'.sockets other bag n.openings trace x.2 h))
       ]
     ]
-projects-called limit hs ts a b host host' other n bag place trace (call.SendTo id peer octets) answer sound opposite is_host is_other numbered fair m h =
+projects-called limit hs ts a b host host' other n bag place trace now (call.SendTo id peer octets) answer sound opposite is_host is_other numbered fair m h =
     let own = host.sockets in
     let routed = is_routed host.interface peer.addr in
     let quiet = quiet-sendto hs id peer octets answer in
@@ -168,7 +169,7 @@ projects-called limit hs ts a b host host' other n bag place trace (call.SendTo 
   where
     called-plain : (answer : Answer) → after_call hs (call.SendTo id peer octets) answer place n host' ≡ with_host n hs host'
     called-plain answer = refl
-projects-called limit hs ts a b host host' other n bag place trace (call.RecvFrom id len) answer sound opposite is_host is_other numbered fair m h =
+projects-called limit hs ts a b host host' other n bag place trace now (call.RecvFrom id len) answer sound opposite is_host is_other numbered fair m h =
     let own = host.sockets in
     let quiet = quiet-recvfrom hs id len answer in
     elim (recvfrom_outcome own id (recvfrom_answer own id (recv_len len)) answer host'.sockets m) [
@@ -176,7 +177,7 @@ projects-called limit hs ts a b host host' other n bag place trace (call.RecvFro
           (kept limit hs ts a b (after_recvfrom own id) host'.sockets other bag n.openings trace same (projects-received_from limit hs ts a b own other bag n.openings trace id h))
       | inr same ↦ plain limit hs ts a b host' other n bag (call.RecvFrom id len) answer place trace refl quiet (kept limit hs ts a b own host'.sockets other bag n.openings trace same h)
     ]
-projects-called limit hs ts a b host host' other n bag place trace (call.Shutdown id) answer sound opposite is_host is_other numbered fair m h =
+projects-called limit hs ts a b host host' other n bag place trace now (call.Shutdown id) answer sound opposite is_host is_other numbered fair m h =
     let own = host.sockets in
     elim (outcome (unless_refused (shutdown_refusal own id) (tt {0})) (λ _. reply.Done) (after_shutdown own id) own answer host'.sockets m) [
       | inl x ↦
@@ -189,21 +190,21 @@ projects-called limit hs ts a b host host' other n bag place trace (call.Shutdow
           subst (λ r. CallGoes limit hs ts a b host' other n bag (call.Shutdown id) r place trace) (sym x.2)
           (plain limit hs ts a b host' other n bag (call.Shutdown id) (reply.Refused x.0) place trace refl (λ i. quiet-shutdown_refused hs id x.0 i) (kept limit hs ts a b own host'.sockets other bag n.openings trace x.3 h))
     ]
-projects-called limit hs ts a b host host' other n bag place trace (call.SetNoDelay id on) answer sound opposite is_host is_other numbered fair m h =
+projects-called limit hs ts a b host host' other n bag place trace now (call.SetNoDelay id on) answer sound opposite is_host is_other numbered fair m h =
     let own = host.sockets in
     let quiet = quiet-nodelay hs id on answer in
     elim (outcome (unless_refused (nodelay_refusal own id) (tt {0})) (λ _. reply.Done) (after_nodelay own id on) own answer host'.sockets m) [
       | inl x ↦ plain limit hs ts a b host' other n bag (call.SetNoDelay id on) answer place trace refl quiet (kept limit hs ts a b (after_nodelay own id on) host'.sockets other bag n.openings trace x.3 (projects-delayed limit hs ts a b own other bag n.openings trace id on h))
       | inr x ↦ plain limit hs ts a b host' other n bag (call.SetNoDelay id on) answer place trace refl quiet (kept limit hs ts a b own host'.sockets other bag n.openings trace x.3 h)
     ]
-projects-called limit hs ts a b host host' other n bag place trace (call.SetKeepAlive id every) answer sound opposite is_host is_other numbered fair m h =
+projects-called limit hs ts a b host host' other n bag place trace now (call.SetKeepAlive id every) answer sound opposite is_host is_other numbered fair m h =
     let own = host.sockets in
     let quiet = quiet-keepalive hs id every answer in
     elim (outcome (unless_refused (keepalive_refusal own id every) (tt {0})) (λ _. reply.Done) (after_keepalive own id every) own answer host'.sockets m) [
       | inl x ↦ plain limit hs ts a b host' other n bag (call.SetKeepAlive id every) answer place trace refl quiet (kept limit hs ts a b (after_keepalive own id every) host'.sockets other bag n.openings trace x.3 (projects-asked limit hs ts a b own other bag n.openings trace id every h))
       | inr x ↦ plain limit hs ts a b host' other n bag (call.SetKeepAlive id every) answer place trace refl quiet (kept limit hs ts a b own host'.sockets other bag n.openings trace x.3 h)
     ]
-projects-called limit hs ts a b host host' other n bag place trace (call.Close id) answer sound opposite is_host is_other numbered fair m h =
+projects-called limit hs ts a b host host' other n bag place trace now (call.Close id) answer sound opposite is_host is_other numbered fair m h =
     let own = host.sockets in
     elim (outcome (unless_refused (close_refusal own id) (tt {0})) (λ _. reply.Done) (after_close own id) own answer host'.sockets m) [
       | inl x ↦
@@ -216,7 +217,7 @@ projects-called limit hs ts a b host host' other n bag place trace (call.Close i
           subst (λ r. CallGoes limit hs ts a b host' other n bag (call.Close id) r place trace) (sym x.2)
           (plain limit hs ts a b host' other n bag (call.Close id) (reply.Refused x.0) place trace refl (λ i. quiet-close_refused hs id x.0 i) (kept limit hs ts a b own host'.sockets other bag n.openings trace x.3 h))
     ]
-projects-called limit hs ts a b host host' other n bag place trace (call.Abort id) answer sound opposite is_host is_other numbered fair m h =
+projects-called limit hs ts a b host host' other n bag place trace now (call.Abort id) answer sound opposite is_host is_other numbered fair m h =
     let own = host.sockets in
     elim (outcome (unless_refused (close_refusal own id) (tt {0})) (λ _. reply.Done) (after_abort own id) own answer host'.sockets m) [
       | inl x ↦
@@ -229,31 +230,31 @@ projects-called limit hs ts a b host host' other n bag place trace (call.Abort i
           subst (λ r. CallGoes limit hs ts a b host' other n bag (call.Abort id) r place trace) (sym x.2)
           (plain limit hs ts a b host' other n bag (call.Abort id) (reply.Refused x.0) place trace refl (λ i. quiet-abort hs id (reply.Refused x.0) i) (kept limit hs ts a b own host'.sockets other bag n.openings trace x.3 h))
     ]
-projects-called limit hs ts a b host host' other n bag place trace (call.State id) answer sound opposite is_host is_other numbered fair m h =
+projects-called limit hs ts a b host host' other n bag place trace now (call.State id) answer sound opposite is_host is_other numbered fair m h =
     let own = host.sockets in
     elim (outcome (state_answer own id) (λ s. reply.State s) own own answer host'.sockets m) [
       | inl x ↦ plain limit hs ts a b host' other n bag (call.State id) answer place trace refl (λ i. quiet-state hs id answer i) (kept limit hs ts a b own host'.sockets other bag n.openings trace x.3 h)
       | inr x ↦ plain limit hs ts a b host' other n bag (call.State id) answer place trace refl (λ i. quiet-state hs id answer i) (kept limit hs ts a b own host'.sockets other bag n.openings trace x.3 h)
     ]
-projects-called limit hs ts a b host host' other n bag place trace (call.Ready id) answer sound opposite is_host is_other numbered fair m h =
+projects-called limit hs ts a b host host' other n bag place trace now (call.Ready id) answer sound opposite is_host is_other numbered fair m h =
     let own = host.sockets in
     elim (outcome (readiness own id) (λ s. reply.Ready s) own own answer host'.sockets m) [
       | inl x ↦ plain limit hs ts a b host' other n bag (call.Ready id) answer place trace refl (λ i. quiet-ready hs id answer i) (kept limit hs ts a b own host'.sockets other bag n.openings trace x.3 h)
       | inr x ↦ plain limit hs ts a b host' other n bag (call.Ready id) answer place trace refl (λ i. quiet-ready hs id answer i) (kept limit hs ts a b own host'.sockets other bag n.openings trace x.3 h)
     ]
-projects-called limit hs ts a b host host' other n bag place trace (call.Info id) answer sound opposite is_host is_other numbered fair m h =
+projects-called limit hs ts a b host host' other n bag place trace now (call.Info id) answer sound opposite is_host is_other numbered fair m h =
     let own = host.sockets in
     elim (outcome (info_answer own id) (λ s. reply.Info s) own own answer host'.sockets m) [
       | inl x ↦ plain limit hs ts a b host' other n bag (call.Info id) answer place trace refl (λ i. quiet-info hs id answer i) (kept limit hs ts a b own host'.sockets other bag n.openings trace x.3 h)
       | inr x ↦ plain limit hs ts a b host' other n bag (call.Info id) answer place trace refl (λ i. quiet-info hs id answer i) (kept limit hs ts a b own host'.sockets other bag n.openings trace x.3 h)
     ]
-projects-called limit hs ts a b host host' other n bag place trace (call.SockName id) answer sound opposite is_host is_other numbered fair m h =
+projects-called limit hs ts a b host host' other n bag place trace now (call.SockName id) answer sound opposite is_host is_other numbered fair m h =
     let own = host.sockets in
     elim (outcome (sockname_answer own id) (λ e. reply.Endpoint e) own own answer host'.sockets m) [
       | inl x ↦ plain limit hs ts a b host' other n bag (call.SockName id) answer place trace refl (λ i. quiet-sockname hs id answer i) (kept limit hs ts a b own host'.sockets other bag n.openings trace x.3 h)
       | inr x ↦ plain limit hs ts a b host' other n bag (call.SockName id) answer place trace refl (λ i. quiet-sockname hs id answer i) (kept limit hs ts a b own host'.sockets other bag n.openings trace x.3 h)
     ]
-projects-called limit hs ts a b host host' other n bag place trace (call.PeerName id) answer sound opposite is_host is_other numbered fair m h =
+projects-called limit hs ts a b host host' other n bag place trace now (call.PeerName id) answer sound opposite is_host is_other numbered fair m h =
     let own = host.sockets in
     elim (outcome (peername_answer own id) (λ e. reply.Endpoint e) own own answer host'.sockets m) [
       | inl x ↦ plain limit hs ts a b host' other n bag (call.PeerName id) answer place trace refl (λ i. quiet-peername hs id answer i) (kept limit hs ts a b own host'.sockets other bag n.openings trace x.3 h)

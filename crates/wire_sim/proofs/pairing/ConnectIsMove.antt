@@ -10,6 +10,7 @@ use Rattle.tcp_state.specs.View.{opened_actively}
 use Rattle.sides.specs.declared.side.Side.{Side}
 use Rattle.wire_sim.specs.declared.event.Opening.{Opening}
 use Rattle.wire_sim.specs.declared.event.Happening.{Happening}
+use Rattle.clock.specs.declared.moment.Moment.{Moment}
 use Rattle.sockets.specs.declared.entry.Kind.{Kind}
 use Rattle.sockets.specs.declared.entry.Kind.TheVariants.{Tcp, Udp}
 use Rattle.sockets.specs.declared.entry.SocketId.{SocketId}
@@ -18,7 +19,7 @@ use Rattle.sockets.specs.declared.role.Role.{Role}
 use Rattle.sockets.specs.declared.role.Role.TheVariants.{Idle, Listener, Connected, Datagrams}
 use Rattle.sockets.specs.Calls.{IsMade, after_socket, after_datagram_socket, connect_refusal, after_connect, last_port_after, pair_connected}
 use Rattle.sockets.specs.Entries.{is_socket, is_of_pair, role_after_connect, with_role}
-use Rattle.sockets.specs.SocketsView.{SocketsView, holder_id, room_of}
+use Rattle.sockets.specs.SocketsView.{SocketsView, holder_id, later_moment, room_of}
 use Rattle.sockets.specs.Lists.{change_first}
 use Rattle.wire_sim.specs.Fairness.{second_in}
 use Rattle.wire_sim.specs.Openings.{epoch_of, epoch_connected, opened_as, opened_by_connect}
@@ -68,28 +69,28 @@ rises own other os pair free = by_holder (holder_id other pair) refl
     }
 
 -- A connect that is started opens one pair.
-pub record ConnectOpens (limit : ℕ) (hs ts : Side) (a b : Addr) (own other : SocketsView) (bag : Bag) (openings : List Opening) (trace : List Happening) (isn : ℕ) (id : SocketId) (peer : Endpoint) (routed : Bool) (place : ℕ) : Type 0 where
+pub record ConnectOpens (limit : ℕ) (hs ts : Side) (a b : Addr) (own other : SocketsView) (bag : Bag) (openings : List Opening) (trace : List Happening) (now : Moment) (isn : ℕ) (id : SocketId) (peer : Endpoint) (routed : Bool) (place : ℕ) : Type 0 where
   pub opening : Opening
-  pub opens : opened_by_connect openings hs id place (after_connect own isn id peer routed) other ≡ Some opening
+  pub opens : opened_by_connect openings hs id place (after_connect own now isn id peer routed) other ≡ Some opening
   pub unsent : sent_on opening.side opening.id trace ≡ []
-  pub projects : Projects limit hs ts a b (after_connect own isn id peer routed) other bag (openings ++ opening ∷ []) trace
+  pub projects : Projects limit hs ts a b (after_connect own now isn id peer routed) other bag (openings ++ opening ∷ []) trace
 
 -- the pair that it opens was not opened before at our side, in the epoch in which it is opened
 abbrev pub IsFirst : Side → SocketsView → SocketsView → List Opening → SocketId → Endpoint → Bool → Type 0
 IsFirst hs own other openings id peer routed = (pair : Pair) → pair_connected own id peer routed ≡ Some pair → second_in openings hs pair (epoch_connected openings other pair) ≡ None
 
-pub projects-connects : (limit : ℕ) (hs ts : Side) (a b : Addr) (own other : SocketsView) (bag : Bag) (openings : List Opening) (place : ℕ) (trace : List Happening) (isn : ℕ) (id : SocketId) (peer : Endpoint) (routed : Bool) → isn < 2 ^ 32
+pub projects-connects : (limit : ℕ) (hs ts : Side) (a b : Addr) (own other : SocketsView) (bag : Bag) (openings : List Opening) (place : ℕ) (trace : List Happening) (now : Moment) (isn : ℕ) (id : SocketId) (peer : Endpoint) (routed : Bool) → isn < 2 ^ 32
     → IsFirst hs own other openings id peer routed → connect_refusal own id peer routed ≡ None
-    → Projects limit hs ts a b own other bag openings trace → ConnectOpens limit hs ts a b own other bag openings trace isn id peer routed place
-projects-connects limit hs ts a b own other bag openings place trace isn id peer routed fits fair accepted_call h =
+    → Projects limit hs ts a b own other bag openings trace → ConnectOpens limit hs ts a b own other bag openings trace now isn id peer routed place
+projects-connects limit hs ts a b own other bag openings place trace now isn id peer routed fits fair accepted_call h =
     let k = connects-on own id peer routed accepted_call in
     let local : Endpoint = record { addr = own.addr; port = k.port } in
-    let c = opened_actively k.b local peer isn own.kept in
-    let g = role_after_connect local peer isn own.kept in
+    let c = opened_actively k.b local peer isn (later_moment own now) in
+    let g = role_after_connect local peer isn (later_moment own now) in
     let ys = change_first (is_socket id) (with_role g) own.entries in
     let base : SocketsView = record own { last_port = last_port_after own k.bound k.port } in
     let next : SocketsView = record base { entries = ys } in
-    let is_next : after_connect own isn id peer routed ≡ next = k.becomes isn in
+    let is_next : after_connect own now isn id peer routed ≡ next = k.becomes now isn in
     let pair = pair_of local peer in
     let epoch = epoch_connected openings other pair in
     let o : Opening = record { side = hs; pair = pair; epoch = epoch; id = id; place = place } in
@@ -106,12 +107,12 @@ projects-connects limit hs ts a b own other bag openings place trace isn id peer
       next = record { by_id = h.own_table.noted id (Idle k.b k.bound) before; by_epoch = not-second openings hs pair epoch (fair pair k.foreseen); epoch = r.within };
       rises = r.own_rises o refl refl;
     } in
-    let named : socket_pair next id ≡ Some pair = socket_pair-connected next id c None (found-connecting own.entries id k.b k.bound local peer isn own.kept k.found) in
+    let named : socket_pair next id ≡ Some pair = socket_pair-connected next id c None (found-connecting own.entries id k.b k.bound local peer isn (later_moment own now) k.found) in
     let within = h.own_table.bound id (Idle k.b k.bound) before in
     let there_end = end_at ts openings other.entries (told ts trace) pair epoch in
     let made : Projects limit hs ts a b next other bag (openings ++ o ∷ []) trace =
     projects-made limit hs ts a b own next other bag openings trace o c None refl (omega arith) within m (inr (Idle k.b k.bound, before)) (r.other_rises o refl refl) h
-    (connects (pairing nothing_yet there_end (bag.out pair epoch) (bag.arrived pair epoch)) k.b local peer isn own.kept refl fits) in
+    (connects (pairing nothing_yet there_end (bag.out pair epoch) (bag.arrived pair epoch)) k.b local peer isn (later_moment own now) refl fits) in
     record {
       opening = o;
       opens = ap (λ w. opened_by_connect openings hs id place w other) is_next ∙ ap (opened_as openings hs id place other) named;

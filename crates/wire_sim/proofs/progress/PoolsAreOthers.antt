@@ -152,15 +152,15 @@ addr-sent h id peer octets routed = by_end (end_sent_from h id peer octets route
     by_end (Err refusal) is = rw is
     by_end (Ok local) is = rw is
 
-call-from : (routed : Addr → Bool) (c : Call) (answer : Answer) (h new : SocketsView) → MeetsCall routed c h answer new → All (IsFromHere h.addr) (accepted_by_call c answer h new)
-call-from routed (call.SendTo id peer octets) (reply.Sent count) h new m =
+call-from : (routed : Addr → Bool) (now : Moment) (c : Call) (answer : Answer) (h new : SocketsView) → MeetsCall routed now c h answer new → All (IsFromHere h.addr) (accepted_by_call c answer h new)
+call-from routed now (call.SendTo id peer octets) (reply.Sent count) h new m =
     All-cons (IsFromHere h.addr) _ [] (source-addr new.addr _ ∙ by_outcome (call_outcome (sendto_answer h id peer octets.items (routed peer.addr)) (λ n. reply.Sent n) (after_sendto h id peer octets.items (routed peer.addr)) h (reply.Sent count) new m)) (All-nil (IsFromHere h.addr))
   where
     by_outcome : ((v : ℕ) × (sendto_answer h id peer octets.items (routed peer.addr) ≡ Ok v) × (reply.Sent count ≡ reply.Sent v) × (new ≡ after_sendto h id peer octets.items (routed peer.addr)))
         ⊎ ((e : Refusal) × (sendto_answer h id peer octets.items (routed peer.addr) ≡ Err e) × (reply.Sent count ≡ reply.Refused e) × (new ≡ h)) → new.addr ≡ h.addr
     by_outcome (inl x) = ap (λ (t : SocketsView). t.addr) x.3 ∙ addr-sent h id peer octets.items (routed peer.addr)
     by_outcome (inr x) = ap (λ (t : SocketsView). t.addr) x.3
-call-from routed c answer h new m = All-nil (IsFromHere h.addr)
+call-from routed now c answer h new m = All-nil (IsFromHere h.addr)
 
 -- by an event of a world
 event-from : (limit : ℕ) (w v : WorldView) (run : IsReached limit w) (happens : WorldEvent) (answer : Answer) → IsStep happens answer w v → (side : Side) → All (IsFromHere (let c = config_of limit w run side in c.addr)) (accepted_by side happens answer w v)
@@ -169,7 +169,7 @@ event-from limit w v run (event.Call at c) answer step side = by_side at side st
     own : (s : Side) → IsStep (event.Call s c) answer w v → All (IsFromHere (let k = config_of limit w run s in k.addr)) (accepted_by_call c answer (table_of w.network s) (table_of v.network s))
     own s step =
         let there : (let t = table_of w.network s in t.addr) ≡ (let k = config_of limit w run s in k.addr) = (let stays = hosts-stay limit w run s in let sound = sound-at w v step s in sym sound.own ∙ stays.addr) in
-        subst (λ (a : Addr). All (IsFromHere a) (accepted_by_call c answer (table_of w.network s) (table_of v.network s))) there (call-from _ c answer (table_of w.network s) (table_of v.network s) step.network.0.table)
+        subst (λ (a : Addr). All (IsFromHere a) (accepted_by_call c answer (table_of w.network s) (table_of v.network s))) there (call-from _ _ c answer (table_of w.network s) (table_of v.network s) step.network.0.table)
 
     by_side : (at side : Side) → IsStep (event.Call at c) answer w v → All (IsFromHere (let k = config_of limit w run side in k.addr)) (accepted_by side (event.Call at c) answer w v)
     by_side A A step = own A step

@@ -146,7 +146,7 @@ orderly-called limit hs ts old new trace c answer opposite numbered sound fair s
     let station = station_of old hs in
     let x : Station = record station { host = host' } in
     let e : Happening = record { event = event.Call hs c; answer = answer } in
-    elim (projects-called limit hs ts w.a w.b (host_of old hs) host' (table_of old ts) old w.bag (length trace) trace c answer sound.table opposite refl (ap (table_of old) opposite) numbered fair step.0.table w.projects) [
+    elim (projects-called limit hs ts w.a w.b (host_of old hs) host' (table_of old ts) old w.bag (length trace) trace _ c answer sound.table opposite refl (ap (table_of old) opposite) numbered fair step.0.table w.projects) [
       | GoesPlain is p t ↦
           let whole : new ≡ with_station old hs x = step.1 ∙ is in
           orderly-of limit hs ts w.a w.b own' (table_of old ts) w.bag old.frames old.openings (trace ++ e ∷ []) new

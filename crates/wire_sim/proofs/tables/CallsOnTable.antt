@@ -25,7 +25,7 @@ use Rattle.wire_sim.specs.declared.event.Answer.{Answer}
 use Rattle.wire_sim.specs.declared.event.Answer.TheVariants.{Refused}
 use Rattle.sockets.specs.Ports.{port_after, first_port, first_port-step, first_port-zero, is_free_port}
 use Rattle.sockets.specs.Entries.{is_pending, has_socket, is_socket, is_bound_at, is_between, role_after_connect, role_after_recv, role_after_shutdown, with_role}
-use Rattle.sockets.specs.SocketsView.{SocketsView, with_socket}
+use Rattle.sockets.specs.SocketsView.{SocketsView, with_socket, later_moment}
 use Rattle.sockets.specs.Lists.{change_first}
 use Rattle.sockets.specs.Calls.{unless_refused, of_connection, role_send_answer, role_recv_answer, send_answer, recv_answer, is_pair_held, port_for, reach_refusal, had_connection, open_answer, connect_refusal, last_port_after, after_connect, refusal_of, role_shutdown_refusal, shutdown_refusal, pair_connected}
 use Rattle.wire_sim.specs.Steps.{Answers, readable_on}
@@ -246,7 +246,7 @@ pub record ConnectsOn (h : SocketsView) (id : SocketId) (peer : Endpoint) (route
   pub apart : same_addr h.addr peer.addr ≡ false
   pub free : find (is_between (record { addr = h.addr; port = port }) peer) h.entries ≡ None
   pub foreseen : pair_connected h id peer routed ≡ Some (pair_of (record { addr = h.addr; port = port }) peer)
-  pub becomes : (isn : ℕ) → after_connect h isn id peer routed ≡ with_socket (record h { last_port = last_port_after h bound port }) id (role_after_connect (record { addr = h.addr; port = port }) peer isn h.kept)
+  pub becomes : (now : Moment) (isn : ℕ) → after_connect h now isn id peer routed ≡ with_socket (record h { last_port = last_port_after h bound port }) id (role_after_connect (record { addr = h.addr; port = port }) peer isn (later_moment h now))
 
 -- no connection goes to the peer from the port that is given
 pub port_for-free : (h : SocketsView) (bound : Option Endpoint) (peer : Endpoint) (port : ℕ) → port_for h bound peer ≡ Some port
@@ -308,7 +308,7 @@ connects-on h id peer routed none = by_entry (find (is_socket id) h.entries) ref
           apart = reached-apart h peer routed near;
           free = port_for-free h bound peer port given;
           foreseen = rw (at, may, near, given);
-          becomes = λ isn. after_connect-accepted h isn id peer routed e bound port at may near given;
+          becomes = λ now isn. after_connect-accepted h now isn id peer routed e bound port at may near given;
         }
 
     by_reach : (e : Entry) (bound : Option Endpoint) → find (is_socket id) h.entries ≡ Some e → open_answer e.role ≡ Ok bound → (o : Option Refusal) → reach_refusal h peer routed ≡ o

@@ -36,7 +36,7 @@ use Rattle.sockets.specs.Closing.{entry_of}
 use Rattle.sockets.specs.Entries.{is_socket, has_socket, with_role, role_after_connect}
 use Rattle.sockets.specs.Ids.{has_id}
 use Rattle.sockets.specs.Order.{IsOrdered}
-use Rattle.sockets.specs.SocketsView.{SocketsView, role_of}
+use Rattle.sockets.specs.SocketsView.{SocketsView, role_of, later_moment}
 use Rattle.sockets.specs.Lists.{change_first}
 use Rattle.sockets.specs.Steps.{connected, view_left}
 use Rattle.sockets.proofs.ByIds.{socket_found}
@@ -139,7 +139,7 @@ shutdown_ends limit side id before after ours theirs c w v answer reached step h
     let named : is_socket id (connected id c None) ≡ true = ap (λ b. b && not c.released) (eqb-same id.0) ∙ ap not left in
     let found : find (is_socket id) h.entries ≡ Some (connected id c None) = found_once (is_socket id) id h.entries (connected id c None) has named (socket_once h id ordered) in
     let taken : table.shutdown_refusal h id ≡ None = rw found (rw ends.0 refl) in
-    let met : (answer ≡ reply.Done) × (table_of v.network side ≡ table.after_shutdown h id) = done (table.shutdown_refusal h id) taken (let m : HostMeetsCall (call.Shutdown id) (host_of w.network side) answer (host_of v.network side) = step.network.0 in m.table) in
+    let met : (answer ≡ reply.Done) × (table_of v.network side ≡ table.after_shutdown h id) = done (table.shutdown_refusal h id) taken (let m : HostMeetsCall (clock_of w.network side) (call.Shutdown id) (host_of w.network side) answer (host_of v.network side) = step.network.0 in m.table) in
     let there : entry_of (after_event h (ShutsSocket id)) id ≡ Some (connected id (edge.after_event c (edge.Shuts h.kept)) None) =
     connection_then h (ShutsSocket id) id c None ordered has (λ zs none. ap (find (has_id id)) none) ∙ ap (λ b. shown b) named in
     (met.0, (edge.after_event c (edge.Shuts h.kept), ap (λ (t : SocketsView). entry_of t id) met.1 ∙ there, ends.1.0, ends.1.1))
@@ -171,6 +171,9 @@ connect_asks limit side id isn peer w v reached step = by_port (table.port_conne
     h : SocketsView
     h = table_of w.network side
 
+    now : Moment
+    now = clock_of w.network side
+
     routed : Bool
     routed = is_routed (let k = host_of w.network side in k.interface) peer.addr
 
@@ -183,25 +186,25 @@ connect_asks limit side id isn peer w v reached step = by_port (table.port_conne
     Asks : Type 0
     Asks = (c : View) × Has v side id None c × IsAsking isn.0 c × (c.peer ≡ peer) × (first_due c ≡ Some Syn)
 
-    met : Answers (table.unless_refused (table.connect_refusal h id peer routed) (tt {0})) (λ _. reply.Started) (table.after_connect h isn.0 id peer routed) h reply.Started (table_of v.network side)
-    met = let m : HostMeetsCall (call.Connect isn id peer) (host_of w.network side) reply.Started (host_of v.network side) = step.network.0 in m.table
+    met : Answers (table.unless_refused (table.connect_refusal h id peer routed) (tt {0})) (λ _. reply.Started) (table.after_connect h now isn.0 id peer routed) h reply.Started (table_of v.network side)
+    met = let m : HostMeetsCall (clock_of w.network side) (call.Connect isn id peer) (host_of w.network side) reply.Started (host_of v.network side) = step.network.0 in m.table
 
     none_out : (n : ℕ) → n < 2 ^ 32 → past n n ≡ 0
     none_out n fits = omega (arith, fits)
 
-    opened : (port : ℕ) → table.port_connected h id peer routed ≡ Ok port → (role : Role) → role_of h id ≡ Some role → (bound : Option Endpoint) → table.open_answer role ≡ Ok bound → table_of v.network side ≡ table.after_connect h isn.0 id peer routed → Asks
+    opened : (port : ℕ) → table.port_connected h id peer routed ≡ Ok port → (role : Role) → role_of h id ≡ Some role → (bound : Option Endpoint) → table.open_answer role ≡ Ok bound → table_of v.network side ≡ table.after_connect h now isn.0 id peer routed → Asks
     opened port given role is bound opens new =
         let local : Endpoint = record { addr = h.addr; port = port } in
-        let change = role_after_connect local peer isn.0 h.kept in
-        let idle = opens_idle role bound local peer isn.0 h.kept opens in
+        let change = role_after_connect local peer isn.0 (later_moment h now) in
+        let idle = opens_idle role bound local peer isn.0 (later_moment h now) opens in
         let x = role_found h id role is in
-        let c : View = opened_actively idle.0 local peer isn.0 h.kept in
+        let c : View = opened_actively idle.0 local peer isn.0 (later_moment h now) in
         let under : find (has_id id) h.entries ≡ Some x.0 = socket_found id 0 h.last_id h.entries x.0 ordered.ids x.1 in
         let at : has_id id x.0 ≡ true = find-passes (has_id id) h.entries x.0 under in
         let entry : with_role change x.0 ≡ connected id c None =
         ap (λ (i : SocketId). let e : Entry = record { id = i; role = change (let e = x.0 in e.role) } in e) (same_id (let e = x.0 in e.id) id at) ∙ ap (λ (r : Role). let e : Entry = record { id = id; role = r } in e) (ap change x.2 ∙ idle.2) in
         let changed : find (has_id id) (change_first (is_socket id) (with_role change) h.entries) ≡ Some (with_role change x.0) = found-changed (is_socket id) (has_id id) (with_role change) h.entries x.0 x.1 at at (sole_id id 0 h.last_id h.entries ordered.ids) in
-        let after : (let t = table.after_connect h isn.0 id peer routed in t.entries) ≡ change_first (is_socket id) (with_role change) h.entries = rw given refl in (
+        let after : (let t = table.after_connect h now isn.0 id peer routed in t.entries) ≡ change_first (is_socket id) (with_role change) h.entries = rw given refl in (
           c,
           ap (λ (t : SocketsView). entry_of t id) new ∙ (ap (find (has_id id)) after ∙ (changed ∙ ap (λ (e : Entry). Some e) entry)),
           record { state = refl; syn = refl },
@@ -209,7 +212,7 @@ connect_asks limit side id isn peer w v reached step = by_port (table.port_conne
           ap (λ n. if (n == 0) || false then Some Syn else None) (none_out isn.0 small),
         )
 
-    by_open : (port : ℕ) → table.port_connected h id peer routed ≡ Ok port → (o : Option Role) → role_of h id ≡ o → table_of v.network side ≡ table.after_connect h isn.0 id peer routed → Asks
+    by_open : (port : ℕ) → table.port_connected h id peer routed ≡ Ok port → (o : Option Role) → role_of h id ≡ o → table_of v.network side ≡ table.after_connect h now isn.0 id peer routed → Asks
     by_open port given None is new = let bad : table.port_connected h id peer routed ≡ Err table_variants.EBADF = rw is in cc
     by_open port given (Some role) is new = by_answer (table.open_answer role) refl
       where
@@ -219,8 +222,8 @@ connect_asks limit side id isn peer w v reached step = by_port (table.port_conne
 
     by_port : (r : Result ℕ table_refusal) → table.port_connected h id peer routed ≡ r → Asks
     by_port (Err refusal) given =
-        let told = subst (λ (r : Result ℕ table_refusal). Answers (table.unless_refused (result_err r) (tt {0})) (λ _. reply.Started) (table.after_connect h isn.0 id peer routed) h reply.Started (table_of v.network side)) given met in
+        let told = subst (λ (r : Result ℕ table_refusal). Answers (table.unless_refused (result_err r) (tt {0})) (λ _. reply.Started) (table.after_connect h now isn.0 id peer routed) h reply.Started (table_of v.network side)) given met in
         let bad = told.0 in cc
     by_port (Ok port) given =
-        let told = subst (λ (r : Result ℕ table_refusal). Answers (table.unless_refused (result_err r) (tt {0})) (λ _. reply.Started) (table.after_connect h isn.0 id peer routed) h reply.Started (table_of v.network side)) given met in
+        let told = subst (λ (r : Result ℕ table_refusal). Answers (table.unless_refused (result_err r) (tt {0})) (λ _. reply.Started) (table.after_connect h now isn.0 id peer routed) h reply.Started (table_of v.network side)) given met in
         by_open port given (role_of h id) refl told.1

@@ -51,11 +51,11 @@ impl Station {
         self.clock
     }
 
-    /// Makes a socket call, which reads octets into `buffer`.
+    /// Makes a socket call at the clock's moment, which reads octets into `buffer`.
     pub(super) fn call(&mut self, call: &Call, buffer: Vec<u8>) -> Answer
         requires { vec_len buffer ≡ call_recv_len call.now }
         ensures octets { octets_len result ≤ vec_len buffer }
-        ensures answer { HostMeetsCall call.now self.old.host result self.new.host }
+        ensures answer { HostMeetsCall self.old.clock call.now self.old.host result self.new.host }
         ensures numbered { IsNumberedCall call.now }
         ensures clock { self.new.clock ≡ self.old.clock }
     {

@@ -31,10 +31,10 @@ returns-clause-ok c =
     ap (λ (w : SocketsView). let r : SocketsView = record w { last_port = c.last_port_after-self-inside.result } in r) c.self.view_is
     ∙ ap (λ (p : ℕ). let r : SocketsView = record h { last_port = p } in r) counted
     in
-    role_written _ _ (is_socket c.args.id) (role_after_connect (record { addr = c.self.inside.addr; port = c.in_ok-port.port }) c.args.peer c.args.isn.0 c.self.inside.kept) _ _ _ _ moved place c.deref_mut.ensures.value c.index-deref_mut-place.is c.connect.ensures
-    ∙ ap (λ (a : Addr). with_socket (record h { last_port = last_port_after h c.in_ok-bound.bound c.in_ok-port.port }) c.args.id (role_after_connect (record { addr = a; port = c.in_ok-port.port }) c.args.peer c.args.isn.0 c.self.inside.kept)) addr
-    ∙ ap (λ (m : Moment). with_socket (record h { last_port = last_port_after h c.in_ok-bound.bound c.in_ok-port.port }) c.args.id (role_after_connect (record { addr = h.addr; port = c.in_ok-port.port }) c.args.peer c.args.isn.0 m)) (ap (λ (w : SocketsView). w.kept) c.self.view_is)
-    ∙ sym (after_connect-accepted h c.args.isn.0 c.args.id c.args.peer c.args.is_routed x c.in_ok-bound.bound c.in_ok-port.port found opens reached given)
+    role_written _ _ (is_socket c.args.id) (role_after_connect (record { addr = c.self.inside.addr; port = c.in_ok-port.port }) c.args.peer c.args.isn.0 c.later_moment-now.result) _ _ _ _ moved place c.deref_mut.ensures.value c.index-deref_mut-place.is c.connect.ensures
+    ∙ ap (λ (a : Addr). with_socket (record h { last_port = last_port_after h c.in_ok-bound.bound c.in_ok-port.port }) c.args.id (role_after_connect (record { addr = a; port = c.in_ok-port.port }) c.args.peer c.args.isn.0 c.later_moment-now.result)) addr
+    ∙ ap (λ (m : Moment). with_socket (record h { last_port = last_port_after h c.in_ok-bound.bound c.in_ok-port.port }) c.args.id (role_after_connect (record { addr = h.addr; port = c.in_ok-port.port }) c.args.peer c.args.isn.0 m)) c.later_moment-now.ensures
+    ∙ sym (after_connect-accepted h c.args.now c.args.isn.0 c.args.id c.args.peer c.args.is_routed x c.in_ok-bound.bound c.in_ok-port.port found opens reached given)
 
 -- the entry keeps its id, and its connection is filed
 pub invariant_of-self : goal.invariant_of-self
@@ -44,7 +44,7 @@ invariant_of-self c =
       c.last_port_after-self-inside.ensures.dynamic,
       ascends_written _ _ _ _ _ c.index-deref_mut-place.result c.self.invariant.1 c.deref_mut.ensures.value refl,
       index_after_connect c.self.inside.entries.items c.deref.result.now c.in_ok-place.place c.index-deref-place.result c.args.id c.in_ok-bound.bound (ap (λ (es : List Entry). position (is_socket c.args.id) es) entries ∙ c.in_ok-place.ensures.place) c.deref.ensures.0 (sym c.in_ok-bound.ensures)
-          _ _ _ c.index-deref_mut-place.result _ local c.args.peer c.args.isn.0 c.self.inside.kept c.self.invariant.2 c.file.ensures c.deref_mut.ensures.value (role_changed (role_after_connect local c.args.peer c.args.isn.0 c.self.inside.kept) _ _ c.connect.ensures),
+          _ _ _ c.index-deref_mut-place.result _ local c.args.peer c.args.isn.0 c.later_moment-now.result c.self.invariant.2 c.file.ensures c.deref_mut.ensures.value (role_changed (role_after_connect local c.args.peer c.args.isn.0 c.later_moment-now.result) _ _ c.connect.ensures),
     )
 
 pub file-requires-clause-sorted : goal.file-requires-clause-sorted
