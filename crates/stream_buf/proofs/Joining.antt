@@ -206,3 +206,7 @@ none_past (r ∷ rs) end place within past =
 -- behind the first range, a place is in one of the others
 pub kept_behind : (r : Range) (rs : List Range) (place : ℕ) → r.end ≤ place → is_kept (r ∷ rs) place ≡ is_kept rs place
 kept_behind r rs place past = ap (λ (b : Bool). b || is_kept rs place) (not_in_past place r.start r.end past)
+
+-- and in it, it is in one of all
+pub in_first : (r : Range) (rs : List Range) (place : ℕ) → r.start ≤ place → place < r.end → is_kept (r ∷ rs) place ≡ true
+in_first r rs place low high = ap (λ (b : Bool). b || is_kept rs place) (in_here place r.start r.end low high)

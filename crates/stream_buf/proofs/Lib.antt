@@ -8,6 +8,7 @@ pub mod Touching
 pub mod Beginnings
 pub mod Receptions
 pub mod Joining
+pub mod Runs
 pub mod Gathering
 pub mod Filling
 pub mod Copying

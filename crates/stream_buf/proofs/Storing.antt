@@ -4,18 +4,18 @@ use Rattle.std.proofs.lemmas.Bool.{cases_lt}
 use Rattle.std.proofs.lemmas.List.{length-take, length-drop, length-replicate, get_or-drop, get_or-take, get_or-replicate, get_or_past}
 use Rattle.std.proofs.lemmas.List.FromFn.{length-map-range_with_len, get_or-map-range_with_len, fill_by_all}
 use Rattle.std.proofs.lemmas.Option.{slice_get-get_or, slice_get_past}
-use Rattle.std.specs.List.{slice_get, range_with_len}
+use Rattle.std.specs.List.{slice_get}
 use Rattle.stream_buf.specs.declared.ranges.Range.{Range}
 use Rattle.stream_buf.specs.Ranges.{range, AreApart, AreWithin, with_range, further}
-use Rattle.stream_buf.specs.Receiving.{front, behind_front, ranges_after, ranges, laid}
+use Rattle.stream_buf.specs.Receiving.{front, behind_front, laid}
 use Rattle.stream_buf.specs.Ring.{overlaid}
 use Rattle.stream_buf.specs.Stored.{is_in, is_kept, kept_at, kept_places, filled_to, laid_at}
 use Rattle.stream_buf.proofs.Standing.{laid_own, laid_before, laid_behind, at_more}
 use Rattle.stream_buf.proofs.Inserting.{length-laid}
-use Rattle.stream_buf.proofs.Joining.{none_before, none_past, kept_behind, kept_further, kept_with, in_here, not_in, not_in_past, apart_before, within_further}
+use Rattle.stream_buf.proofs.Joining.{none_before, none_past, kept_behind, kept_further, kept_with, in_here, not_in, not_in_past}
 
 -- the octet at a place, where the place is in a range and where it isn't
-kept_there : (rs : List Range) (ahead : List ℕ) (k : ℕ) → is_kept rs k ≡ true → kept_at rs ahead k ≡ slice_get ahead k
+pub kept_there : (rs : List Range) (ahead : List ℕ) (k : ℕ) → is_kept rs k ≡ true → kept_at rs ahead k ≡ slice_get ahead k
 kept_there rs ahead k is = ap (λ (b : Bool). if b then slice_get ahead k else None) is
 
 pub not_kept : (rs : List Range) (ahead : List ℕ) (k : ℕ) → is_kept rs k ≡ false → kept_at rs ahead k ≡ None
@@ -229,91 +229,7 @@ module _ (n : ℕ) (rs : List Range) (ahead : List ℕ) (room : ℕ) (fits : len
       ∙ are_kept rs (drop n ahead) (room - n) (drop n ps) (omega (arith, length-drop n ps, length-kept all ahead room))
       (λ k below. get_or-drop n ps k None ∙ at_kept all ahead room (n + k) (omega (arith, below)) ∙ behind_first k)
 
--- the ranges that are counted of the places from one on
-module _ (ahead : List ℕ) where
-  abbrev pub places_from : List Range → ℕ → ℕ → List (Option ℕ)
-  places_from rs at count = map (kept_at rs ahead) (range_with_len at count)
-
-  pub places_behind : (r : Range) (rs : List Range) (count at : ℕ) → r.end ≤ at → places_from (r ∷ rs) at count ≡ places_from rs at count
-  places_behind r rs zero at past = refl
-  places_behind r rs (suc count) at past =
-      ap (λ (b : Bool). (if b then slice_get ahead at else None) ∷ places_from (r ∷ rs) (at + 1) count) (kept_behind r rs at past)
-      ∙ ap (λ (ps : List (Option ℕ)). kept_at rs ahead at ∷ ps) (places_behind r rs count (at + 1) (omega (arith, past)))
-
-  -- by the first of them
-  gap_first : (before : Bool) (rs : List Range) (count at : ℕ) → is_kept rs at ≡ false
-      → ranges_after before (places_from rs at (suc count)) ≡ ranges_after false (places_from rs (at + 1) count)
-  gap_first before rs count at none = ap (λ (o : Option ℕ). ranges_after before (o ∷ places_from rs (at + 1) count)) (not_kept rs ahead at none)
-
-  pub first_there : (rs : List Range) (at : ℕ) → is_kept rs at ≡ true → at < length ahead → kept_at rs ahead at ≡ Some (get_or ahead at 0)
-  first_there rs at kept there = kept_there rs ahead at kept ∙ slice_get-get_or ahead at 0 there
-
-  first_begins : (rs : List Range) (count at : ℕ) → is_kept rs at ≡ true → at < length ahead
-      → ranges_after false (places_from rs at (suc count)) ≡ suc (ranges_after true (places_from rs (at + 1) count))
-  first_begins rs count at kept there = ap (λ (o : Option ℕ). ranges_after false (o ∷ places_from rs (at + 1) count)) (first_there rs at kept there)
-
-  first_goes_on : (rs : List Range) (count at : ℕ) → is_kept rs at ≡ true → at < length ahead
-      → ranges_after true (places_from rs at (suc count)) ≡ ranges_after true (places_from rs (at + 1) count)
-  first_goes_on rs count at kept there = ap (λ (o : Option ℕ). ranges_after true (o ∷ places_from rs (at + 1) count)) (first_there rs at kept there)
-
-  -- from a place before all of them on
-  abbrev CountsAll : ℕ → Type 0
-  CountsAll count = (rs : List Range) (at : ℕ) → AreApart at rs → AreWithin (at + count) rs → AreWithin (length ahead) rs
-      → ranges_after false (places_from rs at count) ≡ length rs
-
-  -- from a place on that is in the first of them, or directly behind it
-  abbrev CountsOthers : ℕ → Type 0
-  CountsOthers count = (r : Range) (rs : List Range) (at : ℕ) → r.start < at → at ≤ r.end → AreApart (suc r.end) rs → AreWithin (at + count) (r ∷ rs) → AreWithin (length ahead) (r ∷ rs)
-      → ranges_after true (places_from (r ∷ rs) at count) ≡ length rs
-
-  all_of_none : CountsAll 0
-  all_of_none [] at apart within reach = refl
-  all_of_none (r ∷ rs) at apart within reach = absurd (omega (arith, apart.0, apart.1, within.0))
-
-  others_of_none : CountsOthers 0
-  others_of_none r [] at low high apart within reach = refl
-  others_of_none r (s ∷ rs) at low high apart within reach = absurd (omega (arith, high, apart.0, apart.1, within.1.0))
-
-  pub in_first : (r : Range) (rs : List Range) (at : ℕ) → r.start ≤ at → at < r.end → is_kept (r ∷ rs) at ≡ true
-  in_first r rs at low high = ap (λ (b : Bool). b || is_kept rs at) (in_here at r.start r.end low high)
-
-  all_of_more : (count : ℕ) → CountsAll count → CountsOthers count → CountsAll (suc count)
-  all_of_more count all others [] at apart within reach = gap_first false [] count at refl ∙ all [] (at + 1) tt tt tt
-  all_of_more count all others (r ∷ rs) at apart within reach =
-      let near : AreWithin (at + 1 + count) (r ∷ rs) = within_further (r ∷ rs) (at + suc count) (at + 1 + count) (omega arith) within in
-      elim (cases_lt at r.start) [
-        | inl lt ↦
-            gap_first false (r ∷ rs) count at (none_before (r ∷ rs) (suc at) at (omega (arith, lt), apart.1, apart.2) (omega arith))
-            ∙ all (r ∷ rs) (at + 1) (omega (arith, lt), apart.1, apart.2) near reach
-        | inr ge ↦
-            first_begins (r ∷ rs) count at (in_first r rs at ge (omega (arith, apart.0, apart.1, ge))) (omega (arith, apart.0, apart.1, reach.0))
-            ∙ ap (λ (n : ℕ). suc n) (others r rs (at + 1) (omega (arith, ge)) (omega (arith, apart.0, apart.1)) apart.2 near reach)
-      ]
-
-  others_of_more : (count : ℕ) → CountsAll count → CountsOthers count → CountsOthers (suc count)
-  others_of_more count all others r rs at low high apart within reach =
-      let near : AreWithin (at + 1 + count) (r ∷ rs) = within_further (r ∷ rs) (at + suc count) (at + 1 + count) (omega arith) within in
-      elim (cases_lt at r.end) [
-        | inl lt ↦
-            first_goes_on (r ∷ rs) count at (in_first r rs at (omega (arith, low)) lt) (omega (arith, lt, reach.0))
-            ∙ others r rs (at + 1) (omega (arith, low)) (omega (arith, lt)) apart near reach
-        | inr ge ↦
-            gap_first true (r ∷ rs) count at (kept_behind r rs at ge ∙ none_before rs (suc r.end) at apart (omega (arith, high)))
-            ∙ ap (λ (ps : List (Option ℕ)). ranges_after false ps) (places_behind r rs count (at + 1) (omega (arith, ge)))
-            ∙ all rs (at + 1) (apart_before rs (suc r.end) (at + 1) (omega (arith, high)) apart) near.1 reach.1
-      ]
-
-  counted : (count : ℕ) → CountsAll count × CountsOthers count
-  counted zero = (all_of_none, others_of_none)
-  counted (suc count) = let less = counted count in (all_of_more count less.0 less.1, others_of_more count less.0 less.1)
-
--- as many ranges are kept as there are
-pub ranges_kept : (rs : List Range) (ahead : List ℕ) (room : ℕ) → AreApart 1 rs → AreWithin (length ahead) rs → length ahead ≤ room → ranges (kept_places rs ahead room) ≡ length rs
-unfolding kept_places
-ranges_kept rs ahead room apart reach fits =
-    (counted ahead room).0 rs 0 (apart_before rs 1 0 (omega arith) apart) (within_further rs (length ahead) (0 + room) (omega (arith, fits)) reach) reach
-
--- and none of them from RCV.NXT on
+-- none is kept at RCV.NXT
 pub gap_kept : (rs : List Range) (ahead : List ℕ) (room : ℕ) → AreApart 1 rs → front (kept_places rs ahead room) ≡ []
 gap_kept rs ahead room apart =
     front_is [] (kept_places rs ahead room) (λ k below. absurd (omega (arith, below)))

@@ -6,13 +6,13 @@ use Rattle.std.proofs.lemmas.List.{append-nil, length-replicate, length-take, le
 use Rattle.stream_buf.specs.Ring.{Buffer, buffer, overlaid}
 use Rattle.stream_buf.specs.declared.ranges.Range.{Range}
 use Rattle.stream_buf.specs.Ranges.{range, covered, AreApart, AreWithin, with_range, further}
-use Rattle.stream_buf.specs.Receiving.{ReceiveView, nothing_received, front, behind_front, ranges, kept_count, laid, is_taken, joined, after_insert, read_count, after_read, after_forgetting, IsReceiving}
+use Rattle.stream_buf.specs.Receiving.{ReceiveView, nothing_received, front, behind_front, runs, ranges, kept_count, laid, is_taken, joined, after_insert, read_count, after_read, after_forgetting, IsReceiving}
 use Rattle.stream_buf.specs.Stored.{kept_places, receive_view, IsStored, filled_to, laid_at}
 use Rattle.stream_buf.proofs.Inserting.{front_ahead, all_behind, laid_none, ranges_laid_none}
 use Rattle.stream_buf.proofs.Taking.{taken_first, taken_ahead}
 use Rattle.stream_buf.proofs.Joining.{apart_with, within_with, within_further, within_nearer}
-use Rattle.stream_buf.proofs.Kept.{covered_within, octets_kept}
-use Rattle.stream_buf.proofs.Storing.{length-kept, none_kept, kept_more, kept_laid, length-laid_at, front_joined, behind_joined, ranges_kept, gap_kept}
+use Rattle.stream_buf.proofs.Kept.{covered_within, runs_kept, ranges_kept, octets_kept}
+use Rattle.stream_buf.proofs.Storing.{length-kept, none_kept, kept_more, kept_laid, length-laid_at, front_joined, behind_joined, gap_kept}
 
 abbrev view : List ℕ → List (Option ℕ) → ℕ → ReceiveView
 view readable kept capacity = record { readable = readable; kept = kept; capacity = capacity }
@@ -88,6 +88,9 @@ module _ (octets : Buffer) (n : ℕ) (rs : List Range) (stored : IsStored octets
 
   pub readable_viewed : length (receive_view octets n rs).readable ≡ n
   readable_viewed = omega (arith, length-take n octets.items, stored.there)
+
+  pub runs_viewed : runs (receive_view octets n rs).kept ≡ rs
+  runs_viewed = runs_kept rs (drop n octets.items) (octets.capacity - n) stored.apart reach fits_ahead
 
   pub ranges_viewed : ranges (receive_view octets n rs).kept ≡ length rs
   ranges_viewed = ranges_kept rs (drop n octets.items) (octets.capacity - n) stored.apart reach fits_ahead

@@ -1,4 +1,5 @@
--- Ranges of places ahead of a gap, and how they join. The contracts of `RecvBuf` do not rest on this page.
+-- Ranges of places ahead of a gap, and how they join. The contracts of `RecvBuf` do not rest on this page; a law of the runs that it
+-- keeps cites `AreApart` and `covered`.
 use Rattle.std.specs.Prelude.{ℕ, suc, ◌+◌, ◌-◌, ◌<◌, ◌≤◌, ◌&&◌, nat_lt, nat_le, min, max, Bool, if◌then◌else◌, List, [], ◌∷◌, sum_by}
 use Rattle.stream_buf.specs.declared.ranges.Range.{Range}
 

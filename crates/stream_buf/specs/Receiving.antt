@@ -1,6 +1,7 @@
 -- The octets that came: those in order, which the caller can read, and those ahead of a gap, which are kept until it is filled
 -- (RFC 9293 sections 3.3.1 and 3.10.7.4).
-use Rattle.std.specs.Prelude.{◌≡◌, ℕ, suc, ◌+◌, ◌≤◌, ◌==◌, ◌||◌, nat_le, min, Bool, true, false, if◌then◌else◌, List, [], ◌∷◌, ◌++◌, length, take, drop, map, replicate, Option, Some, None}
+use Rattle.std.specs.Prelude.{◌≡◌, ℕ, suc, ◌+◌, ◌≤◌, ◌==◌, ◌||◌, nat_le, min, Bool, true, false, if◌then◌else◌, List, [], ◌∷◌, ◌++◌, length, take, drop, map, replicate, Option, Some, None, unwrap_or}
+use Rattle.stream_buf.specs.declared.ranges.Range.{Range}
 use Rattle.stream_buf.specs.declared.receive.TheConstants.{MOST_RANGES}
 
 -- A receive buffer: what is readable, what is kept ahead of it, by its distance from RCV.NXT, with a place for each octet that
@@ -23,6 +24,21 @@ front (Some octet ∷ places) = octet ∷ front places
 -- the places behind those
 abbrev pub behind_front : List (Option ℕ) → List (Option ℕ)
 behind_front places = drop (length (front places)) places
+
+-- the run that is open in front of a place, if one is: from where it began up to there
+abbrev pub open_run : Option ℕ → ℕ → List Range
+open_run None place = []
+open_run (Some start) place = record { start = start; end = place } ∷ []
+
+-- the longest runs of kept octets from a place on; the first of them is the one that is open in front of it, if one is
+abbrev pub runs_from : Option ℕ → ℕ → List (Option ℕ) → List Range
+runs_from start place [] = open_run start place
+runs_from start place (None ∷ places) = open_run start place ++ runs_from None (place + 1) places
+runs_from start place (Some octet ∷ places) = runs_from (Some (unwrap_or start place)) (place + 1) places
+
+-- the longest runs of kept octets, in order, each by its first place and the one behind its last (RFC 2018 section 3)
+abbrev pub runs : List (Option ℕ) → List Range
+runs places = runs_from None 0 places
 
 -- how many ranges begin in these places, where the place before the first keeps an octet or doesn't
 abbrev pub ranges_after : Bool → List (Option ℕ) → ℕ

@@ -1,9 +1,10 @@
 //! Laws of the definitions that the contracts of this crate cite, over every list of calls: each is the contract of a function that
 //! does nothing.
 
-ghost use Rattle.std.specs.Prelude.{◌≡◌, ℕ, ◌+◌, ◌<◌, ◌≤◌, ◌++◌, List, length, take, drop, Option, Some, None, EachIndex, slice_index, slice_index_or, slice_range};
+ghost use Rattle.std.specs.Prelude.{◌≡◌, ◌↔◌, ℕ, ◌+◌, ◌<◌, ◌≤◌, ◌++◌, List, [], length, take, drop, Option, Some, None, IsSome, Any, EachIndex, slice_index, slice_index_or, slice_range};
 ghost use Rattle.stream_buf.specs.Sending.{SendView, send_room, written_count, copied};
-ghost use Rattle.stream_buf.specs.Receiving.{ReceiveView, ranges, read_count};
+ghost use Rattle.stream_buf.specs.Receiving.{ReceiveView, front, runs, ranges, kept_count, read_count};
+ghost use Rattle.stream_buf.specs.Ranges.{AreApart, covered};
 ghost use Rattle.stream_buf.specs.Written.{SendEvent, written, AreSendCalls};
 ghost use Rattle.stream_buf.specs.Received.{ReceiveEvent, Received, after_receive_event, received, in_order, by_place, AreReceiveCalls, Carry, ForgetNothing, IsInserted, Touches, beginnings};
 ghost use Rattle.stream_buf.specs.Received.ReceiveEvent.{Inserts, Reads, Forgets};
@@ -92,6 +93,18 @@ pub fn few_ranges()
     ensures counted { (kept : List (Option ℕ)) → ranges kept ≡ beginnings kept (length kept) }
     ensures most { (capacity : ℕ) (events : List ReceiveEvent) → AreReceiveCalls capacity events
         → let r = received capacity events in ranges r.buffer.kept ≤ 32 }
+{}
+
+/// The ranges that are kept have the places that keep an octet, and no others. They are in order, none is empty, and a place without an
+/// octet lies between each two and, where none stands at RCV.NXT, before the first (RFC 2018 section 3). There are as many as are
+/// counted, and they have as many places as octets are kept.
+pub fn kept_ranges_are_what_is_kept()
+    ensures kept { (kept : List (Option ℕ)) (place : ℕ) → IsSome (slice_index_or kept place None)
+        ↔ Any (λ r. (r.start ≤ place) × (place < r.end)) (runs kept) }
+    ensures apart { (kept : List (Option ℕ)) → AreApart 0 (runs kept) }
+    ensures ahead { (kept : List (Option ℕ)) → front kept ≡ [] → AreApart 1 (runs kept) }
+    ensures counted { (kept : List (Option ℕ)) → length (runs kept) ≡ ranges kept }
+    ensures octets { (kept : List (Option ℕ)) → covered (runs kept) ≡ kept_count kept }
 {}
 
 /// Octets that have room are taken whole where they begin at RCV.NXT, or touch what is kept, or there are fewer than 32 ranges. Others

@@ -8,5 +8,6 @@ mod receive;
 mod ring;
 mod send;
 
+pub use ranges::Range;
 pub use receive::{MOST_RANGES, RecvBuf};
 pub use send::SendBuf;

@@ -7,13 +7,13 @@ use crate::receive::MOST_RANGES;
 use arrayvec::ArrayVec;
 use std::marker::Model;
 
-/// Places without a gap, by their distances from RCV.NXT.
+/// Places without a gap, by their distances from RCV.NXT, in octets.
 #[derive(Clone, Copy, Default, Debug, PartialEq, Eq)]
-pub(crate) struct Range {
+pub struct Range {
     /// The first of them.
-    pub(crate) start: usize,
+    pub start: usize,
     /// The place behind the last one.
-    pub(crate) end: usize,
+    pub end: usize,
 }
 
 impl Range {
@@ -72,6 +72,13 @@ impl Ranges {
         Ranges {
             list: ArrayVec::new(),
         }
+    }
+
+    /// They themselves.
+    pub(crate) fn as_slice(&self) -> &[Range]
+        ensures { result.now ≡ self.now }
+    {
+        self.list.as_slice()
     }
 
     /// How many there are.

@@ -1,7 +1,7 @@
 //! The octets that came.
 
 ghost use Rattle.std.specs.Prelude.{◌≡◌, ◌+◌, ◌<◌, ◌≤◌, ◌++◌, true, length, drop, IfOk};
-ghost use Rattle.stream_buf.specs.Receiving.{nothing_received, ranges, kept_count, is_taken, joined, after_insert, read_count, read_octets, after_read, after_forgetting, IsReceiving};
+ghost use Rattle.stream_buf.specs.Receiving.{nothing_received, runs, ranges, kept_count, is_taken, joined, after_insert, read_count, read_octets, after_read, after_forgetting, IsReceiving};
 
 use crate::ranges::{Range, Ranges};
 use crate::ring::Ring;
@@ -122,6 +122,15 @@ impl RecvBuf {
         ensures { result ≡ ranges self.now.kept }
     {
         self.ranges.len()
+    }
+
+    /// The ranges of octets that are kept ahead of a gap, in order, by their distances from RCV.NXT: the blocks that a selective
+    /// acknowledgement can report (RFC 2018 section 3).
+    #[tactic(auto, using(crate::proofs::Viewing::runs_viewed))]
+    pub fn kept_ranges(&self) -> &[Range]
+        ensures { result.now ≡ runs self.now.kept }
+    {
+        self.ranges.as_slice()
     }
 
     /// How many octets are kept ahead of a gap.
