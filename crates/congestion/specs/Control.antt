@@ -1,16 +1,25 @@
 -- What the set-up of a host says of the congestion window (RFC 5681 section 3.1, RFC 6582, RFC 6928).
 use Rattle.std.specs.Prelude.{ℕ, ◌^◌, ◌*◌, ◌==◌, nat_lt, min, max, Bool, true, false, if◌then◌else◌}
 use Rattle.congestion.specs.declared.control.Recovery.{Recovery}
-use Rattle.congestion.specs.declared.control.Recovery.TheVariants.{Plain, NewReno}
+use Rattle.congestion.specs.declared.control.Recovery.TheVariants.{Plain, NewReno, Selective}
 use Rattle.congestion.specs.declared.control.Control.{Control}
 
 abbrev pub repairs_losses : Recovery → Bool
 repairs_losses Plain = false
 repairs_losses NewReno = true
+repairs_losses Selective = true
 
 -- whether a recovery goes on at a partial ACK (RFC 6582), with limited transmit (RFC 3042) and octets that are counted (RFC 3465)
 abbrev pub repairs : Control → Bool
 repairs c = repairs_losses c.recovery
+
+-- whether acknowledgements report which octets are kept ahead of a gap, where the peer takes that (RFC 2018)
+abbrev pub is_selective_recovery : Recovery → Bool
+is_selective_recovery Selective = true
+is_selective_recovery _ = false
+
+abbrev pub is_selective : Control → Bool
+is_selective c = is_selective_recovery c.recovery
 
 -- RFC 5681 alone
 abbrev pub plain : Control

@@ -1,7 +1,7 @@
 //! What a host's set-up says of the congestion control of its connections.
 
 ghost use Rattle.std.specs.Prelude.{◌≡◌};
-ghost use Rattle.congestion.specs.Control.{repairs};
+ghost use Rattle.congestion.specs.Control.{repairs, is_selective};
 
 /// How losses are repaired.
 #[derive(Clone, Copy, Debug, PartialEq, Eq)]
@@ -11,6 +11,8 @@ pub enum Recovery {
     /// A recovery goes on until all that was outstanding at its beginning is acknowledged (NewReno, RFC 6582), limited transmit (RFC 3042), and a window that
     /// grows by the octets that are acknowledged (RFC 3465).
     NewReno,
+    /// The same; and where the peer takes it, acknowledgements report which octets are kept ahead of a gap (RFC 2018).
+    Selective,
 }
 
 /// What a host's set-up says of the congestion control of its connections.
@@ -38,7 +40,17 @@ impl Control {
     {
         match self.recovery {
             Recovery::Plain => false,
-            Recovery::NewReno => true,
+            Recovery::NewReno | Recovery::Selective => true,
+        }
+    }
+
+    /// Whether selective acknowledgements are taken, and offered to be sent (RFC 2018).
+    pub fn is_selective(self) -> bool
+        ensures { result ≡ is_selective self }
+    {
+        match self.recovery {
+            Recovery::Plain | Recovery::NewReno => false,
+            Recovery::Selective => true,
         }
     }
 }

@@ -1,14 +1,14 @@
 -- What a connection has due can be sent, and fits into a frame.
-use Rattle.std.proofs.Common.{ℕ, ◌+◌, ◌*◌, ◌<◌, ◌≤◌, ◌^◌, if◌then◌else◌, Bool, true, false, length, drop, arith, length-take}
+use Rattle.std.proofs.Common.{ℕ, ◌+◌, ◌*◌, ◌<◌, ◌≤◌, ◌^◌, if◌then◌else◌, Bool, true, false, length, arith}
 use Rattle.tcp_segment.specs.Segment.{FieldsFit}
 use Rattle.tcp_segment.specs.Sent.{CanBeSent, sent_segment, sent_offset}
-use Rattle.tcp_segment.proofs.Sending.{most_offset}
+use Rattle.tcp_state.proofs.BlocksTold.{blocks_fit}
 use Rattle.tcp_state.specs.declared.emission.Due.{Due}
 use Rattle.tcp_state.specs.declared.emission.Due.TheVariants.{Rst, Syn, Text, Probe, Ack, KeepAlive}
-use Rattle.tcp_state.specs.declared.emission.Stretch.{Stretch}
 use Rattle.tcp_state.specs.View.{View, IsSound}
-use Rattle.tcp_state.specs.Due.{MayGoOut, IsHeld, probe_stretch, head_of, octets_of, octets_of_stretch, number_of, flags_of}
+use Rattle.tcp_state.specs.Due.{MayGoOut, head_of, octets_of, number_of, flags_of}
 use Rattle.tcp_state.proofs.AckNumbers.{ack_fits}
+use Rattle.tcp_state.proofs.Sizes.{emitted_short}
 use Rattle.tcp_state.proofs.Saying.{window_fits}
 use Rattle.sockets.specs.Sound.{IsSoundConnection}
 
@@ -23,18 +23,6 @@ number_fits v KeepAlive sound = omega arith
 acknowledgement_fits : (b : Bool) (n : ℕ) → n < 2 ^ 32 → (if b then n else 0) < 2 ^ 32
 acknowledgement_fits true n fits = fits
 acknowledgement_fits false n fits = omega arith
-
--- a stretch of what is held has the octets of one segment at most
-stretch_fits : (v : View) (stretch : Stretch) → IsHeld v stretch → length (octets_of_stretch v stretch) ≤ 1460
-stretch_fits v stretch held = omega (arith, length-take stretch.count (drop stretch.offset v.sending.held), held.size)
-
-text_fits : (v : View) (due : Due) → MayGoOut v due → length (octets_of v due) ≤ 1460
-text_fits v Rst may = omega arith
-text_fits v Syn may = omega arith
-text_fits v (Text stretch) may = stretch_fits v stretch may
-text_fits v Probe may = stretch_fits v (probe_stretch v) may
-text_fits v Ack may = omega arith
-text_fits v KeepAlive may = omega arith
 
 fields_fit : (v : View) (due : Due) → IsSoundConnection v → FieldsFit (sent_segment (head_of v due) (octets_of v due))
 fields_fit v due k = record {
@@ -52,19 +40,10 @@ due-can v due k may = record {
   src_octets = k.local.addr;
   dst_octets = k.peer.addr;
   fields = fields_fit v due k;
-  len = omega (arith, text_fits v due may, most_offset (head_of v due));
+  blocks = blocks_fit v due;
+  len = omega (arith, emitted_short v due may);
 }
-
--- a header with SYN, with the window scale option or without
-syn-fits : (scales : Bool) → 4 * (if scales then 7 else 6) + 0 ≤ 1480
-syn-fits true = omega arith
-syn-fits false = omega arith
 
 -- a segment with its header has 1,480 octets at most
 pub due-fits : (c : View) (due : Due) → MayGoOut c due → 4 * sent_offset (head_of c due) + length (octets_of c due) ≤ 1480
-due-fits c Rst may = omega arith
-due-fits c Syn may = syn-fits c.scales
-due-fits c (Text stretch) may = omega (arith, text_fits c (Text stretch) may)
-due-fits c Probe may = omega (arith, text_fits c Probe may)
-due-fits c Ack may = omega arith
-due-fits c KeepAlive may = omega arith
+due-fits = emitted_short

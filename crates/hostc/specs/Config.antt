@@ -2,7 +2,7 @@
 use Rattle.std.specs.Prelude.{◌≡◌, ◌≤◌, ◌==◌, ℕ, nat_lt, if◌then◌else◌, true, false, List, All, length, take, drop, slice_index}
 use Rattle.byteorder.specs.Endian.{little_number}
 use Rattle.congestion.specs.declared.control.Recovery.{Recovery}
-use Rattle.congestion.specs.declared.control.Recovery.TheVariants.{Plain, NewReno}
+use Rattle.congestion.specs.declared.control.Recovery.TheVariants.{Plain, NewReno, Selective}
 use Rattle.ether.specs.declared.mac.Mac.{Mac}
 use Rattle.hostc.specs.declared.config.Config.{Config}
 
@@ -18,7 +18,7 @@ no_window_scale_in octets = slice_index octets 34
 abbrev pub minshall_in : List ℕ → ℕ
 minshall_in octets = slice_index octets 35
 
--- octet 36: 0 where losses are repaired as RFC 5681 has it alone, and 1 where by NewReno
+-- octet 36: 0 where losses are repaired as RFC 5681 has it alone, 1 where by NewReno, and 2 where with selective acknowledgements beside it
 abbrev pub recovery_in : List ℕ → ℕ
 recovery_in octets = slice_index octets 36
 
@@ -38,14 +38,14 @@ first_threshold_in octets = if nat_lt (length octets) 44 then 0 else little_numb
 abbrev pub options_end : List ℕ → ℕ
 options_end octets = if nat_lt (length octets) 44 then 40 else 44
 
--- Octets as many as they say, 40 at least, that ask for nothing that isn't known: no octet that chooses between two is over 1, and all behind the last
--- option are 0.
+-- Octets as many as they say, 40 at least, that ask for nothing that isn't known: no octet that chooses between two is over 1, none between three over 2, and
+-- all behind the last option are 0.
 pub record IsConfig (octets : List ℕ) : Type 0 where
   pub sized : size_in octets ≡ length octets
   pub least : 40 ≤ length octets
   pub scale : no_window_scale_in octets ≤ 1
   pub small : minshall_in octets ≤ 1
-  pub repair : recovery_in octets ≤ 1
+  pub repair : recovery_in octets ≤ 2
   pub rest : All (λ octet. octet ≡ 0) (drop (options_end octets) octets)
 
 -- a number, or where it is 0 the usual one
@@ -53,7 +53,7 @@ abbrev pub or_usual : ℕ → ℕ → ℕ
 or_usual usual number = if number == 0 then usual else number
 
 abbrev pub recovery_of : ℕ → Recovery
-recovery_of number = if number == 1 then NewReno else Plain
+recovery_of number = if number == 1 then NewReno else if number == 2 then Selective else Plain
 
 -- what they say: the address from octet 24 on, and the MAC from octet 28 on. The routes between, from octet 8 on, are passed beside them.
 abbrev pub config_in : List ℕ → Config

@@ -61,7 +61,7 @@ impl Config {
         let no_window_scale = octets[NO_WINDOW_SCALE];
         let minshall = octets[MINSHALL];
         let recovery = octets[RECOVERY];
-        if no_window_scale > 1 || minshall > 1 || recovery > 1 {
+        if no_window_scale > 1 || minshall > 1 || recovery > 2 {
             return None;
         }
         let (_, rest) = octets.split_at(options_end(octets));
@@ -104,14 +104,14 @@ fn first_threshold_in(octets: &[u8]) -> u32
     LittleEndian::read_u32(from_threshold)
 }
 
-/// How losses are repaired by this number: 1 is NewReno.
+/// How losses are repaired by this number: 1 is NewReno, and 2 that with selective acknowledgements.
 fn recovery_of(number: u8) -> Recovery
     ensures { result ≡ recovery_of number }
 {
-    if number == 1 {
-        Recovery::NewReno
-    } else {
-        Recovery::Plain
+    match number {
+        1 => Recovery::NewReno,
+        2 => Recovery::Selective,
+        _ => Recovery::Plain,
     }
 }
 

@@ -24,6 +24,7 @@ mod opening;
 mod queues;
 mod ready;
 mod recovery;
+mod reports;
 mod resets;
 mod scale;
 mod segments;

@@ -4,6 +4,7 @@ use Rattle.ipv4.specs.declared.addr.Addr.{Addr}
 use Rattle.tcp_segment.specs.declared.head.Head.{Head}
 use Rattle.tcp_segment.specs.Segment.{Segment, FieldsFit}
 use Rattle.tcp_segment.specs.Sent.{CanBeSent}
+use Rattle.tcp_segment.proofs.BlockLists.{none_fit}
 use Rattle.clock.specs.declared.moment.Moment.{Moment}
 use Rattle.sockets.specs.SocketsView.{SocketsView}
 use Rattle.sockets.specs.Arrival.{Answers, arrival_with_reply, arrival}
@@ -48,12 +49,14 @@ can_be_sent own source s _ ours theirs fit at_ack = record {
   src_octets = ours;
   dst_octets = theirs;
   fields = record { source = fit.destination; destination = fit.source; number = fit.acknowledgement; acknowledgement = omega arith; window = omega arith; urgent = omega arith };
+  blocks = none_fit;
   len = omega arith;
 }
 can_be_sent own source s _ ours theirs fit past = record {
   src_octets = ours;
   dst_octets = theirs;
   fields = record { source = fit.destination; destination = fit.source; number = omega arith; acknowledgement = omega arith; window = omega arith; urgent = omega arith };
+  blocks = none_fit;
   len = omega arith;
 }
 

@@ -1,5 +1,5 @@
 -- The resets that answer segments (RFC 9293 sections 3.5.2 and 3.10.7.1).
-use Rattle.std.specs.Prelude.{◌+◌, ◌%◌, ◌^◌, true, false, if◌then◌else◌, Option, Some, None}
+use Rattle.std.specs.Prelude.{◌+◌, ◌%◌, ◌^◌, true, false, if◌then◌else◌, [], Option, Some, None}
 use Rattle.tcp_segment.specs.declared.head.Head.{Head}
 use Rattle.tcp_segment.specs.Segment.{Segment, span_of}
 
@@ -13,6 +13,8 @@ reset_at_ack s = record {
   flags = record { fin = false; syn = false; rst = true; psh = false; ack = false; urg = false };
   window = 0;
   scales = false;
+  sacks = false;
+  blocks = [];
 }
 
 -- <SEQ=0><ACK=SEG.SEQ+SEG.LEN><CTL=RST,ACK>, where the segment's length counts its SYN and its FIN
@@ -25,6 +27,8 @@ reset_past s = record {
   flags = record { fin = false; syn = false; rst = true; psh = false; ack = true; urg = false };
   window = 0;
   scales = false;
+  sacks = false;
+  blocks = [];
 }
 
 -- what answers a segment for no connection and no listener: nothing answers a reset (section 3.10.7.1)

@@ -3,7 +3,7 @@
 ghost use Rattle.std.specs.Prelude.{◌≡◌};
 ghost use Rattle.sockets.specs.Replies.{reset_at_ack, reset_past, answer_to, answer_at_listener};
 
-use tcp_segment::{Flags, Head, Seq, TcpView};
+use tcp_segment::{Blocks, Flags, Head, Seq, TcpView};
 
 /// `<SEQ=SEG.ACK><CTL=RST>`, which answers a segment with ACK.
 pub(crate) fn reset_at_ack(segment: &TcpView<'_>) -> Head
@@ -20,6 +20,8 @@ pub(crate) fn reset_at_ack(segment: &TcpView<'_>) -> Head
         },
         window: 0,
         scales: false,
+        sacks: false,
+        blocks: Blocks::NONE,
     }
 }
 
@@ -39,6 +41,8 @@ fn reset_past(segment: &TcpView<'_>) -> Head
         },
         window: 0,
         scales: false,
+        sacks: false,
+        blocks: Blocks::NONE,
     }
 }
 

@@ -10,7 +10,7 @@ use Rattle.tcp_state.specs.View.{View, IsSound, is_opening, is_syn_sent, is_syn_
 use Rattle.tcp_halves.specs.Halves.{Receiving as ReceivingHalf}
 use Rattle.tcp_halves.specs.Stream.{outstanding, is_new_ack, after_acknowledged, receive_window, after_octets, stands_next, after_end}
 use Rattle.tcp_halves.specs.Windows.{window_in, updates_window}
-use Rattle.tcp_state.specs.Arrival.{after_segment, is_simultaneous_syn, after_simultaneous_syn, after_syn_ack, is_right_syn_ack, is_of_fin, is_acceptable_to, after_acceptable_segment, after_acknowledging_segment, after_ack, is_read_on, after_window, may_delay, after_text, owing_ack, after_establishment, ends_by_syn, fin_acknowledged, after_new_ack, beyond_fin, beyond_end, is_receiving, counts_fin, after_fin}
+use Rattle.tcp_state.specs.Arrival.{after_segment, is_simultaneous_syn, after_simultaneous_syn, after_syn_ack, is_right_syn_ack, is_of_fin, is_acceptable_to, after_acceptable_segment, after_acknowledging_segment, after_ack, is_read_on, after_window, after_text, owing_ack, after_establishment, ends_by_syn, fin_acknowledged, after_new_ack, beyond_fin, beyond_end, is_receiving, counts_fin, after_fin}
 use Rattle.stream_law.specs.Channel.{Channel, Sending, Open, Receiving, Waiting, Synchronised, IsAmong, IsRecent, number_of}
 use Rattle.stream_law.specs.ChannelSteps.{Step, nothing_kept}
 use Rattle.stream_law.specs.ChannelViews.{frame_of, Leads, stays, goes, sender_of, kept_at, receiver_of, receiving_of, SendsInto, ReceivesFrom, Follows, IsOfWidth, CameFrom}
@@ -287,8 +287,7 @@ arrives-text : (cap limit : ℕ) (v : View) (s : Segment) (c d : Channel) → v.
     → Heard cap limit v (after_text v s) d
 arrives-text cap limit v s c d rnext room fits past_syn from came =
     let heard = after_octets v.receiving s.number s.octets in
-    let w = record v { receiving = heard; owes_ack = v.owes_ack || v.delays_ack || not (may_delay v s); delays_ack = true } in
-    either (λ w. Heard cap limit v w d) ((length s.octets == 0) || not (is_receiving v.state)) v w
+    either (λ w. Heard cap limit v w d) ((length s.octets == 0) || not (is_receiving v.state)) v _
     (λ none. unheard cap limit v d past_syn from)
     (λ some. record {
       readable = heard.readable;
@@ -296,7 +295,7 @@ arrives-text cap limit v s c d rnext room fits past_syn from came =
       from = Synchronised (receiver_of heard);
       leads = one_step cap limit d (record d { readable = heard.readable; receiving = Synchronised (receiver_of heard) })
           (hears-octets cap limit v d s came.sent_at past_syn (omega (arith, fits.octets)) fits.number rnext room from came.frame came.frame_recent);
-      receives = record { receiving = sym (receiving_past w past_syn); readable = refl; end_seen = from.end_seen };
+      receives = record { receiving = sym (ap (λ b. if b then Waiting else Synchronised (receiver_of heard)) past_syn); readable = refl; end_seen = from.end_seen };
       sender = refl;
       closed = refl;
       synchronised = past_syn;
@@ -351,7 +350,7 @@ arrives-stream : (cap limit : ℕ) (v : View) (s : Segment) (c d : Channel) → 
 arrives-stream cap limit v s c d rnext room fits past_syn from came =
     let t = arrives-text cap limit v s c d rnext room fits past_syn from came in
     let e = record d { readable = t.readable; end_seen = t.end_seen; receiving = t.from } in
-    let f = arrives-fin cap limit (after_text v s) s e came.sent_at (text_fits ((length s.octets == 0) || not (is_receiving v.state))) fits t.synchronised t.receives came.frame came.frame_recent in
+    let f = arrives-fin cap limit (after_text v s) s e came.sent_at text_fits fits t.synchronised t.receives came.frame came.frame_recent in
     record {
       readable = f.readable;
       end_seen = f.end_seen;
@@ -363,9 +362,8 @@ arrives-stream cap limit v s c d rnext room fits past_syn from came =
       synchronised = f.synchronised;
     }
   where
-    text_fits : (none : Bool) → (if none then v else record v { receiving = after_octets v.receiving s.number s.octets; owes_ack = v.owes_ack || v.delays_ack || not (may_delay v s); delays_ack = true }).receiving.rnext < 2 ^ 32
-    text_fits true = rnext
-    text_fits false = omega arith
+    text_fits : let w = after_text v s in w.receiving.rnext < 2 ^ 32
+    text_fits = either (λ w. w.receiving.rnext < 2 ^ 32) ((length s.octets == 0) || not (is_receiving v.state)) v _ (λ none. rnext) (λ some. omega arith)
 
 -- the window that is told is no part of a channel
 window_told : (v : View) (s : Segment) → sender_of v ≡ sender_of (after_window v s)

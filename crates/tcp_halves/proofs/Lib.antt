@@ -1,2 +1,5 @@
 pub mod Choices
 pub mod Keeping
+pub mod Gathered
+pub mod Reports
+pub mod Runs

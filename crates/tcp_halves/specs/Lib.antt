@@ -2,4 +2,6 @@ pub mod Numbers
 pub mod Halves
 pub mod Stream
 pub mod Windows
+pub mod Blocks
+pub mod Reports
 pub mod Received

@@ -3,6 +3,7 @@
 #![tactic(auto)]
 
 mod buffers;
+pub mod laws;
 mod receiver;
 mod sender;
 

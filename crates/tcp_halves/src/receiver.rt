@@ -5,13 +5,14 @@ ghost use Rattle.stream_buf.specs.Receiving.{nothing_received, ranges, kept_coun
 ghost use Rattle.tcp_halves.specs.Halves.{Receiving};
 ghost use Rattle.tcp_halves.specs.Stream.{receive_window, is_in_window, is_acceptable, receiving_nothing, receiving_settled, buffer_of, after_syn, distance_of, octets_within, after_octets, after_read, stands_next, after_end, ReceivingFits, KeptInWindow};
 ghost use Rattle.tcp_segment.specs.Wire.{past};
+ghost use Rattle.tcp_halves.specs.Blocks.{block_of, has_place, reported};
 ghost use Rattle.tcp_halves.specs.declared.buffers.TheConstants.{CAPACITY, LARGEST_CAPACITY};
 ghost use Rattle.tcp_halves.specs.Windows.{receive_room, has_grown, whole_units, after_advertisement, window_field, syn_window, after_syn_advertisement};
 
 use crate::buffers::{CAPACITY, Manner, own_unit, size_in};
 use std::marker::Model;
-use stream_buf::RecvBuf;
-use tcp_segment::{MSS, Seq};
+use stream_buf::{Range, RecvBuf};
+use tcp_segment::{Block, Blocks, MSS, Seq};
 
 /// The receiving half of a connection.
 #[derive(Drop)]
@@ -302,6 +303,28 @@ impl Receiver {
         self.buffer.read(buffer)
     }
 
+    /// What an acknowledgement reports of the octets that are kept ahead of a gap, where the last segment that began ahead of one had this number: first
+    /// the range with its octet, then the others, the furthest first (RFC 2018 sections 3 and 4).
+    pub fn blocks(&self, latest: Seq) -> Blocks
+        ensures { result ≡ reported self.now latest.0 }
+    {
+        let place = latest.past(self.rnext) as usize;
+        let ranges = self.buffer.kept_ranges();
+        let mut blocks = Blocks::NONE;
+        for range in ranges {
+            if has_place(place, *range) {
+                blocks.push(block_of(self.rnext, *range));
+            }
+        }
+        for index in (0..ranges.len()).rev() {
+            let range = ranges[index];
+            if !has_place(place, range) {
+                blocks.push(block_of(self.rnext, range));
+            }
+        }
+        blocks
+    }
+
     /// The window is advertised.
     pub fn advertise(&mut self)
         ensures after { self.new ≡ after_advertisement self.old }
@@ -320,6 +343,24 @@ impl Receiver {
         ensures kept { KeptInWindow self.new }
     {
         self.edge = self.next_syn_edge();
+    }
+}
+
+/// Whether a range has this place.
+fn has_place(place: usize, range: Range) -> bool
+    ensures { result ≡ has_place place range }
+{
+    range.start <= place && place < range.end
+}
+
+/// The numbers of a range whose places are counted from `rnext` on.
+fn block_of(rnext: Seq, range: Range) -> Block
+    requires { (range.start < 2 ^ 32) × (range.end < 2 ^ 32) }
+    ensures { result ≡ block_of rnext.0 range }
+{
+    Block {
+        left: rnext + range.start as u32,
+        right: rnext + range.end as u32,
     }
 }
 

@@ -1,14 +1,16 @@
 -- The checksum of a segment that is sent is right.
-use Rattle.std.proofs.Common.{◌≡◌, ℕ, ◌+◌, ◌-◌, ◌*◌, ◌^◌, ◌<◌, Bool, true, false, List, [], ◌∷◌, ◌++◌, length, refl, sym, ◌∙◌, ap, arith}
+use Rattle.std.proofs.Common.{◌≡◌, ℕ, ◌+◌, ◌-◌, ◌*◌, ◌^◌, ◌<◌, ◌≤◌, Bool, true, false, List, [], ◌∷◌, ◌++◌, length, refl, sym, ◌∙◌, ap, arith}
 use Rattle.byteorder.specs.Endian.{big_bytes}
 use Rattle.inet_sum.specs.Sum.{word_sum, ones_complement, sum_of, checksum_of}
 use Rattle.inet_sum.proofs.Complements.{with_complement, one_complement}
 use Rattle.ipv4.specs.declared.addr.Addr.{Addr}
+use Rattle.tcp_segment.specs.declared.blocks.Block.{Block}
 use Rattle.tcp_segment.specs.declared.head.Head.{Head}
 use Rattle.tcp_segment.specs.Options.{joined, AreOptions}
 use Rattle.tcp_segment.specs.Segment.{HasForm, SumIsRight, Spells, spelling, summed_octets}
-use Rattle.tcp_segment.specs.Sent.{CanBeSent, sent_segment, sent_offset, sent_with, sent_octets}
-use Rattle.tcp_segment.proofs.Sending.{most_offset, option_len, options_of, whole_len}
+use Rattle.tcp_segment.specs.Sent.{CanBeSent, sent_blocks, sent_segment, sent_offset, sent_with, sent_octets}
+use Rattle.tcp_segment.proofs.Sending.{most_offset, few_blocks, option_len, options_of, whole_len}
+use Rattle.tcp_segment.proofs.BlockWords.{blocks_len}
 
 -- what the checksum adds to the sum of the words
 abbrev pseudo_before : List ℕ → List ℕ → ℕ → List ℕ → List ℕ
@@ -39,10 +41,13 @@ sum_right src dst head octets can =
     ap sum_of (summed_is src dst head octets checksum) ∙ ap ones_complement total ∙ with_complement before
 
 -- the options that are sent
-options_end : (syn scales : Bool) → AreOptions (options_of syn scales) []
-options_end true true = (omega arith, (tt, (omega arith, refl)))
-options_end true false = (omega arith, refl)
-options_end false scales = refl
+options_end : (syn scales sacks : Bool) (blocks : List Block) → length blocks ≤ 4 → AreOptions (options_of syn scales sacks blocks) []
+options_end true true true blocks few = (omega arith, (tt, (omega arith, (tt, (tt, ((omega arith, omega arith, omega arith), refl))))))
+options_end true true false blocks few = (omega arith, (tt, (omega arith, refl)))
+options_end true false true blocks few = (omega arith, (tt, (tt, ((omega arith, omega arith, omega arith), refl))))
+options_end true false false blocks few = (omega arith, refl)
+options_end false scales sacks [] few = refl
+options_end false scales sacks (block ∷ blocks) few = (tt, (tt, ((omega arith, omega arith, omega (arith, blocks_len (block ∷ blocks), few)), refl)))
 
 -- what is sent spells the segment that is meant
 pub sent_spelled : (src dst : Addr) (head : Head) (octets : List ℕ) → CanBeSent src dst head octets
@@ -57,11 +62,11 @@ sent_spelled src dst head octets can =
         checksum = checksum;
         padding = [];
         fields = can.fields;
-        options = options_end head.flags.syn head.scales;
+        options = options_end head.flags.syn head.scales head.sacks (sent_blocks head) (few_blocks head);
         offset_fits = omega (arith, most_offset head);
         reserved_fits = omega arith;
         checksum_fits = omega arith;
-        header = sym (option_len head.flags.syn head.scales);
+        header = sym (option_len head);
         len = omega (arith, whole_len head octets checksum, can.len);
         spelled = refl;
       };
@@ -74,18 +79,21 @@ unfolding sent_octets
 sent_octets_len src dst head octets = whole_len head octets (checksum_of (summed_octets src dst (sent_with head octets 0)))
 
 -- nothing stands behind the options that are sent
-no_padding : (syn scales : Bool) (padding : List ℕ) → AreOptions (options_of syn scales) padding → padding ≡ []
-no_padding true true padding are = are.1.1.1
-no_padding true false padding are = are.1
-no_padding false scales padding are = are
+no_padding : (syn scales sacks : Bool) (blocks : List Block) (padding : List ℕ) → AreOptions (options_of syn scales sacks blocks) padding → padding ≡ []
+no_padding true true true blocks padding are = are.1.1.1.1.1.1
+no_padding true true false blocks padding are = are.1.1.1
+no_padding true false true blocks padding are = are.1.1.1.1
+no_padding true false false blocks padding are = are.1
+no_padding false scales sacks [] padding are = are
+no_padding false scales sacks (block ∷ blocks) padding are = are.1.1.1
 
 -- a spelling of what is sent, by its checksum
 by_checksum : (head : Head) (octets xs : List ℕ) (form : HasForm (sent_segment head octets) xs) → form.reserved ≡ 0 → xs ≡ sent_with head octets form.checksum
 by_checksum head octets xs form zeros =
     let segment = sent_segment head octets in
-    let nothing : form.padding ≡ [] = no_padding head.flags.syn head.scales form.padding form.options in
+    let nothing : form.padding ≡ [] = no_padding head.flags.syn head.scales head.sacks (sent_blocks head) form.padding form.options in
     let area : length (joined segment.options ++ form.padding) ≡ length (joined segment.options ++ []) = ap (λ (ys : List ℕ). length (joined segment.options ++ ys)) nothing in
-    let offset : form.offset ≡ sent_offset head = omega (arith, form.header, area, option_len head.flags.syn head.scales) in
+    let offset : form.offset ≡ sent_offset head = omega (arith, form.header, area, option_len head) in
     form.spelled
     ∙ ap (λ (n : ℕ). spelling segment n form.reserved form.checksum form.padding) offset
     ∙ ap (λ (n : ℕ). spelling segment (sent_offset head) n form.checksum form.padding) zeros

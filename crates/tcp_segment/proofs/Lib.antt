@@ -8,3 +8,6 @@ pub mod Checksum
 pub mod StreamPositions
 pub mod Answering
 pub mod Told
+pub mod Places
+pub mod BlockWords
+pub mod BlockLists

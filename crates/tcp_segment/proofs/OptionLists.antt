@@ -206,6 +206,6 @@ known_list (Some list) known = refl
 
 -- what the walk answers
 pub answered : {E : Type 0} (options rest : List ℕ) (told : Told) (answer : Option Told) (e : E)
-    → told_behind rest told ≡ told_behind options (record { mss = None; scale = None }) → told_behind rest told ≡ answer
+    → told_behind rest told ≡ told_behind options (record { mss = None; scale = None; sacks = false; blocks = [] }) → told_behind rest told ≡ answer
     → ok_or answer e ≡ ok_or (option_map told_of (options_behind options 0)) e
 answered options rest told answer e same is = ap (λ (o : Option Told). ok_or o e) (sym is ∙ same)

@@ -2,10 +2,11 @@
 use Rattle.std.proofs.Common.{◌≡◌, ◌≢◌, ℕ, zero, suc, ◌-◌, ◌<◌, ◌≤◌, ◌||◌, Bool, true, false, nat_eq, nat_lt, List, [], ◌∷◌, length, get_or, drop, take, Option, Some, None, cond, refl, sym, ◌∙◌, ap, inl, inr, arith}
 use Rattle.std.proofs.lemmas.Bool.{cases_lt}
 use Rattle.std.proofs.lemmas.Bool.Decides.{nat_tests}
-use Rattle.std.proofs.lemmas.List.{take_all}
+use Rattle.std.proofs.lemmas.List.{take_all, length-drop}
+use Rattle.std.specs.List.{list_any}
 use Rattle.std.specs.Option.{option_map}
 use Rattle.tcp_segment.specs.declared.options.Told.{Told}
-use Rattle.tcp_segment.specs.Options.{HeaderOption, EndOfOptions, NoOperation, MaximumSegmentSize, WindowScale, Other, last_mss, last_scale}
+use Rattle.tcp_segment.specs.Options.{HeaderOption, EndOfOptions, NoOperation, MaximumSegmentSize, WindowScale, Other, last_mss, last_scale, permits, last_blocks}
 use Rattle.tcp_segment.specs.Reading.{with_first, options_behind, option_in, body_in}
 use Rattle.tcp_segment.specs.Telling.{told_with}
 
@@ -48,6 +49,14 @@ unguarded : {A : Type 0} (b : Bool) (x : A) → cond b None (Some x) ≡ None �
 unguarded true x e = refl
 unguarded false x e = cc
 
+-- what stands behind an option is shorter
+pub body_shorter : (xs body after : List ℕ) → body_in xs ≡ Some (body, after) → length after ≤ length xs
+body_shorter [] body after e = cc
+body_shorter (len ∷ xs) body after e =
+    let g = guarded _ _ _ e in
+    let is_after : drop (len - 2) xs ≡ after = ap (λ (p : List ℕ × List ℕ). p.1) g.1 in
+    omega (arith, length-drop (len - 2) xs, ap length is_after)
+
 -- an option with a length, by its body
 behind_option : (kind : ℕ) (xs body after : List ℕ) → kind ≢ 0 → kind ≢ 1
     → body_in xs ≡ Some (body, after) → options_behind (kind ∷ xs) 0 ≡ with_first (option_in kind body) (options_behind after 0)
@@ -88,7 +97,12 @@ behind_no_option kind (len ∷ xs) h k e = long_kind kind len xs h k ∙ refused
 
 -- what options tell beside what was told before them
 abbrev pub tell : Told → List HeaderOption → Told
-tell told options = record { mss = last_mss told.mss options; scale = last_scale told.scale options }
+tell told options = record {
+  mss = last_mss told.mss options;
+  scale = last_scale told.scale options;
+  sacks = told.sacks || list_any permits options;
+  blocks = last_blocks told.blocks options;
+}
 
 -- what the options of octets tell beside what was told before them
 abbrev pub told_behind : List ℕ → Told → Option Told
@@ -99,7 +113,13 @@ tell_first told EndOfOptions options = refl
 tell_first told NoOperation options = refl
 tell_first told (MaximumSegmentSize size) options = refl
 tell_first told (WindowScale shift) options = refl
-tell_first told (Other kind octets) options = refl
+tell_first told (Other kind octets) options =
+    let rest : Bool = list_any permits options in
+    ap (λ (b : Bool). let t : Told = record (tell (told_with told (Other kind octets)) options) { sacks = b } in t) (either told.sacks (permits (Other kind octets)) rest)
+  where
+    either : (a b c : Bool) → (a || (b || c)) ≡ ((a || b) || c)
+    either true b c = refl
+    either false b c = refl
 
 -- the first option tells its part, if it is one
 first_tells : (told next : Told) (first : Option HeaderOption) (rest : Option (List HeaderOption)) → option_map (told_with told) first ≡ Some next
@@ -147,10 +167,18 @@ pub at_wrong_body : (rest body after : List ℕ) (told : Told) → 1 ≤ length 
 at_wrong_body rest body after told h a b e t =
     read_at rest told _ _ h refl (behind_option _ _ body after a b e) ∙ first_tells_nothing told (option_in (get_or rest 0 0) body) _ t
 
+-- nothing more is told
+kept : (told : Told) → tell told [] ≡ told
+kept told = ap (λ (b : Bool). let t : Told = record told { sacks = b } in t) (same told.sacks)
+  where
+    same : (b : Bool) → (b || false) ≡ b
+    same true = refl
+    same false = refl
+
 -- the end of the options
 pub at_end : (rest : List ℕ) (told : Told) → 1 ≤ length rest → get_or rest 0 0 ≡ 0 → told_behind rest told ≡ Some told
-at_end rest told h k = read_at rest told 0 _ h k (behind_end (take (length rest - 1) (drop 1 rest)))
+at_end rest told h k = read_at rest told 0 _ h k (behind_end (take (length rest - 1) (drop 1 rest))) ∙ ap Some (kept told)
 
 pub at_nothing : (rest : List ℕ) (told : Told) → length rest < 1 → told_behind rest told ≡ Some told
-at_nothing [] told h = refl
+at_nothing [] told h = ap Some (kept told)
 at_nothing (x ∷ rest) told h = absurd (omega arith)

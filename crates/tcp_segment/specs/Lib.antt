@@ -1,4 +1,5 @@
 pub mod Wire
+pub mod Blocks
 pub mod Options
 pub mod Segment
 pub mod Sent

@@ -1,8 +1,9 @@
 -- The options of a TCP header: their shape, and what stands behind the end of the list (RFC 9293 section 3.1); the kinds 0,
--- 1 and 2 (section 3.2), and 3 (RFC 7323 section 2.2).
-use Rattle.std.specs.Prelude.{◌≡◌, ℕ, ◌+◌, ◌≤◌, ◌<◌, ◌^◌, List, [], ◌∷◌, length, Option, Some}
+-- 1 and 2 (section 3.2), 3 (RFC 7323 section 2.2), and 4 and 5 (RFC 2018 sections 2 and 3).
+use Rattle.std.specs.Prelude.{◌≡◌, ℕ, zero, suc, ◌+◌, ◌/◌, ◌%◌, ◌≤◌, ◌<◌, ◌^◌, ◌==◌, nat_lt, nat_le, ◌&&◌, Bool, false, if◌then◌else◌, List, [], ◌∷◌, ◌++◌, length, drop, Option, Some, None, is_some, unwrap_or, IsFalse}
 use Rattle.std.specs.List.{flat_map}
-use Rattle.byteorder.specs.Endian.{big_bytes}
+use Rattle.byteorder.specs.Endian.{big_bytes, big_number}
+use Rattle.tcp_segment.specs.declared.blocks.Block.{Block}
 
 -- one option: the end of the list, no operation, the maximum segment size, the shift of the sender's windows, or another kind
 -- with its octets
@@ -63,3 +64,52 @@ abbrev pub last_scale : Option ℕ → List HeaderOption → Option ℕ
 last_scale told [] = told
 last_scale told (WindowScale shift ∷ rest) = last_scale (Some shift) rest
 last_scale told (option ∷ rest) = last_scale told rest
+
+-- The options of selective acknowledgement are of the other kinds: one of a length that isn't its own is passed over like an
+-- option of an unknown kind.
+
+-- the option of a SYN whose sender takes selective acknowledgements (RFC 2018 section 2)
+abbrev pub sack_permitted : HeaderOption
+sack_permitted = Other 4 []
+
+-- whether an option is that one
+abbrev pub permits : HeaderOption → Bool
+permits (Other kind octets) = kind == 4 && length octets == 0
+permits option = false
+
+-- the octets of blocks: of each the number of its first octet, and the one behind its last (RFC 2018 section 3)
+abbrev pub block_octets : List Block → List ℕ
+block_octets blocks = flat_map (λ block. big_bytes 4 block.left.0 ++ big_bytes 4 block.right.0) blocks
+
+-- the option that reports blocks (RFC 2018 section 3)
+abbrev pub sack : List Block → HeaderOption
+sack blocks = Other 5 (block_octets blocks)
+
+-- the block that octets begin with
+abbrev pub block_in : List ℕ → Block
+block_in octets = record { left = record { 0 = big_number 4 octets }; right = record { 0 = big_number 4 (drop 4 octets) } }
+
+-- so many blocks, from the front of octets on
+abbrev pub blocks_at : ℕ → List ℕ → List Block
+blocks_at zero octets = []
+blocks_at (suc n) octets = block_in octets ∷ blocks_at n (drop 8 octets)
+
+-- the blocks in the body of such an option: one block or more, up to four
+abbrev pub blocks_in : List ℕ → Option (List Block)
+blocks_in body = if length body % 8 == 0 && nat_lt 0 (length body) && nat_le (length body) 32 then Some (blocks_at (length body / 8) body) else None
+
+-- whether an option reports blocks
+abbrev pub reports : HeaderOption → Bool
+reports (Other kind body) = kind == 5 && is_some (blocks_in body)
+reports option = false
+
+-- an option that reports none
+abbrev pub ReportsNothing : HeaderOption → Type 0
+ReportsNothing option = IsFalse (reports option)
+
+-- The blocks in a list of options, read like the sizes: those of the last option that reports some. `laws::last_report_stands` says
+-- so without a walk.
+abbrev pub last_blocks : List Block → List HeaderOption → List Block
+last_blocks told [] = told
+last_blocks told (Other kind body ∷ rest) = last_blocks (if kind == 5 then unwrap_or (blocks_in body) told else told) rest
+last_blocks told (option ∷ rest) = last_blocks told rest

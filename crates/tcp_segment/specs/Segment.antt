@@ -1,13 +1,15 @@
 -- A TCP segment, and the octets that spell it (RFC 9293 section 3.1).
-use Rattle.std.specs.Prelude.{◌≡◌, ℕ, ◌+◌, ◌*◌, ◌<◌, ◌^◌, List, ◌++◌, length, Bool, if◌then◌else◌, max, min, unwrap_or, Option, None, Result, Ok, Err}
+use Rattle.std.specs.Prelude.{◌≡◌, ℕ, ◌+◌, ◌*◌, ◌<◌, ◌^◌, List, [], ◌++◌, length, Bool, ◌&&◌, if◌then◌else◌, max, min, unwrap_or, Option, None, Result, Ok, Err}
+use Rattle.std.specs.List.{list_any}
 use Rattle.byteorder.specs.Endian.{big_bytes}
 use Rattle.inet_sum.specs.Sum.{sum_of, pseudo_octets}
 use Rattle.ipv4.specs.declared.addr.Addr.{Addr}
 use Rattle.tcp_segment.specs.declared.TheConstants.{FIXED_LEN, MSS, DEFAULT_MSS, LEAST_MSS, MAX_SHIFT}
+use Rattle.tcp_segment.specs.declared.blocks.Block.{Block}
 use Rattle.tcp_segment.specs.declared.fault.SegmentFault.{SegmentFault}
 use Rattle.tcp_segment.specs.declared.fault.SegmentFault.TheVariants.{UpperHeader, UpperSum}
 use Rattle.tcp_segment.specs.declared.flags.Flags.{Flags}
-use Rattle.tcp_segment.specs.Options.{HeaderOption, joined, AreOptions, last_mss, last_scale}
+use Rattle.tcp_segment.specs.Options.{HeaderOption, joined, AreOptions, last_mss, last_scale, permits, last_blocks}
 
 -- what a segment says
 pub record Segment : Type 0 where
@@ -112,6 +114,14 @@ scale_option_of segment = if segment.flags.syn then last_scale None segment.opti
 -- over the most
 abbrev pub shift_of : Segment → ℕ
 shift_of segment = min (unwrap_or (scale_option_of segment) 0) MAX_SHIFT
+
+-- whether the sender of a segment takes selective acknowledgements (RFC 2018 section 2): an option says so, read where SYN is set
+abbrev pub sack_permitted_of : Segment → Bool
+sack_permitted_of segment = segment.flags.syn && list_any permits segment.options
+
+-- the blocks that the sender of a segment holds ahead of a gap (RFC 2018 section 3): those of the last option that reports some
+abbrev pub blocks_of : Segment → List Block
+blocks_of segment = last_blocks [] segment.options
 
 -- the length in sequence numbers (RFC 9293 section 3.4): the octets, and one each for SYN and FIN
 abbrev pub span_of : Segment → ℕ

@@ -1,12 +1,15 @@
 //! What this stack puts into a header.
 
-ghost use Rattle.std.specs.Prelude.{◌≡◌, ℕ, ◌+◌, ◌*◌, ◌<◌, ◌≤◌, ◌^◌, [], ◌++◌, ◌&&◌, length, drop, slice_range, if◌then◌else◌};
+ghost use Rattle.std.specs.Prelude.{◌≡◌, ℕ, ◌+◌, ◌-◌, ◌*◌, ◌<◌, ◌≤◌, ◌^◌, true, false, [], ◌++◌, length, drop, slice_range, if◌then◌else◌};
 ghost use Rattle.inet_sum.specs.Sum.{word_sum, ones_complement, sum_of};
+ghost use Rattle.tcp_segment.specs.declared.TheConstants.{MOST_BLOCKS};
+ghost use Rattle.tcp_segment.specs.Options.{joined};
 ghost use Rattle.tcp_segment.specs.Segment.{FieldsFit, control_bits, fixed_fields};
-ghost use Rattle.tcp_segment.specs.Sent.{CanBeSent, sent_segment, sent_offset, sent_with, sent_octets};
+ghost use Rattle.tcp_segment.specs.Sent.{CanBeSent, sent_options, sent_segment, one_more, sent_offset, sent_with, sent_octets};
 
+use crate::blocks::{BLOCK_LEN, Blocks};
 use crate::flags::{Flags, octet_of};
-use crate::options::{MAXIMUM_SEGMENT_SIZE, NO_OPERATION, WINDOW_SCALE};
+use crate::options::{MAXIMUM_SEGMENT_SIZE, NO_OPERATION, SACK, SACK_PERMITTED, WINDOW_SCALE};
 use crate::seq::Seq;
 use crate::sum::sum_of_words;
 use crate::{FIXED_LEN, MSS, SHIFT};
@@ -31,6 +34,11 @@ pub struct Head {
     pub window: u16,
     /// Whether a segment with SYN offers to scale windows (RFC 7323 section 2.2). It isn't read where SYN isn't set.
     pub scales: bool,
+    /// Whether a segment with SYN says that its sender takes selective acknowledgements (RFC 2018 section 2). It isn't read
+    /// where SYN isn't set.
+    pub sacks: bool,
+    /// What a segment without SYN reports to be held ahead of a gap (RFC 2018 section 3). They aren't read where SYN is set.
+    pub blocks: Blocks,
 }
 
 /// The length of the MSS option, in octets.
@@ -39,24 +47,48 @@ const MSS_OPTION_LEN: usize = 4;
 /// The length of the window scale option, in octets.
 const SCALE_OPTION_LEN: u8 = 3;
 
+/// The length of the option that permits selective acknowledgements, in octets.
+const SACKS_LEN: u8 = 2;
+
+/// The length of the option that reports blocks, without these, in octets.
+const SACK_OPTION_LEN: u8 = 2;
+
 /// The length of a header with the MSS option, in octets.
 const SIZED_LEN: usize = FIXED_LEN + MSS_OPTION_LEN;
 
-/// The length of a header with the window scale option too, behind one octet of no operation.
-const SCALED_LEN: usize = SIZED_LEN + 1 + SCALE_OPTION_LEN as usize;
+/// The length of a word, in octets.
+const WORD_LEN: usize = 4;
+
+/// The window scale option, behind the octet of no operation that fills its word.
+const SCALE_WORD: [u8; WORD_LEN] = [NO_OPERATION, WINDOW_SCALE, SCALE_OPTION_LEN, SHIFT];
+
+/// The permission, behind two of these.
+const SACKS_WORD: [u8; WORD_LEN] = [NO_OPERATION, NO_OPERATION, SACK_PERMITTED, SACKS_LEN];
+
+/// The length of a header before the blocks that it reports, in octets.
+const REPORTING_LEN: usize = FIXED_LEN + WORD_LEN;
 
 impl Head {
-    /// The length of the header, in octets: with SYN it has the MSS option, and the window scale option where that is offered.
+    /// The length of the header, in octets: with SYN it has the MSS option, and those of scaling and of selective acknowledgement where
+    /// these are offered; without SYN it has the blocks that are reported.
     pub fn len(&self) -> usize
-        ensures { result ≡ 4 * sent_offset self.now }
+        ensures value { result ≡ 4 * sent_offset self.now }
+        ensures most { result ≤ 56 }
     {
-        if self.has_scale_option() {
-            SCALED_LEN
-        } else if self.has_mss_option() {
-            SIZED_LEN
-        } else {
+        if self.has_mss_option() {
+            self.scaled_len() + if self.sacks { WORD_LEN } else { 0 }
+        } else if self.blocks.is_empty() {
             FIXED_LEN
+        } else {
+            REPORTING_LEN + BLOCK_LEN * self.blocks.len()
         }
+    }
+
+    /// The length of a header with SYN up to the permission, in octets.
+    fn scaled_len(&self) -> usize
+        ensures { result ≡ 4 * one_more self.now.scales 6 }
+    {
+        SIZED_LEN + if self.scales { WORD_LEN } else { 0 }
     }
 
     /// Writes the header before the payload, which stands at `out[self.len()..]` already and whose
@@ -78,6 +110,7 @@ impl Head {
         ensures octets { let payload = slice_range out.old (4 * sent_offset self.now) result in
             out.new ≡ sent_octets src dst self.now payload ++ drop result out.old }
     {
+        self.blocks.numbers_fit();
         let len = self.len() + payload_len;
         let words = self.words() + u64::from(payload_sum);
         self.write(u16::MAX - sum_of_words(src, dst, len as u16, words), out);
@@ -91,38 +124,62 @@ impl Head {
         self.flags.syn
     }
 
-    /// Whether the header carries the window scale option.
-    fn has_scale_option(&self) -> bool
-        ensures { result ≡ (self.now.flags.syn && self.now.scales) }
-    {
-        self.has_mss_option() && self.scales
-    }
-
     /// What the words of the header come to where the checksum is 0, in one's complement: a number of 32 bits counts as its two words.
     fn words(&self) -> u64
         ensures value { (more : ℕ) → ones_complement (result + more) ≡ ones_complement (word_sum (sent_with self.now [] 0) + more) }
         ensures bound { result < 2 ^ 62 }
     {
+        let Seq(number) = self.number;
+        let Seq(acknowledgement) = self.acknowledgement;
         let ports = u64::from(self.source) + u64::from(self.destination);
-        let numbers = u64::from(self.number.0) + u64::from(self.acknowledgement.0);
+        let numbers = u64::from(number) + u64::from(acknowledgement);
         let control = u64::from(self.control()) + u64::from(self.window);
-        ports + numbers + control + u64::from(self.option_words())
+        ports + numbers + control + self.option_words()
     }
 
     /// What the words of the options come to.
-    fn option_words(&self) -> u16
-        ensures { result ≡ (if self.now.flags.syn then (if self.now.scales then 3008 else 1976) else 0) }
+    fn option_words(&self) -> u64
+        ensures value { (more : ℕ) → ones_complement (result + more) ≡ ones_complement (word_sum (joined (sent_options self.now)) + more) }
+        ensures bound { result < 2 ^ 40 }
+    {
+        if self.has_mss_option() {
+            u64::from(self.syn_words())
+        } else if self.blocks.is_empty() {
+            0
+        } else {
+            u64::from(self.report_words()) + self.blocks.words()
+        }
+    }
+
+    /// What the words of the options with SYN come to.
+    #[cold]
+    fn syn_words(&self) -> u16
+        ensures { result ≡ 1976 + (if self.now.scales then 1032 else 0) + (if self.now.sacks then 1283 else 0) }
     {
         let sized = u16::from_be_bytes([MAXIMUM_SEGMENT_SIZE, MSS_OPTION_LEN as u8]) + MSS;
-        if self.has_scale_option() {
-            sized
-                + u16::from_be_bytes([NO_OPERATION, WINDOW_SCALE])
-                + u16::from_be_bytes([SCALE_OPTION_LEN, SHIFT])
-        } else if self.has_mss_option() {
-            sized
-        } else {
-            0
-        }
+        let scaled = u16::from_be_bytes([NO_OPERATION, WINDOW_SCALE])
+            + u16::from_be_bytes([SCALE_OPTION_LEN, SHIFT]);
+        let permitted = u16::from_be_bytes([NO_OPERATION, NO_OPERATION])
+            + u16::from_be_bytes([SACK_PERMITTED, SACKS_LEN]);
+        sized + if self.scales { scaled } else { 0 } + if self.sacks { permitted } else { 0 }
+    }
+
+    /// What the words before the blocks that are reported come to.
+    #[cold]
+    fn report_words(&self) -> u16
+        ensures value { result ≡ 1539 + 8 * length self.now.blocks }
+        ensures few { length self.now.blocks ≤ MOST_BLOCKS }
+    {
+        u16::from_be_bytes([NO_OPERATION, NO_OPERATION])
+            + u16::from_be_bytes([SACK, self.report_len()])
+    }
+
+    /// The length of the option that reports the blocks, in octets.
+    fn report_len(&self) -> u8
+        ensures value { result ≡ 2 + 8 * length self.now.blocks }
+        ensures few { length self.now.blocks ≤ MOST_BLOCKS }
+    {
+        SACK_OPTION_LEN + (BLOCK_LEN * self.blocks.len()) as u8
     }
 
     /// The word of the data offset and the control bits.
@@ -140,14 +197,40 @@ impl Head {
     {
         out[..FIXED_LEN].copy_from_slice(&self.fixed(checksum));
         if self.has_mss_option() {
-            let [high, low] = MSS.to_be_bytes();
-            let option = [MAXIMUM_SEGMENT_SIZE, MSS_OPTION_LEN as u8, high, low];
-            out[FIXED_LEN..SIZED_LEN].copy_from_slice(&option);
-            if self.scales {
-                let option = [NO_OPERATION, WINDOW_SCALE, SCALE_OPTION_LEN, SHIFT];
-                out[SIZED_LEN..SCALED_LEN].copy_from_slice(&option);
-            }
+            self.write_offers(&mut out[FIXED_LEN..]);
+        } else if !self.blocks.is_empty() {
+            self.write_report(&mut out[FIXED_LEN..]);
         }
+    }
+
+    /// Writes the options of a segment with SYN.
+    #[cold]
+    fn write_offers(&self, out: &mut [u8])
+        requires syn { self.now.flags.syn ≡ true }
+        requires room { 4 * sent_offset self.now ≤ FIXED_LEN + length out.old }
+        ensures { out.new ≡ joined (sent_options self.now) ++ drop (4 * sent_offset self.now - FIXED_LEN) out.old }
+    {
+        let [high, low] = MSS.to_be_bytes();
+        out[..WORD_LEN].copy_from_slice(&[MAXIMUM_SEGMENT_SIZE, MSS_OPTION_LEN as u8, high, low]);
+        if self.scales {
+            out[WORD_LEN..2 * WORD_LEN].copy_from_slice(&SCALE_WORD);
+        }
+        if self.sacks {
+            let at = self.scaled_len() - FIXED_LEN;
+            out[at..at + WORD_LEN].copy_from_slice(&SACKS_WORD);
+        }
+    }
+
+    /// Writes the option that reports blocks.
+    #[cold]
+    fn write_report(&self, out: &mut [u8])
+        requires syn { self.now.flags.syn ≡ false }
+        requires some { 0 < length self.now.blocks }
+        requires room { 4 * sent_offset self.now ≤ FIXED_LEN + length out.old }
+        ensures { out.new ≡ joined (sent_options self.now) ++ drop (4 * sent_offset self.now - FIXED_LEN) out.old }
+    {
+        out[..WORD_LEN].copy_from_slice(&[NO_OPERATION, NO_OPERATION, SACK, self.report_len()]);
+        self.blocks.write(&mut out[WORD_LEN..]);
     }
 
     /// The fields of the header before its options, with this checksum.

@@ -1,15 +1,17 @@
 //! Laws of the definitions that the contracts of this crate cite: each is the contract of a function
 //! that does nothing.
 
-ghost use Rattle.std.specs.Prelude.{◌≡◌, ℕ, ◌+◌, ◌-◌, ◌*◌, ◌<◌, ◌≤◌, ◌%◌, ◌^◌, ◌↔◌, true, false, if◌then◌else◌, pos, ◌-ℤ◌, List, [], ◌∷◌, ◌++◌, All, length, get_or, Option, Some, None, Result, Ok, Err};
+ghost use Rattle.std.specs.Prelude.{◌≡◌, ℕ, ◌+◌, ◌-◌, ◌*◌, ◌<◌, ◌≤◌, ◌%◌, ◌^◌, ◌↔◌, true, false, ◌&&◌, if◌then◌else◌, pos, ◌-ℤ◌, List, [], ◌∷◌, ◌++◌, All, length, get_or, Option, Some, None, Result, Ok, Err};
 ghost use Rattle.ipv4.specs.declared.addr.Addr.{Addr};
-ghost use Rattle.tcp_segment.specs.declared.TheConstants.{MSS, SHIFT, MAX_SHIFT};
+ghost use Rattle.tcp_segment.specs.declared.TheConstants.{FIXED_LEN, MOST_BLOCKS, MSS, SHIFT, MAX_SHIFT};
+ghost use Rattle.tcp_segment.specs.declared.blocks.Block.{Block};
 ghost use Rattle.tcp_segment.specs.declared.fault.SegmentFault.{SegmentFault};
 ghost use Rattle.tcp_segment.specs.declared.head.Head.{Head};
-ghost use Rattle.tcp_segment.specs.Options.{HeaderOption, MaximumSegmentSize, WindowScale, TellsNoSize, TellsNoScale, last_mss, last_scale};
-ghost use Rattle.tcp_segment.specs.Segment.{Segment, HasForm, IsParsed, SumIsRight, Spells, mss_option_of, scale_option_of};
+ghost use Rattle.tcp_segment.specs.Blocks.{BlockFits};
+ghost use Rattle.tcp_segment.specs.Options.{HeaderOption, MaximumSegmentSize, WindowScale, sack, TellsNoSize, TellsNoScale, ReportsNothing, last_mss, last_scale, last_blocks};
+ghost use Rattle.tcp_segment.specs.Segment.{Segment, HasForm, IsParsed, SumIsRight, Spells, mss_option_of, scale_option_of, sack_permitted_of, blocks_of};
 ghost use Rattle.tcp_segment.specs.Reading.{segment_in, segment_or_fault};
-ghost use Rattle.tcp_segment.specs.Sent.{CanBeSent, sent_segment, sent_offset, sent_octets};
+ghost use Rattle.tcp_segment.specs.Sent.{CanBeSent, sent_blocks, report, sent_segment, sent_offset, sent_octets};
 ghost use Rattle.tcp_segment.specs.Wire.{wire, past, difference, IsBefore, IsAtMost};
 
 /// The sequence numbers of stream positions (RFC 9293 section 3.4): how far one is past another, their
@@ -64,13 +66,24 @@ pub fn last_scale_stands()
     ensures none { (options : List HeaderOption) → All TellsNoScale options → last_scale None options ≡ None }
 {}
 
-/// Options go out with SYN alone. With SYN the size of this stack always does, and its shift exactly where the head offers to scale
-/// windows (RFC 9293 section 3.7.1, RFC 7323 section 2.2).
+/// Of several options that report blocks the last one stands, and without one there are no blocks (RFC 2018 section 3).
+pub fn last_report_stands()
+    ensures last { (before after : List HeaderOption) (blocks : List Block) → 0 < length blocks → length blocks ≤ MOST_BLOCKS → All BlockFits blocks → All ReportsNothing after
+        → last_blocks [] (before ++ sack blocks ∷ after) ≡ blocks }
+    ensures none { (options : List HeaderOption) → All ReportsNothing options → last_blocks [] options ≡ [] }
+{}
+
+/// Without SYN the blocks that the head reports go out, and no option where it reports none. With SYN the size of this stack always does,
+/// its shift exactly where the head offers to scale windows, and the permission exactly where it offers to take selective acknowledgements
+/// (RFC 9293 section 3.7.1, RFC 7323 section 2.2, RFC 2018 sections 2 and 3).
 pub fn options_go_with_syn()
-    ensures without { (head : Head) (octets : List ℕ) → head.flags.syn ≡ false → (sent_segment head octets).options ≡ [] }
+    ensures without { (head : Head) (octets : List ℕ) → head.flags.syn ≡ false → head.blocks ≡ [] → (sent_segment head octets).options ≡ [] }
+    ensures reports { (head : Head) (octets : List ℕ) → head.flags.syn ≡ false → (sent_segment head octets).options ≡ report (sent_blocks head) }
     ensures size { (head : Head) (octets : List ℕ) → head.flags.syn ≡ true → mss_option_of (sent_segment head octets) ≡ Some MSS }
     ensures scale { (head : Head) (octets : List ℕ) → head.flags.syn ≡ true
         → scale_option_of (sent_segment head octets) ≡ (if head.scales then Some SHIFT else None) }
+    ensures permission { (head : Head) (octets : List ℕ) → sack_permitted_of (sent_segment head octets) ≡ (head.flags.syn && head.sacks) }
+    ensures blocks { (head : Head) (octets : List ℕ) → All BlockFits head.blocks → blocks_of (sent_segment head octets) ≡ (if head.flags.syn then [] else sent_blocks head) }
 {}
 
 /// What this stack sends has one spelling: no other octets have its form, reserved bits of zero and a right checksum. A
@@ -89,6 +102,11 @@ pub fn emitted_parses()
     ensures parsed { (src dst : Addr) (head : Head) (octets : List ℕ) (answer : Result Segment SegmentFault)
         → CanBeSent src dst head octets → IsParsed src dst (sent_octets src dst head octets) answer
         → answer ≡ Ok (sent_segment head octets) }
+{}
+
+/// A header has from 20 to 56 octets: with four blocks it is the longest (RFC 2018 section 3).
+pub fn headers_are_short()
+    ensures { (head : Head) → (FIXED_LEN ≤ 4 * sent_offset head) × (4 * sent_offset head ≤ 56) }
 {}
 
 /// What the shifts are (RFC 7323 sections 2.2 and 2.3).

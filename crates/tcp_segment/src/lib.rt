@@ -2,6 +2,7 @@
 //! section 3.1).
 #![tactic(auto)]
 
+mod blocks;
 mod fault;
 mod flags;
 mod head;
@@ -29,6 +30,10 @@ pub const SHIFT: u8 = 5;
 /// A greater shift in a window scale option counts as this (RFC 7323 section 2.3).
 pub const MAX_SHIFT: u8 = 14;
 
+/// The most blocks that an option of selective acknowledgement has room for (RFC 2018 section 3).
+pub const MOST_BLOCKS: usize = 4;
+
+pub use blocks::{Block, Blocks};
 pub use fault::SegmentFault;
 pub use flags::Flags;
 pub use head::Head;

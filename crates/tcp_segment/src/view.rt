@@ -4,12 +4,13 @@ ghost use Rattle.std.specs.Prelude.{◌≡◌, ◌+◌, ◌<◌, ◌≤◌, ◌^
 ghost use Rattle.std.specs.Option.{ok_or};
 ghost use Rattle.byteorder.specs.Endian.{big_number};
 ghost use Rattle.tcp_segment.specs.declared.fault.SegmentFault.TheVariants.{UpperHeader};
-ghost use Rattle.tcp_segment.specs.Segment.{Segment, HasForm, IsParsed, mss_option_of, send_mss, smss_of, scale_option_of, shift_of, span_of};
+ghost use Rattle.tcp_segment.specs.Segment.{Segment, HasForm, IsParsed, mss_option_of, send_mss, smss_of, scale_option_of, shift_of, sack_permitted_of, blocks_of, span_of};
+ghost use Rattle.tcp_segment.specs.Telling.{told_of};
 ghost use Rattle.tcp_segment.specs.Reading.{header_in, offset_in, checksum_in};
 
+use crate::blocks::Blocks;
 use crate::fault::SegmentFault;
 use crate::flags::{Flags, flags_of};
-use crate::head::Head;
 use crate::options::{self, Told};
 use crate::seq::Seq;
 use crate::sum::sum_between;
@@ -21,7 +22,12 @@ use std::marker::Model;
 /// A segment that was received and is well-formed, its octets lent from the frame.
 #[derive(Drop)]
 pub struct TcpView<'a> {
-    head: Head,
+    source: u16,
+    destination: u16,
+    number: Seq,
+    acknowledgement: Seq,
+    flags: Flags,
+    window: u16,
     urgent: u16,
     options: &'a [u8],
     payload: &'a [u8],
@@ -35,12 +41,12 @@ impl<'a> Model for TcpView<'a> {
     ghost Value = { Segment };
 
     ghost view = { λ v. record {
-      source = v.head.source;
-      destination = v.head.destination;
-      number = v.head.number.0;
-      acknowledgement = v.head.acknowledgement.0;
-      flags = v.head.flags;
-      window = v.head.window;
+      source = v.source;
+      destination = v.destination;
+      number = v.number.0;
+      acknowledgement = v.acknowledgement.0;
+      flags = v.flags;
+      window = v.window;
       urgent = v.urgent;
       options = unwrap_or (options_behind v.options.now 0) [];
       octets = v.payload.now;
@@ -72,17 +78,13 @@ impl<'a> TcpView<'a> {
         let header = header_len(segment)?;
         let options = &segment[FIXED_LEN..header];
         options::told_by(options)?;
-        let head = Head {
+        Ok(TcpView {
             source: u16_at(segment, 0),
             destination: u16_at(segment, 2),
             number: Seq(u32_at(segment, 4)),
             acknowledgement: Seq(u32_at(segment, 8)),
             flags: flags_of(segment[13]),
             window: u16_at(segment, 14),
-            scales: false,
-        };
-        Ok(TcpView {
-            head,
             urgent: u16_at(segment, 18),
             options,
             payload: &segment[header..],
@@ -112,35 +114,35 @@ impl<'a> TcpView<'a> {
     pub fn source(&self) -> u16
         ensures { result ≡ self.now.source }
     {
-        self.head.source
+        self.source
     }
 
     /// The port that it goes to.
     pub fn destination(&self) -> u16
         ensures { result ≡ self.now.destination }
     {
-        self.head.destination
+        self.destination
     }
 
     /// The number of its first octet, or of its SYN.
     pub fn number(&self) -> Seq
         ensures { result.0 ≡ self.now.number }
     {
-        self.head.number
+        self.number
     }
 
     /// The number that the sender expects next, where ACK is set.
     pub fn acknowledgement(&self) -> Seq
         ensures { result.0 ≡ self.now.acknowledgement }
     {
-        self.head.acknowledgement
+        self.acknowledgement
     }
 
     /// Its control bits.
     pub fn flags(&self) -> Flags
         ensures { result ≡ self.now.flags }
     {
-        self.head.flags
+        self.flags
     }
 
     /// The window field: how many octets the sender has room for; without SYN, where windows are scaled, how many units
@@ -148,7 +150,7 @@ impl<'a> TcpView<'a> {
     pub fn window(&self) -> u16
         ensures { result ≡ self.now.window }
     {
-        self.head.window
+        self.window
     }
 
     /// The urgent pointer.
@@ -197,16 +199,39 @@ impl<'a> TcpView<'a> {
         self.scale_option().unwrap_or(0).min(MAX_SHIFT)
     }
 
-    /// What its options tell, which count with SYN alone.
+    /// Whether its sender takes selective acknowledgements (RFC 2018 section 2): an option says so, and SYN is set.
+    pub fn is_sack_permitted(&self) -> bool
+        ensures { result ≡ sack_permitted_of self.now }
+    {
+        self.told().sacks
+    }
+
+    /// The blocks that its sender holds ahead of a gap (RFC 2018 section 3): those of the last option that reports some. One of a
+    /// length that blocks don't have is passed over.
+    pub fn blocks(&self) -> Blocks
+        ensures { result ≡ blocks_of self.now }
+    {
+        self.told_by_options().blocks
+    }
+
+    /// What its options tell that counts with SYN alone.
     fn told(&self) -> Told
         ensures mss { result.mss ≡ mss_option_of self.now }
         ensures scale { result.scale ≡ scale_option_of self.now }
+        ensures sacks { result.sacks ≡ sack_permitted_of self.now }
     {
-        if self.head.flags.syn {
-            options::told_by(self.options).unwrap_or_default()
+        if self.flags.syn {
+            self.told_by_options()
         } else {
-            Told::default()
+            Told::NOTHING
         }
+    }
+
+    /// What its options tell.
+    fn told_by_options(&self) -> Told
+        ensures { result ≡ told_of self.now.options }
+    {
+        options::told_by(self.options).unwrap_or(Told::NOTHING)
     }
 
     /// Its own octets, a part of the frame that was parsed.
@@ -223,7 +248,7 @@ impl<'a> TcpView<'a> {
         ensures value { result ≡ span_of self.now }
         ensures bound { result < 2 ^ 16 + 2 }
     {
-        self.payload.len() as u32 + u32::from(self.head.flags.syn) + u32::from(self.head.flags.fin)
+        self.payload.len() as u32 + u32::from(self.flags.syn) + u32::from(self.flags.fin)
     }
 }
 

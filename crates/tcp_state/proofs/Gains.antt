@@ -69,7 +69,7 @@ fin_takes v w s was = (
   ],
 )
 
-told_receives : (v : View) (s : Segment) → (after_window (after_ack v s.acknowledgement) s).receiving ≡ v.receiving
+pub told_receives : (v : View) (s : Segment) → (after_window (after_ack v s.acknowledgement) s).receiving ≡ v.receiving
 told_receives v s = ack_receives v s.acknowledgement
 
 heard_takes : (v : View) (s : Segment) → Takes v s (after_heard v s)
@@ -111,7 +111,7 @@ receiving_beyond FinWait1 e = refl
 receiving_beyond FinWait2 e = refl
 receiving_beyond _ e = cc
 
-receiving_after : (v : View) (ack : ℕ) → is_receiving v.state ≡ true → is_receiving (after_ack v ack).state ≡ true
+pub receiving_after : (v : View) (ack : ℕ) → is_receiving v.state ≡ true → is_receiving (after_ack v ack).state ≡ true
 receiving_after v ack receiving = by_ack (λ w. is_receiving w.state ≡ true) v ack (record {
   old = receiving;
   beyond = receiving;
@@ -158,16 +158,20 @@ all_read v s is receiving =
       elim (kept_by_fin (after_text told s) s) [ inl stays ↦ inl (stays ∙ text.1) | inr ends ↦ inr ends ],
     )
 
-all_where_read : (v : View) (s : Segment) (now : Moment) → IsSound v → v.released ≡ false → is_receiving v.state ≡ true → is_read v s ≡ true → TakesAll v s (after_segment_at v s now)
-all_where_read v s now sound kept receiving read =
+-- what holds where it is read, and is left by the clock
+pub where_read : (P : View → Type 0) (v : View) (s : Segment) (now : Moment) → v.released ≡ false → is_receiving v.state ≡ true → is_read v s ≡ true
+    → ((w : View) → P w → P (timed_by (before v s) w now)) → P (after_reading v s) → P (after_segment_at v s now)
+where_read P v s now kept receiving read timed holds =
     let lives = receiving_lives v.state receiving in
     let heard : after_segment v s ≡ after_reading v s = reads v s lives.0 lives.1 (read_tells v s read) in
-    let all : TakesAll v s (after_segment v s) = subst (λ w. TakesAll v s w) (sym heard) (all_read v s (sound_keeping v sound) receiving) in
-    either View (λ w. TakesAll v s w) (is_closed v.state || is_rejected v s) v (timed_by (before v s) (after_heard v s) now)
+    either View P (is_closed v.state || is_rejected v s) v (timed_by (before v s) (after_heard v s) now)
     (λ unheard. clash (is_closed v.state || is_rejected v s) unheard (ap (λ b. b || is_rejected v s) lives.0 ∙ not_rejected v s lives.1 lives.2))
-    (λ hears. either View (λ w. TakesAll v s w) (is_lost v s) (after_lost v s) (after_segment v s)
+    (λ hears. timed (after_heard v s) (either View P (is_lost v s) (after_lost v s) (after_segment v s)
     (λ lost. clash v.released (and_left v.released (is_receiving v.state) (and_left (v.released && is_receiving v.state) (is_read v s) (and_left (v.released && is_receiving v.state && is_read v s) _ lost))) kept)
-    (λ stays. all))
+    (λ stays. subst P (sym heard) holds)))
+
+all_where_read : (v : View) (s : Segment) (now : Moment) → IsSound v → v.released ≡ false → is_receiving v.state ≡ true → is_read v s ≡ true → TakesAll v s (after_segment_at v s now)
+all_where_read v s now sound kept receiving read = where_read (λ w. TakesAll v s w) v s now kept receiving read (λ w all. all) (all_read v s (sound_keeping v sound) receiving)
 
 pub gains_where_read : (v : View) (s : Segment) (now : Moment) → IsSound v → v.released ≡ false → is_receiving v.state ≡ true → is_read v s ≡ true
     → (after_segment_at v s now).receiving.readable ≡ v.receiving.readable ++ octets_gained v.receiving s.number s.octets

@@ -94,3 +94,5 @@ pub mod SetUp
 pub mod Duplicates
 pub mod Recovering
 pub mod Transmits
+pub mod BlocksTold
+pub mod KeptTold

@@ -2,7 +2,7 @@
 use Rattle.std.proofs.Common.{◌≡◌, ℕ, ◌≤◌, ◌==◌, ◌||◌, ◌&&◌, ◌⊎◌, not, min, max, if◌then◌else◌, Bool, true, false, length, drop, Some, None, unwrap_or, inl, inr, arith, refl, sym, ◌∙◌, ap, ap₂, subst}
 use Rattle.std.proofs.lemmas.List.{length-take}
 use Rattle.tcp_segment.specs.Options.{last_mss}
-use Rattle.tcp_segment.specs.Segment.{Segment, smss_of, shift_of}
+use Rattle.tcp_segment.specs.Segment.{Segment, sack_permitted_of, smss_of, shift_of}
 use Rattle.clock.specs.declared.moment.Moment.{Moment}
 use Rattle.tcp_state.specs.declared.emission.Due.{Due}
 use Rattle.tcp_state.specs.declared.emission.Due.TheVariants.{Rst, Syn, Text, Probe, Ack, KeepAlive}
@@ -27,10 +27,12 @@ use Rattle.tcp_state.proofs.StillStreams.{emissions_leave}
 use Rattle.tcp_state.proofs.Events.{by_event}
 use Rattle.tcp_state.proofs.Emissions.{by_due}
 
--- what the peer's SYN settles: the most octets of a segment, whether windows are scaled, how many octets each half holds, and the units of the windows; and beside it how many places were made
+-- what the peer's SYN settles: the most octets of a segment, whether windows are scaled and what is kept is reported, how many octets each half holds, and the units of the windows; and beside it how
+-- many places were made
 record Terms : Type 0 where
   smss : ℕ
   scales : Bool
+  sacks : Bool
   sending_size : ℕ
   receiving_size : ℕ
   peer_unit : ℕ
@@ -41,6 +43,7 @@ abbrev terms_of : View → Terms
 terms_of v = record {
   smss = v.sending.smss;
   scales = v.scales;
+  sacks = v.reporting.sacks;
   sending_size = v.sending.size;
   receiving_size = v.receiving.size;
   peer_unit = v.sending.unit;
@@ -180,6 +183,9 @@ size_of_syn v s now waits opens = ap (λ (t : Terms). t.smss) (syn_settles v s n
 pub scale_of_syn : (v : View) (s : Segment) (now : Moment) → v.state ≡ SynSent → TakesSyn v s now → (after_event v (Hears s now)).scales ≡ scales_with v s
 scale_of_syn v s now waits opens = ap (λ (t : Terms). t.scales) (syn_settles v s now waits opens)
 
+pub report_of_syn : (v : View) (s : Segment) (now : Moment) → v.state ≡ SynSent → TakesSyn v s now → (after_event v (Hears s now)).reporting.sacks ≡ (v.reporting.sacks && sack_permitted_of s)
+report_of_syn v s now waits opens = ap (λ (t : Terms). t.sacks) (syn_settles v s now waits opens)
+
 pub unit_of_syn : (v : View) (s : Segment) (now : Moment) → v.state ≡ SynSent → TakesSyn v s now
     → (after_event v (Hears s now)).sending.unit ≡ peer_unit (after_event v (Hears s now)).scales (shift_of s)
 unit_of_syn v s now waits opens = let e = syn_settles v s now waits opens in
@@ -191,9 +197,9 @@ emitted_settled : (v : View) (now : Moment) → Same v (after_event v (Emits now
 emitted_settled v now =
     let w = after_event v (Emits now) in
     let k = emissions_leave v now in
-    ap (λ (t : Sending). record { smss = t.smss; scales = w.scales; sending_size = t.size; receiving_size = w.receiving.size; peer_unit = t.unit; own_unit = w.receiving.unit; places = w.receiving.capacity }) k.0
-    ∙ (ap (λ (r : Receiving). record { smss = v.sending.smss; scales = w.scales; sending_size = v.sending.size; receiving_size = r.size; peer_unit = v.sending.unit; own_unit = r.unit; places = r.capacity }) k.1
-    ∙ ap (λ (x : View). record (terms_of v) { scales = x.scales }) (emission_keeps v (first_due v) now))
+    ap (λ (t : Sending). record { smss = t.smss; scales = w.scales; sacks = w.reporting.sacks; sending_size = t.size; receiving_size = w.receiving.size; peer_unit = t.unit; own_unit = w.receiving.unit; places = w.receiving.capacity }) k.0
+    ∙ (ap (λ (r : Receiving). record { smss = v.sending.smss; scales = w.scales; sacks = w.reporting.sacks; sending_size = v.sending.size; receiving_size = r.size; peer_unit = v.sending.unit; own_unit = r.unit; places = r.capacity }) k.1
+    ∙ ap (λ (x : View). record (terms_of v) { scales = x.scales; sacks = x.reporting.sacks }) (emission_keeps v (first_due v) now))
 
 ticked_settled : (v : View) (now : Moment) → Same v (clocked false (after_timers v now) now)
 ticked_settled v now = ap terms_of (timers_keep v now)
@@ -249,6 +255,9 @@ untaken v e = elim (settled_by v e) [
 pub scale_waits : (v : View) (e : Event) → ((after_event v e).scales ≡ v.scales) ⊎ HearsSyn v e
 scale_waits v e = elim (untaken v e) [ inl same ↦ inl (ap (λ (t : Terms). t.scales) same) | inr taken ↦ inr taken ]
 
+pub report_waits : (v : View) (e : Event) → ((after_event v e).reporting.sacks ≡ v.reporting.sacks) ⊎ HearsSyn v e
+report_waits v e = elim (untaken v e) [ inl same ↦ inl (ap (λ (t : Terms). t.sacks) same) | inr taken ↦ inr taken ]
+
 pub sizes_wait : (v : View) (e : Event) → (((after_event v e).sending.size ≡ v.sending.size) × ((after_event v e).receiving.size ≡ v.receiving.size)) ⊎ HearsSyn v e
 sizes_wait v e = elim (untaken v e) [ inl same ↦ inl (ap (λ (t : Terms). t.sending_size) same, ap (λ (t : Terms). t.receiving_size) same) | inr taken ↦ inr taken ]
 
@@ -257,6 +266,9 @@ units_wait v e = elim (untaken v e) [ inl same ↦ inl (ap (λ (t : Terms). t.pe
 
 pub scale_stays : (v : View) (e : Event) → (is_syn_sent v.state ≡ false) ⊎ (is_syn_sent (after_event v e).state ≡ true) → (after_event v e).scales ≡ v.scales
 scale_stays v e either_way = ap (λ (t : Terms). t.scales) (stay v e either_way)
+
+pub report_stays : (v : View) (e : Event) → (is_syn_sent v.state ≡ false) ⊎ (is_syn_sent (after_event v e).state ≡ true) → (after_event v e).reporting.sacks ≡ v.reporting.sacks
+report_stays v e either_way = ap (λ (t : Terms). t.sacks) (stay v e either_way)
 
 pub sizes_stay : (v : View) (e : Event) → is_syn_sent v.state ≡ false → ((after_event v e).sending.size ≡ v.sending.size) × ((after_event v e).receiving.size ≡ v.receiving.size)
 sizes_stay v e past_opening = let same = stay v e (inl past_opening) in (ap (λ (t : Terms). t.sending_size) same, ap (λ (t : Terms). t.receiving_size) same)

@@ -1,5 +1,5 @@
 -- Why each segment that goes out says what is so.
-use Rattle.std.proofs.Common.{◌≡◌, ℕ, ◌+◌, ◌-◌, ◌*◌, ◌/◌, ◌%◌, ◌^◌, ◌<◌, ◌≤◌, ◌==◌, ◌&&◌, not, nat_lt, nat_le, min, if◌then◌else◌, Bool, true, false, List, length, take, drop, Some, inl, inr, arith, refl, sym, ◌∙◌, ap}
+use Rattle.std.proofs.Common.{◌≡◌, ℕ, ◌+◌, ◌-◌, ◌*◌, ◌/◌, ◌%◌, ◌^◌, ◌<◌, ◌≤◌, ◌==◌, ◌&&◌, not, nat_lt, nat_le, min, if◌then◌else◌, Bool, true, false, List, [], ◌∷◌, ◌++◌, length, take, drop, Some, inl, inr, arith, refl, sym, ◌∙◌, ap}
 use Rattle.std.specs.Prelude.{slice_get}
 use Rattle.std.proofs.lemmas.List.{length-drop, length-take, get_or-take, get_or-drop}
 use Rattle.std.proofs.lemmas.Option.{slice_get-get_or}
@@ -7,7 +7,8 @@ use Rattle.std.proofs.Math.Nat.{div-le_of_le-mul}
 use Rattle.std.proofs.lemmas.Bool.Decides.{eqb_tells}
 use Rattle.std.proofs.lemmas.Bool.{lt-ltb, ltb-true, eq-eqb, eqb-true, le-leb}
 use Rattle.tcp_segment.specs.Segment.{Spells}
-use Rattle.tcp_segment.specs.Sent.{CanBeSent, sent_segment}
+use Rattle.tcp_segment.specs.Options.{NoOperation, MaximumSegmentSize, WindowScale}
+use Rattle.tcp_segment.specs.Sent.{CanBeSent, permission, report, sent_segment}
 use Rattle.tcp_segment.specs.Wire.{wire, past}
 use Rattle.tcp_segment.proofs.Checksum.{sent_spelled}
 use Rattle.clock.specs.declared.moment.Moment.{Moment}
@@ -23,7 +24,8 @@ use Rattle.tcp_halves.proofs.Choices.{either, clash, and_left, and_right, both}
 use Rattle.tcp_halves.proofs.Keeping.{IsKeeping, advertisement_keeps}
 use Rattle.tcp_state.specs.View.{View, IsSound, is_opening, is_syn_sent, is_syn_received}
 use Rattle.tcp_state.specs.Due.{IsHeld, MayGoOut, probe_stretch, flags_of, flags_of_stretch, number_of, window_of, head_of, octets_of, octets_of_stretch, segment_octets, after_syn_out, after_stretch, after_probe, after_ack_paid, after_syn_ack_paid, after_emitted}
-use Rattle.tcp_state.specs.Said.{segment_of, IsSo}
+use Rattle.tcp_state.specs.Said.{segment_of, IsSo, scale_offer, sack_offer}
+use Rattle.tcp_state.proofs.BlocksTold.{blocks_fit, reported_in}
 use Rattle.tcp_state.proofs.Sizes.{emitted_short}
 use Rattle.tcp_state.proofs.Sound.{sound_keeping}
 use Rattle.tcp_state.proofs.AckNumbers.{ack_fits}
@@ -110,6 +112,8 @@ so_stretch : (v : View) (stretch : Stretch) (number edge : ℕ) → IsSound v �
       flags = flags_of_stretch v stretch;
       window = window_field (after_advertisement v.receiving);
       scales = false;
+      sacks = false;
+      blocks = [];
     }) (octets_of_stretch v stretch))
 so_stretch v stretch number edge sound held is window =
     let l = v.sending.held in
@@ -140,6 +144,11 @@ so_stretch v stretch number edge sound held is window =
       urgent = refl;
     }
 
+-- both offers, one behind the other
+offers : (scales sacks : Bool) → MaximumSegmentSize 1460 ∷ (if scales then NoOperation ∷ WindowScale 5 ∷ permission sacks else permission sacks) ≡ MaximumSegmentSize 1460 ∷ (scale_offer scales ++ sack_offer sacks)
+offers true sacks = refl
+offers false sacks = refl
+
 so_syn : (v : View) (now : Moment) → IsSound v → is_opening v.state ≡ true → IsSo v (after_emitted v Syn now).receiving.edge (segment_of v Syn)
 so_syn v now sound opening =
     let r = v.receiving in
@@ -157,7 +166,7 @@ so_syn v now sound opening =
       unacknowledging = λ none. ap (λ b. if b then r.rnext else 0) none;
       first = λ syn none. let shut = shut_at_first v.receiving.size v.state (receive_window r) (length r.readable) (sent_alone v.state opening none) sound.untold sound.readable in
           first_told r sound.rnext shut.0 shut.1 sound.terms.receive_least;
-      syn = λ syn. (refl, refl, refl);
+      syn = λ syn. (refl, refl, offers v.scales v.reporting.sacks);
       plain = λ none. cc;
       rst = λ rst. cc;
       small = omega arith;
@@ -199,7 +208,7 @@ says_what_is_so v Ack now sound may = record {
   unacknowledging = λ none. cc;
   first = λ syn none. cc;
   syn = λ syn. cc;
-  plain = λ none. refl;
+  plain = λ none. ap report (sym (reported_in v Ack refl));
   rst = λ rst. cc;
   small = window_small v sound;
   urgent = refl;
@@ -260,6 +269,7 @@ octets_spell v due sound may here there from_port to_port =
         window = window_fits v due sound;
         urgent = omega arith;
       };
+      blocks = blocks_fit v due;
       len = omega (arith, short);
     } in
     sent_spelled v.local.addr v.peer.addr (head_of v due) (octets_of v due) can

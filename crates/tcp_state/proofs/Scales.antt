@@ -1,11 +1,12 @@
 -- Why windows are scaled exactly where both sides' SYNs have the option, and what that makes of sizes and units.
-use Rattle.std.proofs.Common.{◌≡◌, ℕ, ◌≤◌, ◌^◌, ◌==◌, ◌&&◌, ◌↔◌, not, min, if◌then◌else◌, Bool, true, false, [], ◌∷◌, Option, Some, None, is_some, inl, inr, arith, refl, sym, ◌∙◌, ap, subst}
+use Rattle.std.proofs.Common.{◌≡◌, ℕ, ◌≤◌, ◌^◌, ◌==◌, ◌&&◌, ◌↔◌, not, min, take, if◌then◌else◌, Bool, true, false, ◌∷◌, Option, Some, None, is_some, inl, inr, arith, refl, sym, ◌∙◌, ap, subst}
 use Rattle.std.proofs.lemmas.Bool.Decides.{eqb_tells}
 use lib.Pow.{pow_mono, pow_pos}
 use Rattle.ipv4.specs.declared.addr.Endpoint.{Endpoint}
 use Rattle.clock.specs.declared.moment.Moment.{Moment}
 use Rattle.tcp_segment.specs.Options.{HeaderOption, last_scale}
-use Rattle.tcp_segment.specs.Segment.{Segment, scale_option_of}
+use Rattle.tcp_segment.specs.Segment.{Segment, scale_option_of, blocks_of as blocks_in}
+use Rattle.tcp_segment.specs.Sent.{permission, report}
 use Rattle.tcp_state.specs.declared.emission.Due.{Due}
 use Rattle.tcp_state.specs.declared.state.State.TheVariants.{SynSent}
 use Rattle.tcp_halves.specs.Stream.{size_in, own_unit, peer_unit}
@@ -17,6 +18,8 @@ use Rattle.tcp_state.specs.Said.{segment_of}
 use Rattle.tcp_state.specs.Edges.{Hears, after_event}
 use Rattle.tcp_state.specs.Opening.{TellsShift, TakesSyn}
 use Rattle.tcp_halves.proofs.Choices.{and_false}
+use Rattle.tcp_state.specs.Reporting.{blocks_of}
+use Rattle.tcp_state.proofs.BlocksTold.{reported_in}
 use Rattle.tcp_state.proofs.PeerSizes.{scale_of_syn}
 
 -- our offer, and the peer's shift
@@ -32,13 +35,15 @@ heard_by_both v s now waits takes =
 
 -- what stands in our segments
 pub told_in_syns : (v : View) (due : Due) → scale_option_of (segment_of v due) ≡ (let f = flags_of v due in if f.syn && v.scales then Some 5 else None)
-told_in_syns v due = let f = flags_of v due in told f.syn v.scales
+told_in_syns v due = let f = flags_of v due in told f.syn v.scales v.reporting.sacks
   where
-    told : (syn scales : Bool) → (if syn then last_scale None (if syn then HeaderOption.MaximumSegmentSize 1460 ∷ (if scales then HeaderOption.NoOperation ∷ HeaderOption.WindowScale 5 ∷ [] else []) else []) else None)
-        ≡ (if syn && scales then Some 5 else None)
-    told true true = refl
-    told true false = refl
-    told false scales = refl
+    told : (syn scales sacks : Bool) → (if syn then last_scale None (if syn then HeaderOption.MaximumSegmentSize 1460 ∷ (if scales then HeaderOption.NoOperation ∷ HeaderOption.WindowScale 5 ∷ permission sacks else permission sacks)
+        else report (take 4 (blocks_of v due))) else None) ≡ (if syn && scales then Some 5 else None)
+    told true true true = refl
+    told true true false = refl
+    told true false true = refl
+    told true false false = refl
+    told false scales sacks = refl
 
 -- .. and none in a SYN-ACK to who told none
 
@@ -58,8 +63,11 @@ pub told_unasked : (v : View) (s : Segment) (now : Moment) (due : Due) → v.sta
     → scale_option_of (segment_of (after_event v (Hears s now)) due) ≡ None
 told_unasked v s now due waits takes none = untold (after_event v (Hears s now)) due (scale_of_syn v s now waits takes ∙ offered_to_none v.scales (scale_option_of s) none)
 
-pub plain : (v : View) (due : Due) → (let f = flags_of v due in f.syn) ≡ false → (segment_of v due).options ≡ []
-plain v due no_syn = ap (λ b. if b then HeaderOption.MaximumSegmentSize 1460 ∷ (if v.scales then HeaderOption.NoOperation ∷ HeaderOption.WindowScale 5 ∷ [] else []) else []) no_syn
+pub plain : (v : View) (due : Due) → (let f = flags_of v due in f.syn) ≡ false → (segment_of v due).options ≡ report (blocks_in (segment_of v due))
+plain v due no_syn =
+    let sacks = v.reporting.sacks in
+    ap (λ b. if b then HeaderOption.MaximumSegmentSize 1460 ∷ (if v.scales then HeaderOption.NoOperation ∷ HeaderOption.WindowScale 5 ∷ permission sacks else permission sacks) else report (take 4 (blocks_of v due))) no_syn
+    ∙ ap report (sym (reported_in v due no_syn))
 
 -- settled twice, sizes are as if settled once
 pub settled_once : (offers told : Bool) (capacity : ℕ) → size_in (offers && told) (size_in offers capacity) ≡ size_in (offers && told) capacity

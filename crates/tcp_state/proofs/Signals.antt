@@ -23,6 +23,7 @@ use Rattle.tcp_state.specs.Congestion.Signal.{Begins, Counts, Nothing}
 use Rattle.tcp_state.specs.declared.calls.Refusal.TheVariants.{ETIMEDOUT}
 use Rattle.tcp_state.specs.Timing.{gives_up, after_expiries, after_tick}
 use Rattle.tcp_state.specs.Alive.{after_silence}
+use Rattle.tcp_state.specs.Reporting.{noted}
 use Rattle.tcp_state.specs.Arrival.{owing_ack, may_delay, beyond_end, is_acceptable_to, is_read, is_read_on, is_of_fin, fin_acknowledged, after_new_ack as after_acknowledging, after_establishment, after_ack, after_window, is_receiving, after_text, after_fin, after_segment, brings_more, is_lost, after_lost, after_heard, is_rejected, before, octets_outstanding, is_duplicate, is_moved, congestion_event_of, timed_by, acknowledged_event, counts_duplicates, is_counted_duplicate}
 use Rattle.tcp_state.specs.Edges.{Event, Hears, Ticks, Emits, Sends, Receives, Shuts, SetsNoDelay, SetsKeepAlive, Closes, Aborts, Unreachable, LosesHop, after_event, congestion_event_by}
 use Rattle.tcp_state.specs.Counted.{HasOctetOut, IsDuplicate}
@@ -173,7 +174,7 @@ only_window v s sound d =
     next w = stands_next w.receiving ((s.number + length s.octets) % 2 ^ 32)
 
     texted : View → View
-    texted w = record w { receiving = after_octets w.receiving s.number s.octets; owes_ack = w.owes_ack || w.delays_ack || not (may_delay w s); delays_ack = true }
+    texted w = record w { receiving = after_octets w.receiving s.number s.octets; owes_ack = w.owes_ack || w.delays_ack || not (may_delay w s); delays_ack = true; reporting = noted w.reporting w.receiving.rnext s.number }
 
     ended : View → View
     ended w = record w { state = beyond_end w.state; receiving = after_end w.receiving; owes_ack = true }

@@ -1,18 +1,21 @@
 -- Why two connections that open to each other at the same time both open.
 use Rattle.std.proofs.Common.{◌≡◌, ℕ, ◌+◌, ◌-◌, ◌*◌, ◌/◌, ◌%◌, ◌^◌, ◌<◌, ◌==◌, ◌||◌, ◌&&◌, not, min, max, nat_lt, nat_le, if◌then◌else◌, ◌⊎◌, ◌≤◌, Bool, true, false, List, [], ◌∷◌, Option, Some, None, is_some, unwrap_or, inl, inr, option_map, arith, refl, sym, ◌∙◌, ap, subst}
+use Rattle.std.specs.List.{list_any}
 use Rattle.std.proofs.lemmas.Bool.{lt-ltb, le-ltb, lt-leb, le-leb, eq-eqb}
 use Rattle.std.proofs.lemmas.Bool.Decides.{eqb_tells, leb_tells}
 use Rattle.ipv4.specs.declared.addr.Endpoint.{Endpoint}
 use Rattle.clock.specs.declared.moment.Moment.{Moment}
 use Rattle.clock.specs.Moments.{after}
-use Rattle.tcp_segment.specs.Options.{HeaderOption, NoOperation, MaximumSegmentSize, WindowScale, last_mss, last_scale}
-use Rattle.tcp_segment.specs.Segment.{Segment, scale_option_of, shift_of, smss_of}
-use Rattle.tcp_segment.specs.Sent.{sent_segment}
+use Rattle.tcp_segment.specs.Options.{HeaderOption, NoOperation, MaximumSegmentSize, WindowScale, last_mss, last_scale, permits}
+use Rattle.tcp_segment.specs.Segment.{Segment, scale_option_of, sack_permitted_of, shift_of, smss_of}
+use Rattle.tcp_segment.specs.Sent.{permission, sent_segment}
 use Rattle.tcp_segment.specs.Wire.{wire, past}
 use Rattle.retransmit.specs.declared.timers.Timers.{Timers}
 use Rattle.retransmit.specs.Deadlines.{no_timers}
+use Rattle.congestion.specs.Control.{is_selective}
 use Rattle.congestion.specs.Window.{allowed, initial_window}
 use Rattle.tcp_state.specs.declared.timing.TheConstants.{OVERRIDE_WAIT}
+use Rattle.tcp_state.specs.declared.reporting.Reporting.{Reporting}
 use Rattle.tcp_state.specs.declared.emission.Due.{Due}
 use Rattle.tcp_state.specs.declared.emission.Due.TheVariants.{Syn, Text, Ack}
 use Rattle.tcp_state.specs.declared.state.State.TheVariants.{SynReceived, Established}
@@ -46,9 +49,10 @@ record Half : Type 0 where
   pub told : ℕ
   pub wide : ℕ
 
--- one end and the other: whether windows are scaled once the SYNs crossed, and the unit of both
+-- one end and the other: whether windows are scaled once the SYNs crossed, whether what is kept is reported, and the unit of both
 record Meeting : Type 0 where
   pub scales : Bool
+  pub sacks : Bool
   pub unit : ℕ
   pub mine : Half
   pub theirs : Half
@@ -59,7 +63,7 @@ record Meeting : Type 0 where
 
 -- .. as the other sees it
 abbrev mirror : Meeting → Meeting
-mirror m = record { scales = m.scales; unit = m.unit; mine = m.theirs; theirs = m.mine; here = m.there; there = m.here; isn = m.other; other = m.isn }
+mirror m = record { scales = m.scales; sacks = m.sacks; unit = m.unit; mine = m.theirs; theirs = m.mine; here = m.there; there = m.here; isn = m.other; other = m.isn }
 
 -- an end, step by step
 
@@ -79,6 +83,7 @@ waiting m first = record (opening m first) { sending = record (sending_from (siz
 -- what the other's SYN settles
 record Settled : Type 0 where
   pub scales : Bool
+  pub sacks : Bool
   pub sends : ℕ
   pub peer : ℕ
   pub takes : ℕ
@@ -88,7 +93,11 @@ record Settled : Type 0 where
   pub told : ℕ
 
 abbrev settled : Meeting → Settled
-settled m = record { scales = m.scales; sends = m.mine.size; peer = m.unit; takes = m.mine.size; own = m.unit; smss = 1460; heard = m.theirs.told; told = m.mine.told }
+settled m = record { scales = m.scales; sacks = m.sacks; sends = m.mine.size; peer = m.unit; takes = m.mine.size; own = m.unit; smss = 1460; heard = m.theirs.told; told = m.mine.told }
+
+-- nothing came ahead of a gap
+abbrev reports : Bool → Reporting
+reports sacks = record { sacks = sacks; latest = record { 0 = 0 } }
 
 -- it has both SYNs, and heard the other at a last moment
 abbrev receives : Meeting → ℕ → Receiving
@@ -106,6 +115,7 @@ answering m window owes spoke resend first last = record (opening m first) {
   timers = runs_from first;
   unheard = None;
   alive = asked None last;
+  reporting = reports m.sacks;
 }
 
 -- .. which settled this, of windows and sizes
@@ -118,6 +128,7 @@ taken m t out mark first = record (opening m first) {
   resend = record (timed_from m.mine.room.manner.least_timeout m.isn first) { mark = mark };
   timers = runs_from first;
   unheard = None;
+  reporting = reports t.sacks;
 }
 
 -- its SYN goes out again, with an acknowledgement ..
@@ -147,6 +158,7 @@ opened m last = record (opening m (record { 0 = 0 })) {
   congestion = initial_window m.mine.room.manner.control 1460 false;
   unheard = None;
   alive = asked None last;
+  reporting = reports m.sacks;
 }
 
 -- .. but for the clock
@@ -181,6 +193,7 @@ record Tells (unit : ℕ) (h : Half) : Type 0 where
 abbrev read_of : Meeting → Settled
 read_of m = let s = syn_of (mirror m) in let scales = m.mine.room.manner.scales && is_some (scale_option_of s) in record {
   scales = scales;
+  sacks = is_selective m.mine.room.manner.control && sack_permitted_of s;
   sends = size_in scales (size_of m.mine.room);
   peer = peer_unit scales (shift_of s);
   takes = size_in scales (size_of m.mine.room);
@@ -508,13 +521,22 @@ answers m first f = record {
 -- The rooms.
 
 -- the options of a SYN
-abbrev options_in : Bool → List HeaderOption
-options_in scales = MaximumSegmentSize 1460 ∷ (if scales then NoOperation ∷ WindowScale 5 ∷ [] else [])
+abbrev options_in : Bool → Bool → List HeaderOption
+options_in scales sacks = MaximumSegmentSize 1460 ∷ (if scales then NoOperation ∷ WindowScale 5 ∷ permission sacks else permission sacks)
 
 -- windows are scaled where both offer it ..
-both_say : (mine theirs : Bool) → (mine && is_some (last_scale None (options_in theirs))) ≡ (mine && theirs)
-both_say mine true = refl
-both_say mine false = refl
+both_say : (mine theirs sacks : Bool) → (mine && is_some (last_scale None (options_in theirs sacks))) ≡ (mine && theirs)
+both_say mine true true = refl
+both_say mine true false = refl
+both_say mine false true = refl
+both_say mine false false = refl
+
+-- .. and what is kept is reported where both take that
+both_take : (mine theirs scales : Bool) → (mine && list_any permits (options_in scales theirs)) ≡ (mine && theirs)
+both_take mine true true = refl
+both_take mine true false = refl
+both_take mine false true = refl
+both_take mine false false = refl
 
 both_say_too : (mine theirs : Bool) → (mine && theirs) ≡ (theirs && mine)
 both_say_too true true = refl
@@ -523,14 +545,18 @@ both_say_too false true = refl
 both_say_too false false = refl
 
 -- .. and then a unit is ours, since the shifts are the same
-unit_read : (mine theirs both : Bool) → (mine && theirs) ≡ both → peer_unit both (min (unwrap_or (last_scale None (options_in theirs)) 0) 14) ≡ own_unit both
-unit_read mine true both same = refl
-unit_read mine false true same = let bad = sym (and_false mine) ∙ same in cc
-unit_read mine false false same = refl
+unit_read : (mine theirs both sacks : Bool) → (mine && theirs) ≡ both → peer_unit both (min (unwrap_or (last_scale None (options_in theirs sacks)) 0) 14) ≡ own_unit both
+unit_read mine true both true same = refl
+unit_read mine true both false same = refl
+unit_read mine false true sacks same = let bad = sym (and_false mine) ∙ same in cc
+unit_read mine false false true same = refl
+unit_read mine false false false same = refl
 
-size_read : (theirs : Bool) → min (max (unwrap_or (last_mss None (options_in theirs)) 536) 64) 1460 ≡ 1460
-size_read true = refl
-size_read false = refl
+size_read : (theirs sacks : Bool) → min (max (unwrap_or (last_mss None (options_in theirs sacks)) 536) 64) 1460 ≡ 1460
+size_read true true = refl
+size_read true false = refl
+size_read false true = refl
+size_read false false = refl
 
 -- as many octets count as where windows had always been so
 size_settled : (mine theirs both : Bool) (capacity : ℕ) → (mine && theirs) ≡ both → size_in both (size_in mine capacity) ≡ size_in both capacity
@@ -545,9 +571,9 @@ abbrev half_of : Bool → Room → Half
 half_of both room = let size = size_in both room.capacity in let told = min room.capacity 65535 in
     record { room = room; size = size; told = told; wide = if nat_le (told + 1460) size then whole_units (own_unit both) size else told }
 
-abbrev meeting : Bool → Room → Room → Endpoint → Endpoint → ℕ → ℕ → Meeting
-meeting both room facing here there isn other =
-    record { scales = both; unit = own_unit both; mine = half_of both room; theirs = half_of both facing; here = here; there = there; isn = isn; other = other }
+abbrev meeting : Bool → Bool → Room → Room → Endpoint → Endpoint → ℕ → ℕ → Meeting
+meeting both sacks room facing here there isn other =
+    record { scales = both; sacks = sacks; unit = own_unit both; mine = half_of both room; theirs = half_of both facing; here = here; there = there; isn = isn; other = other }
 
 -- the first window that is told is a step further than none
 syn_tells : (room : Room) → CanBeMade room → min (receive_window (after_syn_advertisement (receiving_nothing room))) 65535 ≡ min room.capacity 65535
@@ -557,20 +583,22 @@ syn_tells room made =
     ap (λ n. min (receive_window (if nat_le 1460 n then record r { edge = (0 + n) % 2 ^ 32 } else r)) 65535) (told_of room.manner.scales room.capacity)
     ∙ (ap (λ b. min (receive_window (if b then record r { edge = (0 + told) % 2 ^ 32 } else r)) 65535) (le-leb 1460 told (omega (arith, made.least))) ∙ omega arith)
 
-alike : (t : Settled) (scales : Bool) (sends peer takes own smss heard told : ℕ) → scales ≡ t.scales → sends ≡ t.sends → peer ≡ t.peer → takes ≡ t.takes → own ≡ t.own → smss ≡ t.smss → heard ≡ t.heard → told ≡ t.told
-    → record { scales = scales; sends = sends; peer = peer; takes = takes; own = own; smss = smss; heard = heard; told = told } ≡ t
-alike t scales sends peer takes own smss heard told a b c d e f g h = rw a (rw b (rw c (rw d (rw e (rw f (rw g (rw h refl)))))))
+alike : (t : Settled) (scales sacks : Bool) (sends peer takes own smss heard told : ℕ) → scales ≡ t.scales → sacks ≡ t.sacks → sends ≡ t.sends → peer ≡ t.peer → takes ≡ t.takes → own ≡ t.own → smss ≡ t.smss → heard ≡ t.heard → told ≡ t.told
+    → record { scales = scales; sacks = sacks; sends = sends; peer = peer; takes = takes; own = own; smss = smss; heard = heard; told = told } ≡ t
+alike t scales sacks sends peer takes own smss heard told a b c d e f g h i = rw a (rw b (rw c (rw d (rw e (rw f (rw g (rw h (rw i refl))))))))
 
-settles : (both : Bool) (room facing : Room) (here there : Endpoint) (isn other : ℕ) → CanBeMade facing → (room.manner.scales && facing.manner.scales) ≡ both
-    → (let m = meeting both room facing here there isn other in read_of m ≡ settled m)
-settles both room facing here there isn other made say =
-    let m = meeting both room facing here there isn other in
+settles : (both sacks : Bool) (room facing : Room) (here there : Endpoint) (isn other : ℕ) → CanBeMade facing → (room.manner.scales && facing.manner.scales) ≡ both
+    → (is_selective room.manner.control && is_selective facing.manner.control) ≡ sacks → (let m = meeting both sacks room facing here there isn other in read_of m ≡ settled m)
+settles both sacks room facing here there isn other made say take =
+    let m = meeting both sacks room facing here there isn other in
     let t = read_of m in
-    let same : t.scales ≡ both = both_say room.manner.scales facing.manner.scales ∙ say in
+    let theirs = is_selective facing.manner.control in
+    let same : t.scales ≡ both = both_say room.manner.scales facing.manner.scales theirs ∙ say in
+    let reports : t.sacks ≡ sacks = both_take (is_selective room.manner.control) theirs facing.manner.scales ∙ take in
     let size = ap (λ b. size_in b (size_of room)) same ∙ size_settled room.manner.scales facing.manner.scales both room.capacity say in
-    alike (settled m) t.scales t.sends t.peer t.takes t.own t.smss t.heard t.told
-    same size (ap (λ b. peer_unit b (shift_of (syn_of (mirror m)))) same ∙ unit_read room.manner.scales facing.manner.scales both say) size (ap own_unit same)
-    (size_read facing.manner.scales) (syn_tells facing made) (told_of room.manner.scales room.capacity)
+    alike (settled m) t.scales t.sacks t.sends t.peer t.takes t.own t.smss t.heard t.told
+    same reports size (ap (λ b. peer_unit b (shift_of (syn_of (mirror m)))) same ∙ unit_read room.manner.scales facing.manner.scales both theirs say) size (ap own_unit same)
+    (size_read facing.manner.scales theirs) (syn_tells facing made) (told_of room.manner.scales room.capacity)
 
 units : (both : Bool) → (0 < own_unit both) × (own_unit both ≤ 1460)
 units true = (omega arith, omega arith)
@@ -607,15 +635,19 @@ tells both room made =
       rest = wide.2;
     }
 
+-- whether both ends' set-ups take reports
+abbrev both_report : Room → Room → Bool
+both_report room facing = is_selective room.manner.control && is_selective facing.manner.control
+
 fits : (room facing : Room) (here there : Endpoint) (isn other : ℕ) → CanBeMade room → CanBeMade facing → isn < 2 ^ 32 → other < 2 ^ 32
-    → Fits (meeting (room.manner.scales && facing.manner.scales) room facing here there isn other)
-fits room facing here there isn other made made_there few other_few = let both = room.manner.scales && facing.manner.scales in record {
+    → Fits (meeting (room.manner.scales && facing.manner.scales) (both_report room facing) room facing here there isn other)
+fits room facing here there isn other made made_there few other_few = let both = room.manner.scales && facing.manner.scales in let sacks = both_report room facing in record {
   isn = few;
   other = other_few;
   mine = tells both room made;
   theirs = tells both facing made_there;
-  settles = settles both room facing here there isn other made_there refl;
-  settles_there = settles both facing room there here other isn made (both_say_too facing.manner.scales room.manner.scales);
+  settles = settles both sacks room facing here there isn other made_there refl refl;
+  settles_there = settles both sacks facing room there here other isn made (both_say_too facing.manner.scales room.manner.scales) (both_say_too (is_selective facing.manner.control) (is_selective room.manner.control));
 }
 
 -- a mebibyte is told whole, and what 16 bits can tell
@@ -626,10 +658,10 @@ all_told true told size same (inr large) =
     ap (λ b. if b then whole_units 32 size else told) (le-leb (told + 1460) size (omega (arith, same, large.0))) ∙ omega (arith, large.0)
 all_told false told size same (inr large) = cc
 
-has_opened : (both : Bool) (room facing : Room) (here there : Endpoint) (isn other : ℕ) (last : Moment) → CanBeMade room
-    → (let m = meeting both room facing here there isn other in Fits m → HasOpened both room.capacity isn other (opened m last))
-has_opened both room facing here there isn other last made f =
-    let m = meeting both room facing here there isn other in
+has_opened : (both sacks : Bool) (room facing : Room) (here there : Endpoint) (isn other : ℕ) (last : Moment) → CanBeMade room
+    → (let m = meeting both sacks room facing here there isn other in Fits m → HasOpened both room.capacity isn other (opened m last))
+has_opened both sacks room facing here there isn other last made f =
+    let m = meeting both sacks room facing here there isn other in
     let window = window_is m m.mine.wide f.mine.most in
     let sized = sizes both room.capacity made.least in
     record {
@@ -657,7 +689,7 @@ pub both_answered : (here there : Endpoint) (room facing : Room) (isn other : �
     let both = room.manner.scales && facing.manner.scales in AnswersSyn isn other ends.one × (ends.one.scales ≡ both) × AnswersSyn other isn ends.other × (ends.other.scales ≡ both))
 both_answered here there room facing isn other one two first made made_there few other_few =
     let both = room.manner.scales && facing.manner.scales in
-    let m = meeting both room facing here there isn other in
+    let m = meeting both (both_report room facing) room facing here there isn other in
     let f = fits room facing here there isn other made made_there few other_few in
     subst (λ (ends : Ends). AnswersSyn isn other ends.one × (ends.one.scales ≡ both) × AnswersSyn other isn ends.other × (ends.other.scales ≡ both)) (sym (first_crossing m one two first f))
     (answers m first f, refl, answers (mirror m) first (mirrored m f), refl)
@@ -667,15 +699,15 @@ pub both_opened : (here there : Endpoint) (room facing : Room) (isn other : ℕ)
     let both = room.manner.scales && facing.manner.scales in HasOpened both room.capacity isn other ends.one × HasOpened both facing.capacity other isn ends.other)
 both_opened here there room facing isn other one two first second third made made_there few other_few =
     let both = room.manner.scales && facing.manner.scales in
-    let m = meeting both room facing here there isn other in
+    let m = meeting both (both_report room facing) room facing here there isn other in
     let f = fits room facing here there isn other made made_there few other_few in
     subst (λ (ends : Ends). HasOpened both room.capacity isn other ends.one × HasOpened both facing.capacity other isn ends.other) (sym (all_crossings m one two first second third f))
-    (has_opened both room facing here there isn other third made f, has_opened both facing room there here other isn third made_there (mirrored m f))
+    (has_opened both (both_report room facing) room facing here there isn other third made f, has_opened both (both_report room facing) facing room there here other isn third made_there (mirrored m f))
 
 pub both_know : (here there : Endpoint) (room facing : Room) (isn other : ℕ) (one two first second third : Moment) → CanBeMade room → CanBeMade facing → isn < 2 ^ 32 → other < 2 ^ 32
     → (let ends = crossed (crossed (crossed (record { one = opened_actively room here there isn one; other = opened_actively facing there here other two }) first) second) third in
     KnowsWindow ends.one ends.other × KnowsWindow ends.other ends.one)
 both_know here there room facing isn other one two first second third made made_there few other_few =
-    let m = meeting (room.manner.scales && facing.manner.scales) room facing here there isn other in
+    let m = meeting (room.manner.scales && facing.manner.scales) (both_report room facing) room facing here there isn other in
     let f = fits room facing here there isn other made made_there few other_few in
     subst (λ (ends : Ends). KnowsWindow ends.one ends.other × KnowsWindow ends.other ends.one) (sym (all_crossings m one two first second third f)) (knows m third f, knows (mirror m) third (mirrored m f))

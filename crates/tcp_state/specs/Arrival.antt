@@ -28,6 +28,7 @@ use Rattle.tcp_segment.specs.Wire.{past}
 use Rattle.tcp_state.specs.declared.arrival.Before.{Before}
 use Rattle.tcp_state.specs.Calls.{aborted}
 use Rattle.tcp_state.specs.Alive.{heard_now}
+use Rattle.tcp_state.specs.Reporting.{settled, noted}
 
 abbrev pub owing_ack : View → View
 owing_ack v = record v { owes_ack = true }
@@ -36,13 +37,14 @@ owing_ack v = record v { owes_ack = true }
 abbrev pub scales_with : View → Segment → Bool
 scales_with v s = v.scales && is_some (scale_option_of s)
 
--- the peer's SYN is taken, while this window is advertised to it: it settles whether windows are scaled
+-- the peer's SYN is taken, while this window is advertised to it: it settles whether windows are scaled, and whether what is kept ahead of a gap is reported
 abbrev pub after_first_syn : View → Segment → ℕ → View
 after_first_syn v s advertised = let scales = scales_with v s in record v {
   state = SynReceived;
   scales = scales;
   sending = after_syn_heard (sending_settled v.sending scales (shift_of s)) s.number s.window (smss_of s);
   receiving = after_syn (receiving_settled v.receiving scales) s.number advertised;
+  reporting = settled v.reporting s;
 }
 
 -- a connection that a SYN opens at a listener at this moment (section 3.10.7.2), in buffers that were made for this: no window is advertised yet
@@ -174,6 +176,7 @@ after_text v s =
       receiving = after_octets v.receiving s.number s.octets;
       owes_ack = v.owes_ack || v.delays_ack || not (may_delay v s);
       delays_ack = true;
+      reporting = noted v.reporting v.receiving.rnext s.number;
     }
 
 -- The FIN (section 3.10.7.4, eighth) counts where every octet before it is in place and it was not cut. One that doesn't count isn't kept: the peer sends it again.

@@ -18,6 +18,7 @@ use Rattle.tcp_state.specs.View.{View, is_opening, is_syn_sent, is_syn_received,
 use Rattle.tcp_state.specs.New.{sends_new, takes_fin, sends_fin}
 use Rattle.tcp_state.specs.Timing.{probes, clocked}
 use Rattle.tcp_state.specs.Alive.{may_rest, is_alive_due}
+use Rattle.tcp_state.specs.Reporting.{blocks_of}
 
 -- The segment that goes out for each thing that may be due.
 
@@ -84,7 +85,8 @@ window_of v Rst = 0
 window_of v Syn = min (receive_window (after_syn_advertisement v.receiving)) CAPACITY
 window_of v _ = window_field (after_advertisement v.receiving)
 
--- The header: the acknowledgement is RCV.NXT. Our SYN offers to scale windows where we would, and a SYN-ACK where the SYN did (RFC 7323 section 2.2).
+-- The header: the acknowledgement is RCV.NXT. Our SYN offers to scale windows and says that it takes selective acknowledgements where we would, and a SYN-ACK where the SYN did
+-- (RFC 7323 section 2.2, RFC 2018 section 2).
 abbrev pub head_of : View → Due → Head
 head_of v due =
     let flags = flags_of v due in
@@ -96,6 +98,8 @@ head_of v due =
       flags = flags;
       window = window_of v due;
       scales = v.scales;
+      sacks = v.reporting.sacks;
+      blocks = blocks_of v due;
     }
 
 -- how many octets the segment has

@@ -25,4 +25,5 @@ view_of c = record {
   nodelay = c.is_undelayed;
   minshall = c.minshall;
   alive = c.alive;
+  reporting = c.reporting;
 }

@@ -2,10 +2,12 @@ pub use Rattle.tcp_halves.specs.Numbers
 pub use Rattle.tcp_halves.specs.Halves
 pub use Rattle.tcp_halves.specs.Stream
 pub use Rattle.tcp_halves.specs.Windows
+pub use Rattle.tcp_halves.specs.Blocks
 pub mod Resend
 pub mod ResendInside
 pub mod View
 pub mod Alive
+pub mod Reporting
 pub mod Congestion
 pub mod New
 pub mod Timing

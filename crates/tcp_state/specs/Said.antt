@@ -1,10 +1,10 @@
 -- What a connection says: to the peer in each segment that goes out, and to its caller where a reset ends it (RFC 9293 sections 3.1, 3.4, 3.8.6, 3.10.7.3 and 3.10.7.4).
-use Rattle.std.specs.Prelude.{◌≡◌, ◌≢◌, ℕ, List, Some, Err, ◌+◌, ◌/◌, ◌<◌, ◌^◌, min, ◌⊎◌, ◌↔◌, true, false, if◌then◌else◌, [], ◌∷◌, length, slice_get}
+use Rattle.std.specs.Prelude.{◌≡◌, ◌≢◌, ℕ, List, Some, Err, ◌+◌, ◌/◌, ◌<◌, ◌^◌, min, ◌⊎◌, ◌↔◌, true, false, if◌then◌else◌, [], ◌∷◌, length, slice_get, Bool, ◌++◌}
 use Rattle.tcp_segment.specs.declared.flags.Flags.{Flags}
 use Rattle.tcp_halves.specs.declared.buffers.TheConstants.{CAPACITY}
-use Rattle.tcp_segment.specs.Options.{NoOperation, MaximumSegmentSize, WindowScale}
-use Rattle.tcp_segment.specs.Segment.{Segment}
-use Rattle.tcp_segment.specs.Sent.{sent_segment}
+use Rattle.tcp_segment.specs.Options.{HeaderOption, NoOperation, MaximumSegmentSize, WindowScale, Other}
+use Rattle.tcp_segment.specs.Segment.{Segment, blocks_of}
+use Rattle.tcp_segment.specs.Sent.{report, sent_segment}
 use Rattle.tcp_segment.specs.Wire.{wire, past}
 use Rattle.tcp_state.specs.declared.emission.Due.{Due}
 use Rattle.tcp_state.specs.declared.emission.Due.TheVariants.{Rst, Syn, Text, Probe}
@@ -37,10 +37,18 @@ pub record HasFlags (v : View) (due : Due) (f : Flags) : Type 0 where
   pub ack : (f.ack ≡ false) ↔ AcknowledgesNothing v due
   pub urg : f.urg ≡ false
 
+-- the options of a SYN, where each is offered
+abbrev pub scale_offer : Bool → List HeaderOption
+scale_offer scales = if scales then NoOperation ∷ WindowScale 5 ∷ [] else []
+
+abbrev pub sack_offer : Bool → List HeaderOption
+sack_offer sacks = if sacks then NoOperation ∷ NoOperation ∷ Other 4 [] ∷ [] else []
+
 -- What a segment says is so. Each of its octets is the one that is held for its number, and its FIN has the number behind all that is held. It acknowledges RCV.NXT, and tells the window
 -- from there up to the right edge that the connection keeps: in whole units, and in octets where SYN stands, as many of them as 16 bits hold (RFC 7323 section 2.2). The SYN that acknowledges nothing tells as
 -- much of the whole size of the receiving half. A reset has the number SND.NXT and a SYN that of our SYN, and
--- neither has octets. Options stand in a SYN alone: the size of the segments that this stack takes (section 3.7.1), and where windows are scaled the shift of its own (RFC 7323 section 2.2).
+-- neither has octets. A SYN has the size of the segments that this stack takes (section 3.7.1), where windows are scaled the shift of its own (RFC 7323 section 2.2), and where this side takes selective
+-- acknowledgements a word of that (RFC 2018 section 2); another segment has no option but a report of blocks.
 pub record IsSo (v : View) (edge : ℕ) (s : Segment) : Type 0 where
   pub source : s.source ≡ v.local.port
   pub destination : s.destination ≡ v.peer.port
@@ -52,8 +60,8 @@ pub record IsSo (v : View) (edge : ℕ) (s : Segment) : Type 0 where
   pub syn_window : s.flags.syn ≡ true → s.flags.ack ≡ true → s.window ≡ min (past edge v.receiving.rnext) CAPACITY
   pub unacknowledging : s.flags.ack ≡ false → s.acknowledgement ≡ 0
   pub first : s.flags.syn ≡ true → s.flags.ack ≡ false → s.window ≡ min v.receiving.size CAPACITY
-  pub syn : s.flags.syn ≡ true → (s.number ≡ v.sending.una) × (s.octets ≡ []) × (s.options ≡ MaximumSegmentSize 1460 ∷ (if v.scales then NoOperation ∷ WindowScale 5 ∷ [] else []))
-  pub plain : s.flags.syn ≡ false → s.options ≡ []
+  pub syn : s.flags.syn ≡ true → (s.number ≡ v.sending.una) × (s.octets ≡ []) × (s.options ≡ MaximumSegmentSize 1460 ∷ (scale_offer v.scales ++ sack_offer v.reporting.sacks))
+  pub plain : s.flags.syn ≡ false → s.options ≡ report (blocks_of s)
   pub rst : s.flags.rst ≡ true → (s.number ≡ v.sending.nxt) × (s.window ≡ 0) × (s.octets ≡ [])
   pub small : s.window < 2 ^ 16
   pub urgent : s.urgent ≡ 0

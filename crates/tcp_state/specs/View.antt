@@ -8,10 +8,12 @@ use Rattle.tcp_state.specs.declared.state.State.TheVariants.{Closed, Listen, Syn
 use Rattle.tcp_state.specs.declared.ending.TheConstants.{TIME_WAIT, FIN_WAIT_2}
 use Rattle.clock.specs.declared.moment.Moment.{Moment}
 use Rattle.tcp_state.specs.declared.alive.KeepAlive.{KeepAlive}
+use Rattle.tcp_state.specs.declared.reporting.Reporting.{Reporting}
 use Rattle.clock.specs.Moments.{after, has_come}
 use Rattle.tcp_state.specs.declared.calls.Refusal.{Refusal}
 use Rattle.retransmit.specs.declared.timers.Timers.{Timers}
 use Rattle.congestion.specs.declared.control.Control.{Control}
+use Rattle.congestion.specs.Control.{is_selective}
 use Rattle.congestion.specs.Window.{Window, initial_window}
 use Rattle.retransmit.specs.Deadlines.{no_timers}
 use Rattle.tcp_state.specs.Resend.{Resend, IsSoundResend, first_resend, stopped}
@@ -58,6 +60,8 @@ pub record View : Type 0 where
   pub minshall : Bool
   -- what is known of a peer that says nothing
   pub alive : KeepAlive
+  -- what is reported of octets that are kept ahead of a gap (RFC 2018)
+  pub reporting : Reporting
 
 -- SYN-SENT or SYN-RECEIVED
 abbrev pub is_opening : State → Bool
@@ -160,6 +164,10 @@ reset_since v = if v.owes_reset then Some v.since else None
 abbrev pub first_congestion : Control → Window
 first_congestion control = initial_window control DEFAULT_MSS false
 
+-- until the peer's SYN comes, by the set-up: where that wants selective acknowledgements, our SYN says that we take them (RFC 2018 section 2)
+abbrev pub offered : Control → Reporting
+offered control = record { sacks = is_selective control; latest = record { 0 = 0 } }
+
 -- a connection that its caller opens at this moment (RFC 9293 section 3.10.1), in buffers that were made for this
 abbrev pub opened_actively : Room → Endpoint → Endpoint → ℕ → Moment → View
 opened_actively room local peer isn now = record {
@@ -184,6 +192,7 @@ opened_actively room local peer isn now = record {
   nodelay = false;
   minshall = room.manner.minshall;
   alive = record { every = None; since = record { 0 = 0 }; wait = 0; unanswered = 0; owed = false };
+  reporting = offered room.manner.control;
 }
 
 -- a SYN, or the FIN of a closed side behind all octets, may be outstanding

@@ -389,7 +389,7 @@ impl Connection {
         self.resend.mark_all(self.sender.outstanding());
     }
 
-    /// Takes what the peer's SYN says, which leads to SYN-RECEIVED, and settles whether windows are scaled. Our SYN advertised a window of so many octets to it.
+    /// Takes what the peer's SYN says, which leads to SYN-RECEIVED, and settles whether windows are scaled and what is kept is reported. Our SYN advertised a window of so many octets to it.
     pub(crate) fn take_syn(&mut self, syn: &TcpView<'_>, advertised: u32)
         requires waits { is_syn_sent self.old.state ≡ true }
         requires size { advertised ≤ min self.old.receiving.size CAPACITY }
@@ -401,6 +401,7 @@ impl Connection {
         self.receiver.settle(scales);
         self.sender.hear_syn(syn.number(), syn.window(), syn.smss());
         self.receiver.hear_syn(syn.number(), advertised);
+        self.reporting.settle(syn);
         self.state = State::SynReceived;
     }
 
@@ -533,7 +534,9 @@ impl Connection {
             self.owes_ack = true;
         }
         self.delays_ack = true;
-        self.receiver.take(segment.number(), octets);
+        let number = segment.number();
+        self.reporting.note(self.receiver.rnext(), number);
+        self.receiver.take(number, octets);
     }
 
     /// Whether the acknowledgement of a segment's octets may wait for a second segment: they stand next, and nothing is kept ahead of a

@@ -6,6 +6,7 @@ ghost use Rattle.tcp_state.specs.Arrival.{opened_passively};
 
 use crate::alive::KeepAlive;
 use crate::calls::Refusal;
+use crate::reporting::Reporting;
 use crate::resend::Resend;
 use crate::state::State;
 use clock::Moment;
@@ -74,6 +75,8 @@ pub struct Connection {
     pub(crate) minshall: bool,
     /// What is known of a peer that says nothing.
     pub(crate) alive: KeepAlive,
+    /// What acknowledgements report of octets that are kept ahead of a gap.
+    pub(crate) reporting: Reporting,
 }
 
 impl Model for Connection {
@@ -123,6 +126,7 @@ impl Connection {
             is_undelayed: false,
             minshall: manner.minshall,
             alive: KeepAlive::asked(None, Moment(0)),
+            reporting: Reporting::offered(manner.control),
         }
     }
 

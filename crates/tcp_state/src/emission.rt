@@ -16,8 +16,8 @@ use clock::Moment;
 use retransmit::TimerKind;
 use tcp_segment::{Flags, Head, Seq};
 
-/// The octets that a segment has at most: a header of 20 octets and `tcp_segment::MSS` of text. A SYN's header has 28,
-/// and no text stands behind it.
+/// The octets that a segment has at most: a header of 20 octets and `tcp_segment::MSS` of text. A SYN's header has up to 32, that of an
+/// acknowledgement alone up to 56, and no text stands behind them.
 pub const MOST_SEGMENT: usize = 1_480;
 
 /// A segment that may go out.
@@ -342,6 +342,8 @@ impl Connection {
             flags,
             window: self.window(due),
             scales: self.scales,
+            sacks: self.reporting.sacks,
+            blocks: self.blocks(due),
         }
     }
 

@@ -2,7 +2,8 @@
 
 ghost use Rattle.std.specs.Prelude.{◌≡◌, ℕ, ◌+◌, ◌-◌, ◌*◌, ◌%◌, ◌<◌, ◌≤◌, ◌==◌, ◌≢◌, nat_lt, min, ◌^◌, ◌⊎◌, ◌↔◌, ◌||◌, ◌&&◌, Bool, List, ◌++◌, slice_index_or, length, drop, true, false, if◌then◌else◌, Some, None, is_some, []};
 ghost use Rattle.ipv4.specs.declared.addr.Endpoint.{Endpoint};
-ghost use Rattle.tcp_segment.specs.Segment.{Segment, scale_option_of, shift_of, span_of};
+ghost use Rattle.tcp_segment.specs.Segment.{Segment, scale_option_of, blocks_of, shift_of, span_of};
+ghost use Rattle.tcp_segment.specs.Sent.{report};
 ghost use Rattle.tcp_segment.specs.declared.TheConstants.{DEFAULT_MSS, LEAST_MSS, MSS, SHIFT};
 ghost use Rattle.tcp_halves.specs.declared.buffers.TheConstants.{CAPACITY, LARGEST_CAPACITY};
 ghost use Rattle.tcp_state.specs.declared.ending.TheConstants.{TIME_WAIT, FIN_WAIT_2};
@@ -56,7 +57,7 @@ pub fn constants()
 
 /// Windows are scaled exactly where both sides' SYNs have the option (RFC 7323 section 2.2), whichever side opens: for a listener from the SYN on, for a caller from the SYN-ACK on, and where SYNs cross from the
 /// peer's SYN on, whether ours went out or not. In SYN-SENT nothing but a SYN that is taken changes what our SYN offers, and past it no event changes what was settled. Our SYN has the option where its caller's host uses it, a SYN-ACK where
-/// windows are scaled, and none where the SYN had none; no other segment has any.
+/// windows are scaled, and none where the SYN had none; no other segment has any option but a report of blocks (RFC 2018 section 3).
 pub fn windows_are_scaled_where_both_sides_say_so()
     ensures offered { (room : Room) (local peer : Endpoint) (isn : ℕ) (now : Moment) → (opened_actively room local peer isn now).scales ≡ room.manner.scales }
     ensures accepted { (room : Room) (local peer : Endpoint) (isn : ℕ) (syn : Segment) (now : Moment)
@@ -70,7 +71,7 @@ pub fn windows_are_scaled_where_both_sides_say_so()
         → scale_option_of (segment_of (opened_passively room local peer isn syn now) due) ≡ None }
     ensures crossing { (v : View) (s : Segment) (now : Moment) (due : Due) → v.state ≡ State.SynSent → TakesSyn v s now → scale_option_of s ≡ None
         → scale_option_of (segment_of (after_event v (Event.Hears s now)) due) ≡ None }
-    ensures plain { (v : View) (due : Due) → (let f = flags_of v due in f.syn) ≡ false → (segment_of v due).options ≡ [] }
+    ensures plain { (v : View) (due : Due) → (let f = flags_of v due in f.syn) ≡ false → (let s = segment_of v due in s.options ≡ report (blocks_of s)) }
 {}
 
 /// Each half holds at most as many octets as its buffer where windows are scaled, and else no more than 65,535: so of buffers of a mebibyte it uses all then, and only then. No event changes that but a SYN that is taken in

@@ -1,5 +1,5 @@
 -- The two hosts can be set up: 10.0.0.0/24 is a prefix.
-use Rattle.std.proofs.Common.{Bool, false, [], ◌∷◌, refl, ap, rules, arith}
+use Rattle.std.proofs.Common.{Bool, [], ◌∷◌, refl, ap, rules, arith}
 use Rattle.ipv4.specs.declared.addr.Addr.{Addr}
 use Rattle.ipv4.specs.Prefixes.{IsPrefix, number}
 use Rattle.ipv4.proofs.Prefixes.{unmasked}

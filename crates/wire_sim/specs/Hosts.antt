@@ -1,5 +1,5 @@
 -- The two hosts of a script and of a copy, and how each is set up.
-use Rattle.std.specs.Prelude.{Bool, false, ◌≡◌, [], ◌∷◌}
+use Rattle.std.specs.Prelude.{Bool, ◌≡◌, [], ◌∷◌}
 use Rattle.ether.specs.declared.mac.Mac.{Mac}
 use Rattle.ipv4.specs.declared.addr.Addr.{Addr}
 use Rattle.routes.specs.declared.route.Route.{Route}

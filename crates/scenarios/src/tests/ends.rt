@@ -6,7 +6,7 @@ use inet_sum::sum;
 use ipv4::{Addr, Endpoint};
 use std::alloc::Global;
 use std::process::Abort;
-use tcp_segment::{Flags, Head, Seq, TcpView};
+use tcp_segment::{Blocks, Flags, Head, Seq, TcpView};
 use tcp_state::Fate::{self, Stays};
 use tcp_state::{
     Buffers, CAPACITY, Connection, Control, Due, Info, MOST_SEGMENT, Manner, Received, Refusal,
@@ -159,6 +159,8 @@ impl End {
             flags,
             window,
             scales: false,
+            sacks: false,
+            blocks: Blocks::NONE,
         };
         let mut frame = [0; MOST_SEGMENT];
         let (begin, count) = (head.len(), count.min(2));
@@ -171,6 +173,14 @@ impl End {
     fn sent(&self) -> &[u8] {
         match self.frame.split_at_checked(self.len) {
             Some((segment, _)) => segment,
+            None => &[],
+        }
+    }
+
+    /// The octets of the options of the segment that it sent last, where that has no others behind them.
+    pub(super) fn options(&self) -> &[u8] {
+        match self.sent().split_at_checked(20) {
+            Some((_, options)) => options,
             None => &[],
         }
     }

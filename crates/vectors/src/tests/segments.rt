@@ -2,14 +2,14 @@
 
 use super::{A, B};
 use inet_sum::sum;
-use tcp_segment::{Flags, Head, SegmentFault, Seq, TcpView};
+use tcp_segment::{Block, Blocks, Flags, Head, SegmentFault, Seq, TcpView};
 
 /// The told, the counted and the used maximum segment size, the told and the counted shift, and the length in sequence numbers.
 type Sizes = (Option<u16>, u16, u16, Option<u8>, u8, u32);
 
-/// A SYN, one that offers to scale windows, and a segment with `hello`: header, payload, octets with some more of 7, the segment's
+/// A SYN, one that offers to scale windows, one that permits selective acknowledgements, and a segment with `hello`: header, payload, octets with some more of 7, the segment's
 /// length, and its sizes.
-const SEGMENTS: [(Head, &[u8], [u8; 30], usize, Sizes); 3] = [
+const SEGMENTS: [(Head, &[u8], [u8; 30], usize, Sizes); 4] = [
     (
         Head {
             source: 49_152,
@@ -26,6 +26,8 @@ const SEGMENTS: [(Head, &[u8], [u8; 30], usize, Sizes); 3] = [
             },
             window: 65_535,
             scales: false,
+            sacks: false,
+            blocks: Blocks::NONE,
         },
         b"",
         *b"\xc0\0\0\x50\xff\xff\xff\xff\0\0\0\0\x60\x02\xff\xff\xc3\xd3\0\0\x02\x04\x05\xb4\x07\x07\x07\x07\x07\x07",
@@ -48,11 +50,37 @@ const SEGMENTS: [(Head, &[u8], [u8; 30], usize, Sizes); 3] = [
             },
             window: 65_535,
             scales: true,
+            sacks: false,
+            blocks: Blocks::NONE,
         },
         b"",
         *b"\xc0\0\0\x50\xff\xff\xff\xff\0\0\0\0\x70\x02\xff\xff\xaf\xc7\0\0\x02\x04\x05\xb4\x01\x03\x03\x05\x07\x07",
         28,
         (Some(1_460), 1_460, 1_460, Some(5), 5, 1),
+    ),
+    (
+        Head {
+            source: 49_152,
+            destination: 80,
+            number: Seq(0xffff_ffff),
+            acknowledgement: Seq(0),
+            flags: Flags {
+                fin: false,
+                syn: true,
+                rst: false,
+                psh: false,
+                ack: false,
+                urg: false,
+            },
+            window: 65_535,
+            scales: false,
+            sacks: true,
+            blocks: Blocks::NONE,
+        },
+        b"",
+        *b"\xc0\0\0\x50\xff\xff\xff\xff\0\0\0\0\x70\x02\xff\xff\xae\xcc\0\0\x02\x04\x05\xb4\x01\x01\x04\x02\x07\x07",
+        28,
+        (Some(1460), 1460, 1460, None, 0, 1),
     ),
     (
         Head {
@@ -70,6 +98,8 @@ const SEGMENTS: [(Head, &[u8], [u8; 30], usize, Sizes); 3] = [
             },
             window: 65_535,
             scales: false,
+            sacks: false,
+            blocks: Blocks::NONE,
         },
         b"hello",
         *b"\xc0\0\0\x50\0\0\0\0\0\0\0\x08\x50\x18\xff\xff\x97\x9a\0\0\x68\x65\x6c\x6c\x6f\x07\x07\x07\x07\x07",
@@ -88,6 +118,8 @@ fn head_of(view: &TcpView) -> Head {
         flags: view.flags(),
         window: view.window(),
         scales: view.scale_option().is_some(),
+        sacks: view.is_sack_permitted(),
+        blocks: view.blocks(),
     }
 }
 
@@ -103,18 +135,17 @@ fn sizes_of(view: &TcpView) -> Sizes {
     )
 }
 
-/// The segment that is written, and its length, where that is the header's and the payload's.
-fn written(head: &Head, payload: &[u8]) -> Option<([u8; 30], usize)> {
+/// Writes a segment to `out`, and answers its length, where that is the header's and the payload's and `out` has room for them.
+fn written(head: &Head, payload: &[u8], out: &mut [u8]) -> Option<usize> {
     let begin = head.len();
-    if payload.len() > 30 - begin {
+    if out.len() > 60 || out.len() < begin || payload.len() > out.len() - begin {
         return None;
     }
     let end = begin + payload.len();
-    let mut out = [7; 30];
     out[begin..end].copy_from_slice(payload);
     let payload_sum = sum(&out[begin..end]);
-    let len = head.emit(A, B, payload.len(), payload_sum, &mut out);
-    if len == end { Some((out, len)) } else { None }
+    let len = head.emit(A, B, payload.len(), payload_sum, out);
+    (len == end).then_some(len)
 }
 
 /// Whether a segment says this.
@@ -129,9 +160,44 @@ fn says(octets: &[u8], head: &Head, payload: &[u8], sizes: &Sizes) -> bool {
 #[test]
 fn segments_are_written_and_read_again(rt: HostRuntime) {
     for (head, payload, want, want_len, sizes) in &SEGMENTS {
-        assert!(rt; written(head, payload) == Some((*want, *want_len)));
+        let mut out = [7; 30];
+        assert!(rt; written(head, payload, &mut out) == Some(*want_len));
+        assert!(rt; out == *want);
         assert!(rt; says(&want[..*want_len], head, payload, sizes));
     }
+}
+
+/// An acknowledgement that reports two blocks, of which the second goes on over the number 0 (RFC 2018 section 3).
+const REPORT: [u8; 40] =
+    *b"\xc0\0\0\x50\0\0\0\0\0\0\0\x08\xa0\x10\xff\xff\x74\x33\0\0\x01\x01\x05\x12\0\0\x05\xb5\0\0\x0b\x69\xff\xff\xff\0\0\0\x01\0";
+
+#[test]
+fn blocks_are_written_and_read_again(rt: HostRuntime) {
+    let mut blocks = Blocks::NONE;
+    for (left, right) in [(1_461, 2_921), (0xffff_ff00, 0x100)] {
+        blocks.push(Block {
+            left: Seq(left),
+            right: Seq(right),
+        });
+    }
+    let head = Head {
+        source: 49_152,
+        destination: 80,
+        number: Seq(0),
+        acknowledgement: Seq(8),
+        flags: Flags {
+            ack: true,
+            ..Flags::default()
+        },
+        window: 65_535,
+        scales: false,
+        sacks: false,
+        blocks,
+    };
+    let mut out = [7; 40];
+    assert!(rt; written(&head, b"", &mut out) == Some(40));
+    assert!(rt; out == REPORT);
+    assert!(rt; says(&REPORT, &head, b"", &(None, 536, 536, None, 0, 0)));
 }
 
 /// Octets, and why they are no segment. Malformed ones are so with a right checksum and with a wrong one.

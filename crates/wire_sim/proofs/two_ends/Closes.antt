@@ -15,7 +15,7 @@ use Rattle.tcp_state.specs.declared.connection.Fate.TheVariants.{Stays, Removed,
 use Rattle.tcp_state.specs.declared.emission.Due.TheVariants.{Text, Ack}
 use Rattle.tcp_state.specs.declared.state.State.{State}
 use Rattle.tcp_state.specs.declared.state.State.TheVariants.{SynSent, SynReceived, Established, FinWait1, FinWait2, CloseWait, LastAck, TimeWait, Closed}
-use Rattle.tcp_state.specs.Arrival.{octets_outstanding, fate, is_lost, is_rejected, ends_opening, ends_by_reset, ends_by_syn, is_acceptable_to, is_receiving, is_read, is_read_on, is_duplicate, is_of_fin, beyond_fin, fin_acknowledged, after_new_ack, after_establishment, brings_more, beyond_end, counts_fin, owing_ack, resend_after, after_segment, after_lost, after_ack, after_window, after_text, after_fin, after_segment_at, before, timed_by, is_counted_duplicate, counts_duplicates}
+use Rattle.tcp_state.specs.Arrival.{octets_outstanding, fate, is_lost, is_rejected, ends_opening, ends_by_reset, ends_by_syn, is_acceptable_to, is_receiving, is_read, is_read_on, is_of_fin, beyond_fin, fin_acknowledged, after_new_ack, after_establishment, brings_more, beyond_end, counts_fin, owing_ack, resend_after, after_segment, after_lost, after_ack, after_window, after_text, after_fin, after_segment_at, before, timed_by, is_counted_duplicate, counts_duplicates}
 use Rattle.tcp_state.specs.Edges.{Hears, after_event}
 use Rattle.tcp_state.specs.Said.{segment_of}
 use Rattle.tcp_state.specs.View.{View, IsSound, is_opening, is_closed, is_over, is_syn_sent, is_syn_received, awaits_fin_ack}

@@ -33,7 +33,7 @@ returns-in-Reset-clause-octets c =
     let to : Addr = c.in-Reset.to in
     let head : Head = c.head.result in
     let is_n : n ≡ 4 * sent_offset head + 0 = c.emit-segment_len.ensures.len in
-    let most : 4 * sent_offset head ≤ 28 = omega (arith, most_offset head) in
+    let most : 4 * sent_offset head ≤ 56 = omega (arith, most_offset head) in
     let none : n - 4 * sent_offset head ≡ 0 = omega (arith, is_n) in
     let empty : slice_range (mid_of 34 1480 out) (4 * sent_offset head) n ≡ [] =
     ap (λ (k : ℕ). take k (drop (4 * sent_offset head) (mid_of 34 1480 out))) none in

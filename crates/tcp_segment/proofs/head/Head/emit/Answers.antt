@@ -9,7 +9,7 @@ returns-clause-octets c =
     let head = c.args.self.now in
     let header : ℕ = 4 * sent_offset head in
     let len : ℕ = c.len.result + c.args.payload_len in
-    let len_is : len ≡ header + c.args.payload_len = omega (arith, c.len.ensures) in
+    let len_is : len ≡ header + c.args.payload_len = omega (arith, c.len.ensures.value) in
     let payload : List ℕ = slice_range c.args.out.now header len in
     let payload_is : payload ≡ slice_range c.args.out.now header (header + c.args.payload_len) = ap (λ (n : ℕ). slice_range c.args.out.now header n) len_is in
     let size : length payload ≡ c.args.payload_len = ap length payload_is ∙ payload_len head c.args.payload_len c.args.out.now c.requires.room in
@@ -24,12 +24,13 @@ returns-clause-sendable c =
     let fit = c.write.ensures.fit in
     let sum = c.sum_of_words.ensures in
     let header : ℕ = 4 * sent_offset c.args.self.now in
-    let len_is : c.len.result + c.args.payload_len ≡ header + c.args.payload_len = omega (arith, c.len.ensures) in
+    let len_is : c.len.result + c.args.payload_len ≡ header + c.args.payload_len = omega (arith, c.len.ensures.value) in
     let size : length (slice_range c.args.out.now header (c.len.result + c.args.payload_len)) ≡ c.args.payload_len =
     ap (λ (n : ℕ). length (slice_range c.args.out.now header n)) len_is ∙ payload_len c.args.self.now c.args.payload_len c.args.out.now c.requires.room in
     record {
       src_octets = sum.src_octets;
       dst_octets = sum.dst_octets;
       fields = record { source = fit.source; destination = fit.destination; number = fit.number; acknowledgement = fit.acknowledgement; window = fit.window; urgent = fit.urgent };
+      blocks = c.numbers_fit.ensures;
       len = omega (arith, size, c.requires.len);
     }

@@ -8,5 +8,5 @@ pub returns-clause-value : goal.returns-clause-value
 returns-clause-value c =
     let head = c.args.self.now in
     let fit : FieldsFit (sent_segment head []) = record { source = search rules; destination = search rules; number = search rules; acknowledgement = search rules; window = search rules; urgent = search rules } in
-    words_are head _ fit
-    (omega (arith, c.from.ensures, c.from-2.ensures, c.from-3.ensures, c.from-4.ensures, c.from-5.ensures, c.from-6.ensures, c.from-7.ensures, c.control.ensures, c.option_words.ensures))
+    words_are head _ _ fit c.option_words.ensures.value
+    (omega (arith, c.from.ensures, c.from-2.ensures, c.from-3.ensures, c.from-4.ensures, c.from-5.ensures, c.from-6.ensures, c.control.ensures))

@@ -17,5 +17,5 @@ invariant_of-self c =
     let waits : is_syn_sent v.state ≡ true = search rules in
     let few : c.args.advertised ≤ min v.receiving.size 65535 = search rules in
     let scales : c.scales_with-scales.result ≡ scales_with v c.args.syn.now = search rules in
-    let is : after_first_syn v c.args.syn.now c.args.advertised ≡ record v { state = SynReceived; scales = c.scales_with-scales.result; sending = c.hear_syn.new.self; receiving = c.hear_syn-2.new.self } = search rules in
+    let is : after_first_syn v c.args.syn.now c.args.advertised ≡ record v { state = SynReceived; scales = c.scales_with-scales.result; sending = c.hear_syn.new.self; receiving = c.hear_syn-2.new.self; reporting = c.settle-3.new.self } = search rules in
     subst IsSound is (first_syn_sound v c.args.syn.now c.args.advertised c.self.invariant (sent v.state waits) few)

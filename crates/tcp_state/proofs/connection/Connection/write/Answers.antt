@@ -42,6 +42,6 @@ returns-clause-frame c =
     let room : c.emit.result ≤ length c.args.out.now = omega (arith, bound, c.requires.room) in
     c.emit.ensures.octets
     ∙ (framed v.local.addr v.peer.addr c.head-head.result (head_of v c.args.due) start c.emit.result (start + count - start)
-    (4 * Rattle.tcp_segment.specs.Sent.sent_offset c.head-head.result) c.args.out.now octets (octets_of v c.args.due) (sym c.len-start.ensures)
+    (4 * Rattle.tcp_segment.specs.Sent.sent_offset c.head-head.result) c.args.out.now octets (octets_of v c.args.due) (sym c.len-start.ensures.value)
     (omega (arith, c.emit.ensures.len, c.len-start.ensures, len)) (omega (arith, c.emit.ensures.len, c.len-start.ensures)) room (search rules) same
     ∙ ap (λ w. segment_octets w c.args.due ++ drop c.emit.result c.args.out.now) c.self.view_is)

@@ -1,13 +1,21 @@
-use Rattle.std.proofs.Common.{◌≢◌, Some, None, get_or, sym, ◌∙◌, arith}
+use Rattle.std.proofs.Common.{◌≢◌, ℕ, ◌-◌, List, Some, None, take, drop, length, get_or, sym, ◌∙◌, arith}
+use Rattle.std.proofs.lemmas.List.{length-take}
 use Rattle.std.proofs.lemmas.Result.{err_from_is_err_and}
 use Rattle.tcp_segment.specs.declared.fault.SegmentFault.TheVariants.{UpperHeader}
 use Rattle.tcp_segment.proofs.Results.{ok_or_ok, ok_or_err}
-use Rattle.tcp_segment.proofs.Walk.{at_none, at_option, at_wrong_body, at_no_option, at_end, at_nothing}
+use Rattle.tcp_segment.proofs.Walk.{at_none, at_option, at_wrong_body, at_no_option, at_end, at_nothing, body_shorter}
 use Rattle.tcp_segment.proofs.OptionLists.{answered}
-use Rattle.tcp_segment.proofs.options.told_by.Goals as goal
+use Rattle.tcp_segment.proofs.options.walk.Goals as goal
 
 pub loop-rest-preserved-in-1 : goal.loop-rest-preserved-in-1
 loop-rest-preserved-in-1 c = sym (at_none c.loop-rest.rest.now c.loop-rest.told (omega arith) (omega arith)) ∙ c.loop-rest.invariant
+
+pub loop-rest-smaller : goal.loop-rest-smaller
+loop-rest-smaller c =
+    let xs = c.loop-rest.rest.now in
+    let ok = c.in_ok-body-in_default-kind in
+    let tail : List ℕ = take (length xs - 1) (drop 1 xs) in
+    omega (arith, body_shorter tail ok.body.now ok.after.now ok.ensures.ok, length-take (length xs - 1) (drop 1 xs))
 
 pub returns-in-0 : goal.returns-in-0
 returns-in-0 c =
