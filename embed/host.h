@@ -76,9 +76,12 @@ extern "C" {
 
 /* How losses are repaired (`recovery` of struct host_config). Plain is RFC 5681 section 3.2 alone: of several segments that a window loses, one comes
  * again at once, and the others by timeouts. NewReno brings one again in each round trip (RFC 6582), sends on at the first two duplicate acknowledgements
- * (RFC 3042), and has the window grow by the octets that are acknowledged (RFC 3465). */
+ * (RFC 3042), and has the window grow by the octets that are acknowledged (RFC 3465). Selective is that, and where the peer takes them, acknowledgements
+ * report which octets came ahead of a gap (RFC 2018), for who receives much: what a peer reports isn't used yet, and Linux sends fewer duplicate
+ * acknowledgements to who takes reports. */
 #define HOST_RECOVERY_PLAIN 0
 #define HOST_RECOVERY_NEW_RENO 1
+#define HOST_RECOVERY_SELECTIVE 2
 
 /* States of a socket: those of RFC 9293 section 3.3.2, and that of every UDP socket. */
 #define HOST_STATE_CLOSED 0
@@ -177,7 +180,7 @@ struct host_config {
     uint8_t mac[6];
     uint8_t no_window_scale;         /* 1: no window scale option (RFC 7323 section 2); a connection holds 65,535 octets each way, else 1,048,576 */
     uint8_t minshall;                /* 1: a small segment waits for a small one only, and the FIN goes with the last octets (RFC 9293 appendix A.3) */
-    uint8_t recovery;                /* how losses are repaired: HOST_RECOVERY_PLAIN or HOST_RECOVERY_NEW_RENO */
+    uint8_t recovery;                /* how losses are repaired: HOST_RECOVERY_PLAIN, HOST_RECOVERY_NEW_RENO or HOST_RECOVERY_SELECTIVE */
     uint8_t first_segments;          /* the first congestion window in segments, 1 to 10 (RFC 6928); 0: two to four, by their size (RFC 5681 section 3.1) */
     uint16_t least_timeout;          /* the least retransmission timeout in milliseconds, 200 to 1,000; 0: 1,000 (RFC 6298 section 2.4) */
     uint32_t first_threshold;        /* the first slow start threshold in octets, 65,535 to 1,073,741,824; 0: 65,535 (RFC 5681 section 3.1) */
@@ -272,7 +275,7 @@ int64_t host_new_from(struct host *host, const uint8_t *config, size_t size, con
 
 /* Makes a host as host_new does, by a config. host_new makes one whose options are 0.
  *
- * HOST_EINVAL, also where the config's size is less than 40, its no_window_scale, its minshall or its recovery is neither 0 nor 1, or an octet behind
+ * HOST_EINVAL, also where the config's size is less than 40, its no_window_scale or its minshall is over 1, its recovery over 2, or an octet behind
  * the members that are named, up to its size, isn't 0. A program of a header before this one passes 40 octets: what those lack is 0. HOST_ENOMEM. */
 static inline int64_t host_new_with(struct host *host, const struct host_config *config)
 {

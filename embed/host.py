@@ -44,10 +44,12 @@ class Kind(enum.IntEnum):
 
 
 class Recovery(enum.IntEnum):
-    """How losses are repaired: PLAIN is RFC 5681 section 3.2 alone, NEW_RENO that with RFC 6582, 3042 and 3465."""
+    """How losses are repaired: PLAIN is RFC 5681 section 3.2 alone, NEW_RENO that with RFC 6582, 3042 and 3465, and SELECTIVE those with
+    selective acknowledgements, where the peer takes them (RFC 2018), for who receives much: what a peer reports isn't used yet."""
 
     PLAIN = 0
     NEW_RENO = 1
+    SELECTIVE = 2
 
 
 class Ready(enum.IntFlag):

@@ -19,8 +19,9 @@ static const char help[] =
     "  --gateway ADDR             where all goes that is not for the link (nowhere)\n"
     "  --mac MAC                  its MAC (02:00 and the four octets of the address)\n"
     "  --no-scale                 no window scale option: a connection holds 65,535 octets each way, and not 1,048,576\n"
-    "  --recovery plain|newreno   how losses are repaired: by RFC 5681 alone, with timeouts of a second at least; or by NewReno, with ten segments\n"
-    "                             and no slow start threshold at first, and timeouts of 200 ms at least (newreno)\n"
+    "  --recovery WORD            how losses are repaired: `plain`, by RFC 5681 alone, with timeouts of a second at least; `newreno`, with ten segments\n"
+    "                             and no slow start threshold at first, and timeouts of 200 ms at least; or `selective`, so and with reports of\n"
+    "                             what came ahead of a gap, for who receives much (newreno)\n"
     "\n"
     "What it does, in place of the services:\n"
     "  --connect ADDR PORT        connects there: standard input goes to the peer, what comes of it to standard output\n"
@@ -114,10 +115,15 @@ static void read_mac(struct options *options, const char *word)
 
 static void read_recovery(struct options *options, const char *word)
 {
-    options->plain = strcmp(word, "plain") == 0;
-    if (!options->plain && strcmp(word, "newreno") != 0) {
-        usage_fault("--recovery wants plain or newreno, not '%s'", word);
+    static const char *const words[] = {[HOST_RECOVERY_PLAIN] = "plain", [HOST_RECOVERY_NEW_RENO] = "newreno", [HOST_RECOVERY_SELECTIVE] = "selective"};
+
+    for (uint8_t recovery = HOST_RECOVERY_PLAIN; recovery <= HOST_RECOVERY_SELECTIVE; recovery++) {
+        if (strcmp(word, words[recovery]) == 0) {
+            options->recovery = recovery;
+            return;
+        }
     }
+    usage_fault("--recovery wants plain, newreno or selective, not '%s'", word);
 }
 
 /* A word like 11, in:11 or out:11: which sides it is for, and the number. */
@@ -294,7 +300,7 @@ static void complete(struct options *options)
 void options_read(struct options *options, int argc, char **argv)
 {
     int which;
-    *options = (struct options){.idle = 300000, .patience = 60000};
+    *options = (struct options){.idle = 300000, .patience = 60000, .recovery = HOST_RECOVERY_NEW_RENO};
     opterr = 0;
     while ((which = getopt_long(argc, argv, "+:", words, NULL)) != -1) {
         if (which == '?' || which == ':') {

@@ -103,8 +103,8 @@ static bool open_host(struct tap *tap)
     struct host_config config = {.size = sizeof config, .routes = routes, .count = options->gateway == 0 ? 1 : 2, .addr = options->addr};
     memcpy(config.mac, options->mac, sizeof config.mac);
     config.no_window_scale = options->no_scale;
-    if (!options->plain) {
-        config.recovery = HOST_RECOVERY_NEW_RENO;
+    if (options->recovery != HOST_RECOVERY_PLAIN) {
+        config.recovery = options->recovery;
         config.first_segments = 10;
         config.least_timeout = 200;
         config.first_threshold = UINT32_C(1) << 30;

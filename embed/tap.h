@@ -74,7 +74,7 @@ struct options {
     const char *device, *capture;
     uint8_t mac[6];
     bool has_mac, no_scale, verbose;
-    bool plain;                   /* RFC 5681 alone, and timeouts of a second at least */
+    uint8_t recovery;             /* HOST_RECOVERY_PLAIN, with timeouts of a second at least, or another */
     uint32_t addr, gateway;
     uint8_t length;
     struct faults in, out;

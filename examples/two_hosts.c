@@ -1,7 +1,7 @@
 /*
  * Two hosts in one program, joined in memory: a handshake, octets both ways, a transfer of which a frame is lost, a datagram there and back, and
- * a close; once with the window scale option, and once without; and both again between hosts that repair losses by NewReno. It checks what it reads,
- * and ends with status 0 where all of it was as it should be. `embed/build` makes it.
+ * a close; once with the window scale option, and once without; and both again between hosts that repair losses by NewReno, and by that with
+ * selective acknowledgements. It checks what it reads, and ends with status 0 where all of it was as it should be. `embed/build` makes it.
  */
 #include "host.h"
 
@@ -232,7 +232,7 @@ static void configs(struct host_config config)
     config.minshall = 2;
     CHECK(host_new_with(&b, &config) == HOST_EINVAL);
     config.minshall = 0;
-    config.recovery = 2;
+    config.recovery = 3;
     CHECK(host_new_with(&b, &config) == HOST_EINVAL);
     config.recovery = 0;
     config.zero[3] = 1;
@@ -260,9 +260,9 @@ static void configs(struct host_config config)
 }
 
 /* What a host wants that meets a real network. */
-static void repair_losses(struct host_config *config)
+static void repair_losses(struct host_config *config, uint8_t recovery)
 {
-    config->recovery = HOST_RECOVERY_NEW_RENO;
+    config->recovery = recovery;
     config->first_segments = 10;
     config->least_timeout = 200;
     config->first_threshold = UINT32_C(1) << 30;
@@ -275,29 +275,30 @@ int main(void)
     struct host_config config = {.size = sizeof config, .routes = &route, .count = 1, .addr = HOST_ADDR(10, 0, 0, 2), .mac = {2, 0, 0, 0, 0, 2}};
     struct host_config of_a = {.size = sizeof of_a, .routes = &route, .count = 1, .addr = HOST_ADDR(10, 0, 0, 1), .mac = {2, 0, 0, 0, 0, 1}};
     int64_t refusal;
-    int repairs;
+    uint8_t recovery;
 
     refusal = host_new(&a, mac_a, HOST_ADDR(255, 0, 0, 1), &route, 1);
     CHECK(refusal == HOST_EINVAL && host_errno(refusal) == EINVAL && strcmp(host_refusal_name(refusal), "EINVAL") == 0);
     configs(config);
 
-    for (repairs = 0; repairs < 2; repairs++) {
+    for (recovery = HOST_RECOVERY_PLAIN; recovery <= HOST_RECOVERY_SELECTIVE; recovery++) {
+        if (recovery != HOST_RECOVERY_PLAIN) {
+            repair_losses(&of_a, recovery);
+            repair_losses(&config, recovery);
+        }
         for (config.no_window_scale = 0; config.no_window_scale < 2; config.no_window_scale++) {
-            CHECK((repairs ? host_new_with(&a, &of_a) : host_new(&a, mac_a, HOST_ADDR(10, 0, 0, 1), &route, 1)) == 0);
+            CHECK((recovery ? host_new_with(&a, &of_a) : host_new(&a, mac_a, HOST_ADDR(10, 0, 0, 1), &route, 1)) == 0);
             CHECK(host_new_with(&b, &config) == 0);
-            turns(); /* each learns what time it is */
-            connection(config.no_window_scale ? 65535 : 1048576, repairs);
+            connection(config.no_window_scale ? 65535 : 1048576, recovery != HOST_RECOVERY_PLAIN);
             datagrams();
             counts();
             host_free(&a);
             host_free(&b);
         }
-        repair_losses(&of_a);
-        repair_losses(&config);
     }
     host_free(&b);
     CHECK(a.at == NULL && b.at == NULL && host_socket(&a, HOST_KIND_TCP) == HOST_EBADF);
     CHECK(host_counters_into(&a, &carried, 1) == HOST_EBADF);
-    puts("two hosts: a connection, octets both ways, a lost frame, datagrams and a close; with the window scale option, and without; by NewReno, and without");
+    puts("two hosts: a connection, octets both ways, a lost frame, datagrams and a close; with the window scale option, and without; by NewReno, without and with selective acknowledgements, and by RFC 5681 alone");
     return 0;
 }

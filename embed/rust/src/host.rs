@@ -83,6 +83,8 @@ pub enum Recovery {
     Plain = 0,
     /// By that with RFC 6582, 3042 and 3465.
     NewReno = 1,
+    /// By those, with selective acknowledgements where the peer takes them (RFC 2018), for who receives much: what a peer reports isn't used yet.
+    Selective = 2,
 }
 
 /// How a host is set up.

@@ -47,7 +47,7 @@ fn what_is_no_set_up_is_refused() {
 #[test]
 fn each_number_of_a_set_up_is_taken() {
     let usual = Config::new(MAC, ADDR, &[LINK]);
-    for recovery in [Recovery::Plain, Recovery::NewReno] {
+    for recovery in [Recovery::Plain, Recovery::NewReno, Recovery::Selective] {
         for number in [0, 1, 10, 200, 65_535, 1 << 30, u32::MAX] {
             let config = usual.with_recovery(recovery).with_threshold(number).with_first_segments(number as u8).with_least_timeout(number as u16);
             assert_eq!(Host::new(&config).err(), None);
