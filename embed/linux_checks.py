@@ -1,7 +1,8 @@
 """The checks of embed/try-linux: Linux's sockets and programs converse with embed/tap. They run in the namespace that try-linux made.
 
 linux_checks.py TAP DEVICE FOLDER WORD LONG RECOVERY: the program, its device, where captures go, a word that the names of the checks must have, or '',
-whether the long checks are made and no others: long, or '', and how the program repairs losses where a check doesn't say so itself: plain or newreno.
+whether the long checks are made and no others: long, or '', and how the program repairs losses where a check doesn't say so itself: plain, newreno
+or selective.
 """
 
 import collections
@@ -151,6 +152,11 @@ def scaling_of(connection):
     return (info[6] & 15, info[6] >> 4) if info[5] & 4 else None
 
 
+def sacks_of(connection):
+    """Of those options 2 is for selective acknowledgements (RFC 2018)."""
+    return connection.getsockopt(socket.IPPROTO_TCP, socket.TCP_INFO, 8)[5] & 2 != 0
+
+
 def expect_error(error, call, *arguments):
     try:
         call(*arguments)
@@ -160,9 +166,9 @@ def expect_error(error, call, *arguments):
 
 
 @contextlib.contextmanager
-def linux_scales(value):
-    """In the block Linux offers and takes the window scale option (1), or doesn't (0). The file is the namespace's own."""
-    path = "/proc/sys/net/ipv4/tcp_window_scaling"
+def linux_with(name, value):
+    """In the block Linux offers and takes the option of this name (1), or doesn't (0). The file is the namespace's own."""
+    path = f"/proc/sys/net/ipv4/{name}"
     with open(path) as file:
         before = file.read()
     try:
@@ -688,36 +694,66 @@ def to_host(size, *words, send=socket.socket.sendall):
     return "equal"
 
 
-def scaling(*words):
-    """What Linux knows of the option, of a connection that it opened and of one that the host did."""
+def settled(of, *words):
+    """What Linux knows of an option, of a connection that it opened and of one that the host did."""
     with Tap(*words), connected(7) as client:
         client.sendall(b"echo")
         want(client.recv(4) == b"echo", "other octets come back")
-        opened = scaling_of(client)
+        opened = of(client)
     with listener() as server, Tap("--connect", LINUX, server.getsockname()[1], *words, stdin=subprocess.DEVNULL, stdout=subprocess.DEVNULL) as tap:
         with accepted(server) as connection:
-            took = scaling_of(connection)
+            took = of(connection)
             want(read_to_end(connection) == b"", "octets of an empty input")
         want(tap.result(10) == (0, ""), "the program ends otherwise")
     return opened, took
 
 
 def scaled():
-    told = scaling()
+    told = settled(scaling_of)
     own = scale_of_linux()
     want(own and told == ((5, own), (5, own)), f"{told}, and Linux's SYN has {own}")
     return f"shift 5 of the host, and {own} of Linux, whoever opens"
 
 
 def not_scaled():
-    want(scaling("--no-scale") == (None, None), "the option is in force")
+    want(settled(scaling_of, "--no-scale") == (None, None), "the option is in force")
     return "no option in force, whoever opens"
 
 
 def not_scaled_by_linux(body, size):
-    with linux_scales(0):
-        want(scaling() == (None, None), "the option is in force")
+    with linux_with("tcp_window_scaling", 0):
+        want(settled(scaling_of) == (None, None), "the option is in force")
         return body(size)
+
+
+def selective():
+    want(settled(sacks_of, "--recovery", "selective") == (True, True), "the option isn't in force")
+    want(settled(sacks_of, "--recovery", "newreno") == (False, False), "the option is in force without being wanted")
+    return "in force, whoever opens, and only by --recovery selective"
+
+
+def counted_by_linux(*names):
+    """Numbers that Linux counts of all its connections, by their names in TcpExt."""
+    with open("/proc/net/netstat") as file:
+        titles, numbers = [line.split() for line in file if line.startswith("TcpExt:")]
+    counts = dict(zip(titles, numbers))
+    return [int(counts[name]) for name in names]
+
+
+def repaired_by_reports(size, *words):
+    """Linux repairs losses by what the host reports, and finds no report wrong."""
+    names = "TCPSackRecovery", "TCPSACKDiscard"
+    before = counted_by_linux(*names)
+    said = to_host(size, "--recovery", "selective", *words)
+    recoveries, wrong = [now - then for now, then in zip(counted_by_linux(*names), before)]
+    want(recoveries > 0 and wrong == 0, f"{recoveries} recoveries by reports, {wrong} reports are wrong")
+    return f"{said}; {recoveries} recoveries by reports"
+
+
+def not_selective_by_linux(body, size, *words):
+    with linux_with("tcp_sack", 0):
+        want(settled(sacks_of, "--recovery", "selective") == (False, False), "the option is in force")
+        return body(size, "--recovery", "selective", *words)
 
 
 def to_host_in_turn(size, *words):
@@ -972,6 +1008,10 @@ CHECKS = [
     ("window scale: --no-scale", not_scaled, (), ""),
     ("window scale: 10 MB to the host, Linux without the option", not_scaled_by_linux, (to_host, 10 * MEGABYTE), ""),
     ("window scale: 10 MB from the host, Linux without the option", not_scaled_by_linux, (from_host, 10 * MEGABYTE), ""),
+    ("selective acknowledgements: what TCP_INFO has", selective, (), ""),
+    ("selective acknowledgements: 10 MB to the host, every 101st frame in lost", repaired_by_reports, (10 * MEGABYTE, "--lose", "in:101"), ""),
+    ("selective acknowledgements: 1 MB to the host, every 11th frame in lost", repaired_by_reports, (MEGABYTE, "--lose", "in:11"), ""),
+    ("selective acknowledgements: 1 MB to the host, every 11th frame in lost, Linux without them", not_selective_by_linux, (to_host, MEGABYTE, "--lose", "in:11"), ""),
     *[
         (f"{size} MB {way} the host, 20 ms late each way{', --no-scale' if words else ''}", body, (size * MEGABYTE, "--delay", 20, *words), "")
         for words in ((), ("--no-scale",))

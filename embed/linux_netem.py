@@ -56,9 +56,11 @@ with open("/proc/sys/net/ipv4/tcp_congestion_control") as file:
     USUAL = file.read().strip()
 
 COLUMNS = [
+    Column("tap, selective", ["--recovery", "selective"], {}, 0),
     Column("tap, NewReno", ["--recovery", "newreno"], {}, 0),
     Column("tap, plain", ["--recovery", "plain"], {}, 0),
     Column("Linux, Reno, no SACK, 1 MB", [], {"tcp_sack": 0, "tcp_congestion_control": "reno"}, MEGABYTE),
+    Column("Linux, no timestamps either", [], {"tcp_sack": 0, "tcp_timestamps": 0, "tcp_congestion_control": "reno"}, MEGABYTE),
     Column(f"Linux as it comes ({USUAL})", [], {}, 0),
 ]
 
