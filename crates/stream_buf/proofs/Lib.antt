@@ -17,3 +17,6 @@ pub mod Writing
 pub mod Storing
 pub mod Viewing
 pub mod Kept
+pub mod Scoreboards
+pub mod Stepping
+pub mod Reports

@@ -2,6 +2,7 @@ pub mod Sending
 pub mod Receiving
 pub mod Counting
 pub mod Ranges
+pub mod Scoreboard
 pub mod Ring
 pub mod Stored
 pub mod Written

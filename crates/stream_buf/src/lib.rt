@@ -5,9 +5,12 @@
 pub mod laws;
 mod ranges;
 mod receive;
+pub mod reported;
 mod ring;
+mod scoreboard;
 mod send;
 
 pub use ranges::Range;
 pub use receive::{MOST_RANGES, RecvBuf};
+pub use scoreboard::Scoreboard;
 pub use send::SendBuf;

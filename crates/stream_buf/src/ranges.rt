@@ -1,7 +1,8 @@
 //! Ranges of octets that are kept ahead of a gap.
 
-ghost use Rattle.std.specs.Prelude.{◌≡◌, ℕ, ◌+◌, ◌<◌, ◌≤◌, ◌^◌, [], ◌∷◌, length, insert, map, count_by};
+ghost use Rattle.std.specs.Prelude.{◌≡◌, ℕ, ◌+◌, ◌<◌, ◌≤◌, ◌^◌, [], ◌∷◌, length, insert, map, filter, nat_lt, count_by};
 ghost use Rattle.stream_buf.specs.Ranges.{AreApart, range, covered, hull, touches, with_range, nearer, further};
+ghost use Rattle.stream_buf.specs.Scoreboard.{passed};
 
 use crate::receive::MOST_RANGES;
 use arrayvec::ArrayVec;
@@ -32,6 +33,13 @@ impl Range {
             start: other.start.min(self.start),
             end: other.end.max(self.end),
         }
+    }
+
+    /// Whether it begins further on than a place.
+    fn begins_past(self, place: usize) -> bool
+        ensures { result ≡ nat_lt place self.start }
+    {
+        place < self.start
     }
 
     /// As it is told from a place that is so much further on.
@@ -131,6 +139,15 @@ impl Ranges {
         joined.end
     }
 
+    /// Forgets those that begin no further on than `count`; the others come nearer by as much.
+    pub(crate) fn pass(&mut self, count: usize)
+        ensures ranges { self.new ≡ passed count self.old }
+        ensures apart { AreApart 1 self.new }
+    {
+        keep_past(&mut self.list, count);
+        move_nearer(&mut self.list, count);
+    }
+
     /// Forgets them.
     pub(crate) fn clear(&mut self)
         ensures { self.new ≡ [] }
@@ -166,6 +183,13 @@ fn gather(list: &mut ArrayVec<Range, MOST_RANGES>, new: Range) -> (usize, Range)
         }
     }
     (place, joined)
+}
+
+/// Forgets those that begin no further on than a place.
+fn keep_past(list: &mut ArrayVec<Range, MOST_RANGES>, place: usize)
+    ensures { list.new.items ≡ filter (λ r. nat_lt place r.start) list.old.items }
+{
+    list.retain(|range| range.begins_past(place));
 }
 
 /// RCV.NXT moves by so much towards these ranges, none of which it passes.

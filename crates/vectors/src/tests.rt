@@ -12,6 +12,7 @@ mod messages;
 mod packets;
 mod plain;
 mod prefixes;
+mod reports;
 mod segments;
 mod streams;
 mod sums;
