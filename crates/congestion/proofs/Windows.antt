@@ -1,14 +1,14 @@
--- The congestion window along lists of events: its range, and its growth by a new ACK.
-use Rattle.std.proofs.Common.{◌≡◌, ℕ, ◌+◌, ◌*◌, ◌^◌, ◌<◌, ◌≤◌, min, Bool, true, false, List, [], ◌∷◌, ◌++◌, fold, if◌then◌else◌, refl, ◌/◌, arith}
+-- The congestion window along lists of events: its range, its growth by a new ACK, and what begins a recovery.
+use Rattle.std.proofs.Common.{◌≡◌, ◌⊎◌, inl, inr, ℕ, ◌+◌, ◌*◌, ◌^◌, ◌<◌, ◌≤◌, min, Bool, true, false, List, [], ◌∷◌, ◌++◌, fold, if◌then◌else◌, refl, ◌/◌, arith}
 use Rattle.std.specs.List.{AllByRecursion}
 use Rattle.std.proofs.Math.Nat.{div-le_of_le-mul, mul-le-mul_right}
 use Rattle.std.proofs.lemmas.Bool.Decides.{nat_tests}
 use Rattle.std.proofs.lemmas.List.Sums.{fold-append}
 use Rattle.congestion.specs.declared.control.Control.{Control}
 use Rattle.congestion.specs.Control.{repairs, initial_segments}
-use Rattle.congestion.specs.Window.{Window, bounded, initial_window, is_recovering, most_counted, growth, after_new_ack, after_partial_ack, after_expiry, after_duplicate}
-use Rattle.congestion.specs.Events.{Event, IsNotPartial, after_event, window_after}
-use Rattle.congestion.specs.Events.Event.{NewAck, PartialAck, Expiry, Duplicate}
+use Rattle.congestion.specs.Window.{Window, bounded, initial_window, is_recovering, most_counted, growth, after_new_ack, after_partial_ack, after_expiry, after_duplicate, after_loss, third_is_next}
+use Rattle.congestion.specs.Events.{Event, IsOfPlain, after_event, window_after}
+use Rattle.congestion.specs.Events.Event.{NewAck, PartialAck, Expiry, Duplicate, Loss}
 
 -- what holds of every window with segments of this size
 record IsReached (control : Control) (smss : ℕ) (w : Window) : Type 0 where
@@ -54,11 +54,21 @@ duplicate_keeps control smss flight w most reached = record {
   threshold = grind (arith, nat_tests);
 }
 
+loss_keeps : (control : Control) (smss flight : ℕ) (w : Window) → smss ≤ 1460 → IsReached control smss w → IsReached control smss (after_loss w flight)
+loss_keeps control smss flight w most reached = record {
+  same = reached.same;
+  segment = reached.segment;
+  least = omega arith;
+  most = omega arith;
+  threshold = omega arith;
+}
+
 event_keeps : (control : Control) (smss : ℕ) (w : Window) (e : Event) → smss ≤ 1460 → IsReached control smss w → IsReached control smss (after_event w e)
 event_keeps control smss w (NewAck octets flight) most reached = new_ack_keeps control smss octets flight w most reached
 event_keeps control smss w (PartialAck octets) most reached = partial_ack_keeps control smss octets w most reached
 event_keeps control smss w (Expiry flight) most reached = expiry_keeps control smss flight w most reached
 event_keeps control smss w (Duplicate flight) most reached = duplicate_keeps control smss flight w most reached
+event_keeps control smss w (Loss flight) most reached = loss_keeps control smss flight w most reached
 
 events_keep : (control : Control) (smss : ℕ) (events : List Event) (w : Window) → smss ≤ 1460 → IsReached control smss w → IsReached control smss (fold after_event w events)
 events_keep control smss [] w most reached = reached
@@ -96,17 +106,18 @@ pub window-most : (control : Control) (smss : ℕ) (resent : Bool) (events : Lis
     → (window_after control smss resent events).cwnd ≤ 2 ^ 30
 window-most control smss resent events least most = (reached control smss resent events most).most
 
--- Without partial ACKs a recovery ends no higher than it stands.
+-- Where losses are not repaired a recovery ends no higher than it stands.
 abbrev EndsNoHigher : Window → Type 0
 EndsNoHigher w = is_recovering w ≡ true → bounded w.ssthresh ≤ w.cwnd
 
-event_ends : (control : Control) (smss : ℕ) (w : Window) (e : Event) → IsNotPartial e → smss ≤ 1460 → IsReached control smss w → EndsNoHigher w → EndsNoHigher (after_event w e)
+event_ends : (control : Control) (smss : ℕ) (w : Window) (e : Event) → IsOfPlain e → smss ≤ 1460 → IsReached control smss w → EndsNoHigher w → EndsNoHigher (after_event w e)
 event_ends control smss w (NewAck octets flight) whole most has ends = grind (arith, nat_tests)
 event_ends control smss w (PartialAck _) whole most has ends = elim whole [ ]
 event_ends control smss w (Expiry flight) whole most has ends = grind (arith, nat_tests)
 event_ends control smss w (Duplicate flight) whole most has ends = grind (arith, nat_tests)
+event_ends control smss w (Loss _) whole most has ends = elim whole [ ]
 
-events_end : (control : Control) (smss : ℕ) (events : List Event) (w : Window) → AllByRecursion IsNotPartial events → smss ≤ 1460 → IsReached control smss w → EndsNoHigher w → EndsNoHigher (fold after_event w events)
+events_end : (control : Control) (smss : ℕ) (events : List Event) (w : Window) → AllByRecursion IsOfPlain events → smss ≤ 1460 → IsReached control smss w → EndsNoHigher w → EndsNoHigher (fold after_event w events)
 events_end control smss [] w whole most has ends = ends
 events_end control smss (e ∷ events) w whole most has ends =
     events_end control smss events (after_event w e) whole.1 most (event_keeps control smss w e most has) (event_ends control smss w e whole.0 most has ends)
@@ -136,7 +147,7 @@ new_ack_adds control smss octets flight w positive plain reached ends =
     grind (arith, nat_tests)
 
 pub new_ack-adds : (control : Control) (smss : ℕ) (resent : Bool) (events : List Event) (octets flight : ℕ) → 64 ≤ smss → smss ≤ 1460
-    → repairs control ≡ false → AllByRecursion IsNotPartial events
+    → repairs control ≡ false → AllByRecursion IsOfPlain events
     → (window_after control smss resent (events ++ NewAck octets flight ∷ [])).cwnd ≤ (window_after control smss resent events).cwnd + smss
 new_ack-adds control smss resent events octets flight least most plain whole =
     let was = reached control smss resent events most in
@@ -165,3 +176,12 @@ pub new_ack-counts : (control : Control) (smss : ℕ) (resent : Bool) (events : 
 new_ack-counts control smss resent events octets flight least most stands =
     rw (fold-append after_event (initial_window control smss resent) events (NewAck octets flight ∷ []))
     (new_ack_counts control smss octets flight (window_after control smss resent events) (omega arith) (reached control smss resent events most) stands)
+
+-- A recovery begins with a third duplicate ACK or a loss.
+pub recovery-begins : (w : Window) (e : Event) → is_recovering w ≡ false → is_recovering (after_event w e) ≡ true
+    → (flight : ℕ) × (((e ≡ Duplicate flight) × (third_is_next w ≡ true)) ⊎ (e ≡ Loss flight))
+recovery-begins w (NewAck octets flight) stands begins = grind arith
+recovery-begins w (PartialAck octets) stands begins = grind arith
+recovery-begins w (Expiry flight) stands begins = grind arith
+recovery-begins w (Duplicate flight) stands begins = (flight, inl (refl, grind (arith, nat_tests)))
+recovery-begins w (Loss flight) stands begins = (flight, inr refl)

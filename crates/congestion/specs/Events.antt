@@ -1,7 +1,7 @@
--- The congestion window after a list of events (RFC 5681 sections 3.1 and 3.2, RFC 6582 section 3.2).
+-- The congestion window after a list of events (RFC 5681 sections 3.1 and 3.2, RFC 6582 section 3.2, RFC 6675 section 5).
 use Rattle.std.specs.Prelude.{ℕ, ⊤, Bool, List, fold}
 use Rattle.congestion.specs.declared.control.Control.{Control}
-use Rattle.congestion.specs.Window.{Window, initial_window, after_new_ack, after_partial_ack, after_expiry, after_duplicate}
+use Rattle.congestion.specs.Window.{Window, initial_window, after_new_ack, after_partial_ack, after_expiry, after_duplicate, after_loss}
 
 -- what happens to the window of a connection
 pub data Event : Type 0 where
@@ -13,17 +13,21 @@ pub data Event : Type 0 where
   Expiry : ℕ → Event
   -- a duplicate ACK with so many octets in flight
   Duplicate : ℕ → Event
+  -- reports tell that what stands at SND.UNA is lost, with so many octets in flight
+  Loss : ℕ → Event
 
 abbrev pub after_event : Window → Event → Window
 after_event w (NewAck octets flight) = after_new_ack w octets flight
 after_event w (PartialAck octets) = after_partial_ack w octets
 after_event w (Expiry flight) = after_expiry w flight
 after_event w (Duplicate flight) = after_duplicate w flight
+after_event w (Loss flight) = after_loss w flight
 
--- what comes also where no recovery goes on
-abbrev pub IsNotPartial : Event → Type 0
-IsNotPartial (PartialAck octets) = ⊥
-IsNotPartial _ = ⊤
+-- what comes also where losses are not repaired
+abbrev pub IsOfPlain : Event → Type 0
+IsOfPlain (PartialAck octets) = ⊥
+IsOfPlain (Loss flight) = ⊥
+IsOfPlain _ = ⊤
 
 -- the window of a connection to which these events came, the first one first
 abbrev pub window_after : Control → ℕ → Bool → List Event → Window

@@ -1,4 +1,4 @@
--- The congestion window in octets (RFC 5681 sections 3.1 and 3.2); and where the set-up says that losses are repaired, as RFC 6582, RFC 3042 and RFC 3465 have it.
+-- The congestion window in octets (RFC 5681 sections 3.1 and 3.2); and where the set-up says that losses are repaired, as RFC 6582, RFC 6675, RFC 3042 and RFC 3465 have it.
 use Rattle.std.specs.Prelude.{ℕ, ◌+◌, ◌-◌, ◌*◌, ◌/◌, ◌^◌, ◌≤◌, ◌==◌, ◌&&◌, not, nat_le, nat_lt, min, max, Bool, true, false, if◌then◌else◌}
 use Rattle.congestion.specs.declared.control.Control.{Control}
 use Rattle.congestion.specs.Control.{repairs, initial_cwnd, initial_ssthresh}
@@ -10,7 +10,7 @@ pub record Window : Type 0 where
   pub smss : ℕ
   pub cwnd : ℕ
   pub ssthresh : ℕ
-  -- the duplicate ACKs since the last new ACK or expiry, counted up to the third
+  -- the duplicate ACKs since the last new ACK or expiry, counted up to the third; a loss that reports tell counts as three
   pub duplicates : ℕ
   -- whether the timer expired since the last new ACK
   pub expired : Bool
@@ -32,7 +32,7 @@ initial_window control smss resent = record {
   restarts = false;
 }
 
--- Fast recovery runs from the third duplicate ACK to the ACK or the expiry that ends it (section 3.2).
+-- A recovery runs from the third duplicate ACK (section 3.2), or from a loss that reports tell (RFC 6675 section 5), to the ACK or the expiry that ends it.
 abbrev pub is_recovering : Window → Bool
 is_recovering w = nat_le 3 w.duplicates
 
@@ -113,6 +113,15 @@ third_is_next w = w.duplicates == 2
 abbrev pub after_third : Window → ℕ → Window
 after_third w flight = let half = half_of (flight_within w flight) w.smss in record w {
   cwnd = bounded (half + 3 * w.smss);
+  ssthresh = half;
+  duplicates = 3;
+  restarts = false;
+}
+
+-- Reports tell a loss: the window is half of what is in flight, without that which limited transmit sent. Nothing is added for what left the network, since the sender's pipe counts that (RFC 6675 section 5, step 4.2).
+abbrev pub after_loss : Window → ℕ → Window
+after_loss w flight = let half = half_of (flight_within w flight) w.smss in record w {
+  cwnd = bounded half;
   ssthresh = half;
   duplicates = 3;
   restarts = false;

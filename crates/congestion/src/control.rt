@@ -11,7 +11,8 @@ pub enum Recovery {
     /// A recovery goes on until all that was outstanding at its beginning is acknowledged (NewReno, RFC 6582), limited transmit (RFC 3042), and a window that
     /// grows by the octets that are acknowledged (RFC 3465).
     NewReno,
-    /// The same; and where the peer takes it, acknowledgements report which octets are kept ahead of a gap (RFC 2018).
+    /// What `NewReno` has where the peer takes no selective acknowledgements. Where it does, acknowledgements report which octets are kept ahead of a gap
+    /// (RFC 2018), and what goes out again is ruled by the peer's reports (RFC 6675).
     Selective,
 }
 

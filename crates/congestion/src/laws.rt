@@ -1,13 +1,13 @@
 //! Laws of the definitions that the contracts of this crate cite: each is the contract of a function
 //! that does nothing.
 
-ghost use Rattle.std.specs.Prelude.{◌≡◌, ℕ, ◌+◌, ◌*◌, ◌/◌, ◌^◌, ◌≤◌, Bool, true, false, if◌then◌else◌, nat_lt, min, max, ◌<◌, List, [], ◌∷◌, ◌++◌};
+ghost use Rattle.std.specs.Prelude.{◌≡◌, ◌⊎◌, ℕ, ◌+◌, ◌*◌, ◌/◌, ◌^◌, ◌≤◌, Bool, true, false, if◌then◌else◌, nat_lt, min, max, ◌<◌, List, [], ◌∷◌, ◌++◌};
 ghost use Rattle.congestion.specs.declared.control.Control.{Control};
 ghost use Rattle.std.specs.List.{AllByRecursion};
 ghost use Rattle.congestion.specs.Control.{plain, repairs};
 ghost use Rattle.congestion.specs.Window.{Window, is_recovering, goes_on, allowed, third_is_next};
-ghost use Rattle.congestion.specs.Events.{Event, IsNotPartial, after_event, window_after};
-ghost use Rattle.congestion.specs.Events.Event.{NewAck, PartialAck, Expiry, Duplicate};
+ghost use Rattle.congestion.specs.Events.{Event, IsOfPlain, after_event, window_after};
+ghost use Rattle.congestion.specs.Events.Event.{NewAck, PartialAck, Expiry, Duplicate, Loss};
 
 /// What a call makes of the window is what one more event makes of it (RFC 5681 sections 3.1 and 3.2).
 pub fn one_more_event()
@@ -24,11 +24,11 @@ pub fn window_in_range()
         → (window_after control smss resent events).cwnd ≤ 2 ^ 30 }
 {}
 
-/// A new ACK raises the congestion window by a segment at most (RFC 5681 section 3.1), where losses are not repaired and so no partial ACK comes. Where they are, by two at most (RFC 3465
+/// A new ACK raises the congestion window by a segment at most (RFC 5681 section 3.1), where losses are not repaired and so neither a partial ACK comes nor a loss that reports tell. Where they are, by two at most (RFC 3465
 /// section 2.3); and the one that ends a recovery leaves a window of the threshold, or of no more than a segment past what is in flight, of two segments at least (RFC 6582 section 3.2, step 3).
 pub fn grows_by_a_segment()
     ensures plain { (control : Control) (smss : ℕ) (resent : Bool) (events : List Event) (octets flight : ℕ) → 64 ≤ smss → smss ≤ 1460
-        → repairs control ≡ false → AllByRecursion IsNotPartial events
+        → repairs control ≡ false → AllByRecursion IsOfPlain events
         → (window_after control smss resent (events ++ NewAck octets flight ∷ [])).cwnd ≤ (window_after control smss resent events).cwnd + smss }
     ensures counted { (control : Control) (smss : ℕ) (resent : Bool) (events : List Event) (octets flight : ℕ) → 64 ≤ smss → smss ≤ 1460
         → is_recovering (window_after control smss resent events) ≡ false
@@ -75,14 +75,26 @@ pub fn the_set_up_says_where_it_begins()
     ensures stays { (w : Window) (e : Event) → (after_event w e).control ≡ w.control }
 {}
 
-/// A recovery ends with an ACK that is not partial, or with an expiry, and with nothing else (RFC 6582 section 3.2, steps 3 and 4); it begins with a third duplicate ACK alone.
+/// A recovery ends with an ACK that is not partial, or with an expiry, and with nothing else (RFC 6582 section 3.2, steps 3 and 4); it begins with a third duplicate ACK or with a loss that reports tell
+/// (RFC 6675 section 5), and with nothing else.
 pub fn a_recovery_ends()
     ensures new_ack { (w : Window) (octets flight : ℕ) → is_recovering (after_event w (NewAck octets flight)) ≡ false }
     ensures expiry { (w : Window) (flight : ℕ) → is_recovering (after_event w (Expiry flight)) ≡ false }
     ensures partial { (w : Window) (octets : ℕ) → is_recovering (after_event w (PartialAck octets)) ≡ is_recovering w }
     ensures duplicate { (w : Window) (flight : ℕ) → is_recovering w ≡ true → is_recovering (after_event w (Duplicate flight)) ≡ true }
     ensures begins { (w : Window) (e : Event) → is_recovering w ≡ false → is_recovering (after_event w e) ≡ true
-        → (flight : ℕ) × (e ≡ Duplicate flight) × (third_is_next w ≡ true) }
+        → (flight : ℕ) × (((e ≡ Duplicate flight) × (third_is_next w ≡ true)) ⊎ (e ≡ Loss flight)) }
+{}
+
+/// A loss that reports tell halves the window where losses are repaired: it is half of what is in flight without that which limited transmit sent, two segments at least, with nothing for segments that left the network. A recovery
+/// begins, in which nothing goes out past the window (RFC 6675 section 5, step 4.2).
+pub fn a_loss_halves_the_window()
+    ensures threshold { (w : Window) (flight : ℕ) → repairs w.control ≡ true → (after_event w (Loss flight)).ssthresh ≡ max (min flight w.cwnd / 2) (2 * w.smss) }
+    ensures window { (w : Window) (flight : ℕ) → repairs w.control ≡ true → (after_event w (Loss flight)).cwnd ≡ min (2 ^ 30) (max (min flight w.cwnd / 2) (2 * w.smss)) }
+    ensures begins { (w : Window) (flight : ℕ) → is_recovering (after_event w (Loss flight)) ≡ true }
+    ensures alone { (w : Window) (flight : ℕ) → let after = after_event w (Loss flight) in allowed after ≡ after.cwnd }
+    ensures restarts { (w : Window) (flight : ℕ) → (after_event w (Loss flight)).restarts ≡ false }
+    ensures stays { (w : Window) (flight : ℕ) → (after_event w (Loss flight)).control ≡ w.control }
 {}
 
 /// A partial ACK of a segment or more takes what it acknowledges from the window, but for a segment, as long as a segment is left (RFC 6582 section 3.2, step 3); and none raises it.

@@ -1,8 +1,8 @@
-//! How many octets may be in flight (RFC 5681 sections 3.1 and 3.2; RFC 6582, RFC 3042 and RFC 3465 where losses are repaired).
+//! How many octets may be in flight (RFC 5681 sections 3.1 and 3.2; RFC 6582, RFC 6675, RFC 3042 and RFC 3465 where losses are repaired).
 
 ghost use Rattle.std.specs.Prelude.{◌≡◌, ◌≤◌, ◌*◌};
 ghost use Rattle.congestion.specs.Control.{repairs, usual_segments, initial_cwnd, initial_ssthresh};
-ghost use Rattle.congestion.specs.Window.{IsSound, initial_window, is_recovering, goes_on, allowed, in_slow_start, growth, most_counted, half_of, flight_within, ending_cwnd, deflated, after_new_ack, after_partial_ack, after_expiry, third_is_next, after_duplicate};
+ghost use Rattle.congestion.specs.Window.{IsSound, initial_window, is_recovering, goes_on, allowed, in_slow_start, growth, most_counted, half_of, flight_within, ending_cwnd, deflated, after_new_ack, after_partial_ack, after_expiry, third_is_next, after_duplicate, after_loss};
 
 use crate::control::Control;
 use std::marker::Model;
@@ -108,11 +108,19 @@ impl Cwnd {
         self.ssthresh
     }
 
-    /// Whether fast recovery runs: the third duplicate ACK came, and since then neither the ACK nor the expiry that ends it (RFC 5681 section 3.2).
+    /// Whether a recovery runs: the third duplicate ACK came or reports told a loss, and since then neither the ACK nor the expiry that ends it (RFC 5681 section 3.2,
+    /// RFC 6675 section 5).
     pub fn is_recovering(&self) -> bool
         ensures { result ≡ is_recovering self.now }
     {
         self.duplicates >= DUPLICATE_THRESHOLD
+    }
+
+    /// Whether the next duplicate ACK is the third (RFC 5681 section 3.2).
+    pub fn is_third_next(&self) -> bool
+        ensures { result ≡ third_is_next self.now }
+    {
+        self.duplicates + 1 == DUPLICATE_THRESHOLD
     }
 
     /// Whether an ACK of some of what was outstanding at the beginning of the recovery that runs doesn't end it (RFC 6582 section 3.2, step 3).
@@ -172,11 +180,21 @@ impl Cwnd {
         self.duplicates += 1;
         let is_third = self.is_recovering();
         if is_third {
-            self.ssthresh = half_of(self.flight_within(flight), self.smss);
-            self.cwnd = (self.ssthresh + 3 * smss).min(MOST_CWND);
-            self.restarts = false;
+            self.lost(flight);
+            self.cwnd = (self.cwnd + 3 * smss).min(MOST_CWND);
         }
         is_third
+    }
+
+    /// The peer's reports tell, with so many octets in flight, that the first of them is lost: a recovery begins, and the window becomes half of them (RFC 6675
+    /// section 5, step 4.2). The caller takes no duplicate ACK in it, since each raises the window.
+    pub fn lost(&mut self, flight: u32)
+        ensures { self.new ≡ after_loss self.old flight }
+    {
+        self.ssthresh = half_of(self.flight_within(flight), self.smss);
+        self.cwnd = self.ssthresh.min(MOST_CWND);
+        self.duplicates = DUPLICATE_THRESHOLD;
+        self.restarts = false;
     }
 
     fn in_slow_start(&self) -> bool

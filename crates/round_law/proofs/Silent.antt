@@ -8,7 +8,7 @@ use Rattle.retransmit.specs.Deadlines.{next_of}
 use Rattle.tcp_halves.specs.Stream.{outstanding}
 use Rattle.tcp_halves.specs.Windows.{sendable, is_worth_sending}
 use Rattle.tcp_halves.proofs.Choices.{by, and_false}
-use Rattle.congestion.specs.Window.{allowed}
+use Rattle.tcp_state.specs.Selective.{allowance}
 use Rattle.tcp_state.specs.declared.state.State.{State}
 use Rattle.tcp_state.specs.declared.state.State.TheVariants.{Closed}
 use Rattle.tcp_state.specs.declared.emission.Due.{Due}
@@ -99,10 +99,10 @@ module _ (c : View) (now : Moment) (sound : IsSound c) (keeps : KeepsTime c) (cl
   unwaited : c.unheard ≡ None
   unwaited =
       let held : length c.sending.held ≡ 0 = ap length empty in
-      let few : sendable c.sending (allowed c.congestion) ≡ 0 = omega (arith, held) in
+      let few : sendable c.sending (allowance c) ≡ 0 = omega (arith, held) in
       none_some c.unheard (keeps.unheard
       ∙ (ap (λ b. (outstanding c.sending == 0) && (b || sends_new c || sends_fin c || (c.resend.owes_probe && probes c))) opened
-      ∙ (ap (λ n. (outstanding c.sending == 0) && (nat_lt 0 n && is_worth_sending c.sending (allowed c.congestion) (waits_no_longer c) || sends_fin c || (c.resend.owes_probe && probes c))) few
+      ∙ (ap (λ n. (outstanding c.sending == 0) && (nat_lt 0 n && is_worth_sending c.sending (allowance c) (waits_no_longer c) || sends_fin c || (c.resend.owes_probe && probes c))) few
       ∙ (ap (λ b. (outstanding c.sending == 0) && (b && (outstanding c.sending == length c.sending.held) && nat_lt (outstanding c.sending) c.sending.window || (c.resend.owes_probe && probes c))) shut
       ∙ (ap (λ b. (outstanding c.sending == 0) && (c.resend.owes_probe && b)) (unprobed c shut empty)
       ∙ (ap (λ b. (outstanding c.sending == 0) && b) (and_false c.resend.owes_probe)

@@ -9,7 +9,7 @@ use Rattle.tcp_halves.specs.Halves.{Sending}
 use Rattle.tcp_halves.specs.Stream.{outstanding}
 use Rattle.tcp_halves.specs.Windows.{sendable, takes_enough, is_worth_sending}
 use Rattle.tcp_halves.proofs.Choices.{either, and_left}
-use Rattle.congestion.specs.Window.{allowed}
+use Rattle.tcp_state.specs.Selective.{allowance}
 use Rattle.tcp_state.specs.declared.state.State.{State}
 use Rattle.tcp_state.specs.View.{View, is_opening, awaits_fin_ack, is_at_end}
 use Rattle.tcp_state.specs.New.{passes_full}
@@ -36,7 +36,7 @@ raised_owed idle opens new fin owes probed e = grind (arith, common_steps)
 record Acts (v u : View) : Type 0 where
   sending : u.sending ≡ v.sending
   state : u.state ≡ v.state
-  congestion : allowed u.congestion ≡ allowed v.congestion
+  congestion : allowance u ≡ allowance v
   unheard : u.unheard ≡ v.unheard
   nodelay : u.nodelay ≡ v.nodelay
   passes : passes_full u ≡ passes_full v
@@ -45,18 +45,18 @@ record Acts (v u : View) : Type 0 where
 
 awaits_on : (v u : View) → Acts v u → awaits_first v ≡ true → awaits_first u ≡ true
 awaits_on v u a waits =
-    ap (λ (s : Sending). wants s u.state (allowed u.congestion) u.nodelay (passes_full u) u.resend.overridden u.resend.owes_probe) a.sending
-    ∙ ap (λ (t : State). wants v.sending t (allowed u.congestion) u.nodelay (passes_full u) u.resend.overridden u.resend.owes_probe) a.state
+    ap (λ (s : Sending). wants s u.state (allowance u) u.nodelay (passes_full u) u.resend.overridden u.resend.owes_probe) a.sending
+    ∙ ap (λ (t : State). wants v.sending t (allowance u) u.nodelay (passes_full u) u.resend.overridden u.resend.owes_probe) a.state
     ∙ ap (λ (n : ℕ). wants v.sending v.state n u.nodelay (passes_full u) u.resend.overridden u.resend.owes_probe) a.congestion
-    ∙ ap (λ (b : Bool). wants v.sending v.state (allowed v.congestion) b (passes_full u) u.resend.overridden u.resend.owes_probe) a.nodelay
-    ∙ ap (λ (b : Bool). wants v.sending v.state (allowed v.congestion) v.nodelay b u.resend.overridden u.resend.owes_probe) a.passes
+    ∙ ap (λ (b : Bool). wants v.sending v.state (allowance v) b (passes_full u) u.resend.overridden u.resend.owes_probe) a.nodelay
+    ∙ ap (λ (b : Bool). wants v.sending v.state (allowance v) v.nodelay b u.resend.overridden u.resend.owes_probe) a.passes
     ∙ owed
   where
     s : Sending
     s = v.sending
 
     cwnd : ℕ
-    cwnd = allowed v.congestion
+    cwnd = allowance v
 
     full : Bool
     full = nat_le s.smss (sendable s cwnd)

@@ -18,6 +18,7 @@ use Rattle.tcp_state.specs.Timing.{probes, expires_for_good, is_silent_for_good,
 use Rattle.tcp_state.specs.Edges as edge
 use Rattle.tcp_state.proofs.Clocked.{KeepsTo, timers_keep}
 use Rattle.tcp_state.proofs.Asked.{asked_sound}
+use Rattle.tcp_state.proofs.Scores.{none_scores}
 use Rattle.tcp_state.specs.Alive.{alive_after, after_silence}
 use Rattle.sockets.specs.declared.entry.Entry.{Entry}
 use Rattle.sockets.specs.declared.role.Role.{Role}
@@ -47,7 +48,7 @@ ended_sound v error sound = record {
   mark = λ distance none. cc;
   small = omega arith;
   recover = omega arith;
-  resend = record { floor = sound.resend.floor; ceiling = sound.resend.ceiling; timeout_least = sound.resend.timeout_least; timeout_most = sound.resend.timeout_most; interval_least = sound.resend.timeout_least; interval_most = sound.resend.timeout_most; expiries = sound.resend.expiries };
+  resend = record { floor = sound.resend.floor; ceiling = sound.resend.ceiling; timeout_least = sound.resend.timeout_least; timeout_most = sound.resend.timeout_most; interval_least = sound.resend.timeout_least; interval_most = sound.resend.timeout_most; expiries = sound.resend.expiries; reported = none_scores };
   connection = refl;
   segment = sound.segment;
   segment_least = sound.segment_least;
@@ -96,6 +97,7 @@ expiry_fits v now sound lives =
         interval_least = sound.resend.interval_least;
         interval_most = sound.resend.interval_most;
         expiries = omega (arith, few);
+        reported = none_scores;
       };
       delays = refl;
       ack = sound.ack;
@@ -113,6 +115,7 @@ expiry_fits v now sound lives =
         interval_least = grind (arith, sound.resend.interval_least);
         interval_most = omega arith;
         expiries = omega (arith, few);
+        reported = sound.resend.reported;
       };
       delays = refl;
       ack = sound.ack;
@@ -142,7 +145,7 @@ override_fits v w now f =
       mark = f.mark;
       small = f.small;
       recover = f.recover;
-      resend = record { floor = r.floor; ceiling = r.ceiling; timeout_least = r.timeout_least; timeout_most = r.timeout_most; interval_least = r.interval_least; interval_most = r.interval_most; expiries = r.expiries };
+      resend = record { floor = r.floor; ceiling = r.ceiling; timeout_least = r.timeout_least; timeout_most = r.timeout_most; interval_least = r.interval_least; interval_most = r.interval_most; expiries = r.expiries; reported = r.reported };
       delays = f.delays;
       ack = f.ack;
     })
@@ -166,6 +169,7 @@ acted_fits v now sound lives =
         interval_least = chosen (probes w && is_some w.timers.probe) w.resend.interval w.resend.timeout.rto (λ n. w.resend.timeout.least ≤ n) r.interval_least r.timeout_least;
         interval_most = chosen (probes w && is_some w.timers.probe) w.resend.interval w.resend.timeout.rto (λ n. n ≤ 60000) r.interval_most r.timeout_most;
         expiries = r.expiries;
+        reported = r.reported;
       };
       delays = f.delays;
       ack = f.ack;

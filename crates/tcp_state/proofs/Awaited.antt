@@ -3,7 +3,7 @@ use Rattle.std.proofs.Common.{◌≡◌, ◌==◌, ◌&&◌, ◌||◌, not, nat_
 use Rattle.clock.specs.declared.moment.Moment.{Moment}
 use Rattle.tcp_halves.specs.Stream.{outstanding}
 use Rattle.tcp_halves.specs.Windows.{sendable, is_worth_sending}
-use Rattle.congestion.specs.Window.{allowed}
+use Rattle.tcp_state.specs.Selective.{allowance}
 use Rattle.tcp_state.specs.View.{View, is_opening, awaits_fin_ack}
 use Rattle.tcp_state.specs.New.{sends_new, sends_fin, waits_no_longer}
 use Rattle.tcp_state.specs.Timing.{probes, waiting_since, awaits_first}
@@ -13,12 +13,12 @@ use Rattle.tcp_halves.proofs.Choices.{and_false}
 pub awaits_nothing : (v : View) → is_opening v.state ≡ false → length v.sending.held ≡ 0 → awaits_fin_ack v.state ≡ false → awaits_first v ≡ false
 awaits_nothing v opened empty unfinished =
     let idle = outstanding v.sending == 0 in
-    let worth = is_worth_sending v.sending (allowed v.congestion) (waits_no_longer v) in
+    let worth = is_worth_sending v.sending (allowance v) (waits_no_longer v) in
     let all = outstanding v.sending == length v.sending.held in
     let fits = nat_lt (outstanding v.sending) v.sending.window in
     let owes = v.resend.owes_probe in
     let shut = v.sending.window == 0 in
-    let none : sendable v.sending (allowed v.congestion) ≡ 0 = omega (arith, empty) in
+    let none : sendable v.sending (allowance v) ≡ 0 = omega (arith, empty) in
     let silent : probes v ≡ false =
     ap (λ b. not b && shut && (not (length v.sending.held == 0) || awaits_fin_ack v.state)) opened
     ∙ (ap (λ n. shut && (not (n == 0) || awaits_fin_ack v.state)) empty ∙ (ap (λ b. shut && b) unfinished ∙ and_false shut)) in

@@ -1,5 +1,6 @@
 -- What the clock, and what goes out, leave of a connection as it was.
-use Rattle.std.proofs.Common.{◌≡◌, ℕ, ◌-◌, ◌==◌, ◌&&◌, ◌||◌, ◌⊎◌, not, nat_lt, Bool, true, false, if◌then◌else◌, Option, Some, None, is_some, length, inl, inr, refl, sym, ◌∙◌, ap, subst}
+use Rattle.std.proofs.Common.{◌≡◌, ℕ, ◌-◌, ◌==◌, ◌&&◌, ◌||◌, ◌⊎◌, not, nat_lt, Bool, true, false, if◌then◌else◌, Option, Some, None, is_some, [], length, inl, inr, arith, refl, sym, ◌∙◌, ap, subst}
+use Rattle.std.proofs.lemmas.Bool.{le-ltb}
 use Rattle.std.proofs.lemmas.Bool.Decides.{eqb_tells}
 use Rattle.clock.specs.declared.moment.Moment.{Moment}
 use Rattle.tcp_state.specs.declared.alive.KeepAlive.{KeepAlive}
@@ -16,18 +17,20 @@ use Rattle.tcp_state.specs.declared.emission.Due.TheVariants.{Rst, Syn, Text, Pr
 use Rattle.tcp_state.specs.declared.emission.Stretch.{Stretch}
 use Rattle.tcp_halves.specs.Stream.{outstanding, after_sent}
 use Rattle.tcp_state.specs.View.{View, is_opening, is_syn_received, is_closed}
-use Rattle.tcp_state.specs.Resend.{Resend, resend_probed, resend_acknowledged, resend_first, resend_lost}
+use Rattle.tcp_state.specs.Resend.{Resend, mark_past, resend_probed, resend_acknowledged, resend_first, resend_lost, resend_ends}
 use Rattle.tcp_state.specs.Timing.{KeepsTime, probes, retransmits, awaits_more, running, retransmission_timer, probe_timer, delayed_ack_timer, override_timer, interval_of, awaits_first, unheard_since, clocked, retransmission_expired, probe_expired, after_expiry, delayed_ack_expired, override_expired, after_timers, after_expiries}
-use Rattle.tcp_state.specs.Arrival.{after_heard, is_rejected, begins_wait, answers_probe, is_counted_duplicate, before, since_after, is_moved, resend_heard, resend_after, congestion_event_of, acknowledged_event, resend_signalled, congestion_after, timed_by, after_segment_at}
+use Rattle.tcp_state.specs.Arrival.{after_heard, is_rejected, begins_wait, answers_probe, is_counted_duplicate, blocks_told, before, since_after, is_moved, resend_heard, resend_told, told, reports_more, resend_after, congestion_event_of, is_partial, acknowledged_signal, tells_loss, report_event, resend_signalled, congestion_after, timed_by, after_segment_at}
 use Rattle.tcp_state.specs.Due.{probe_stretch, end_of, after_syn_ack_paid, after_resent, after_first_sent, after_numbers, after_new_octets, after_new_text, brings_new_octets, after_syn_again, after_syn_out, after_stretch, after_probe, after_going_out, after_emitted}
 use Rattle.tcp_state.specs.Edges.{after_first}
 use Rattle.tcp_state.specs.Congestion.{Signal, after_signal}
 use Rattle.tcp_state.specs.Congestion.Signal.{Begins, Counts, Nothing}
-use Rattle.congestion.specs.Control.{repairs}
-use Rattle.congestion.specs.Window.{Window, goes_on as recovers_on, third_is_next}
+use Rattle.congestion.specs.Control.{repairs, is_selective}
+use Rattle.congestion.specs.Window.{Window, third_is_next, is_recovering}
 use Rattle.congestion.specs.Events.{Event}
-use Rattle.congestion.specs.Events.Event.{NewAck, PartialAck, Duplicate}
-use Rattle.tcp_halves.proofs.Choices.{either, clash, and_right}
+use Rattle.congestion.specs.Events.Event.{NewAck, PartialAck, Duplicate, Loss}
+use Rattle.stream_buf.specs.Ranges.{covered}
+use Rattle.tcp_state.specs.Selective.{selects, with_blocks, loss_end}
+use Rattle.tcp_halves.proofs.Choices.{either, clash, and_false, or_left}
 use Rattle.tcp_state.proofs.Segments.{by_clock}
 use Rattle.tcp_state.proofs.Awaited.{waits_on}
 
@@ -210,65 +213,91 @@ heard_paced b w now P moved answered same =
     either Resend P (is_moved b w) (resend_acknowledged w.resend w.sending.una (is_opening b.state) now) _ (λ moves. moved)
     (λ stays. either Resend P b.answers_probe (record w.resend { expiries = 0 }) w.resend (λ answers. answered) (λ other. same))
 
--- what a segment is to the congestion window: nothing, the beginning, an ACK, a partial one, or a duplicate one
-pub signalled : (b : Before) (w : View) (P : Signal → Type 0) → P Nothing → P Begins → ((recovers_on w.congestion && nat_lt 0 w.resend.recover) ≡ false → P (Counts (NewAck (b.held - length w.sending.held) (outstanding w.sending))))
-    → (is_moved b w ≡ true → is_opening b.state ≡ false → (recovers_on w.congestion && nat_lt 0 w.resend.recover) ≡ true → P (Counts (PartialAck (b.held - length w.sending.held))))
-    → (is_moved b w ≡ false → b.is_duplicate ≡ true → P (Counts (Duplicate (outstanding w.sending)))) → P (congestion_event_of b w)
-signalled b w P nothing begins acks parts repeats =
+-- what a segment is to the congestion window: nothing, the beginning, an ACK, a partial one, a duplicate one, or a report that counts
+pub signalled : (b : Before) (w : View) (P : Signal → Type 0) → P Nothing → P Begins → (is_moved b w ≡ true → is_opening b.state ≡ false → is_partial w ≡ false → P (Counts (NewAck (b.held - length w.sending.held) (outstanding w.sending))))
+    → (is_moved b w ≡ true → is_opening b.state ≡ false → is_partial w ≡ true → P (Counts (PartialAck (b.held - length w.sending.held))))
+    → (is_moved b w ≡ false → b.is_duplicate ≡ true → P (Counts (Duplicate (outstanding w.sending)))) → (is_moved b w ≡ false → reports_more b w ≡ true → P (Counts (report_event (told b w)))) → P (congestion_event_of b w)
+signalled b w P nothing begins acks parts repeats tells =
+    let acked = acknowledged_signal w (b.held - length w.sending.held) in
     either Signal P (is_closed w.state) Nothing _ (λ closed. nothing)
-    (λ lives. either Signal P (is_moved b w) (if is_opening b.state then Begins else Counts (acknowledged_event w (b.held - length w.sending.held))) _
-    (λ moves. either Signal P (is_opening b.state) Begins (Counts (acknowledged_event w (b.held - length w.sending.held))) (λ opens. begins)
-    (λ opened. either Event (λ e. P (Counts e)) (recovers_on w.congestion && nat_lt 0 w.resend.recover) (PartialAck (b.held - length w.sending.held)) (NewAck (b.held - length w.sending.held) (outstanding w.sending)) (parts moves opened) acks))
-    (λ stays. either Signal P b.is_duplicate (Counts (Duplicate (outstanding w.sending))) Nothing (λ same. repeats stays same) (λ other. nothing)))
+    (λ lives. either Signal P (is_moved b w) (if is_opening b.state then Begins else acked) _
+    (λ moves. either Signal P (is_opening b.state) Begins acked (λ opens. begins)
+    (λ opened. either Signal P (is_partial w) _ (Counts (NewAck (b.held - length w.sending.held) (outstanding w.sending)))
+    (λ goes. either Signal P (selects w) Nothing (Counts (PartialAck (b.held - length w.sending.held))) (λ rules. nothing) (λ none. parts moves opened goes)) (acks moves opened)))
+    (λ stays. either Signal P b.is_duplicate (Counts (Duplicate (outstanding w.sending))) _ (λ same. repeats stays same)
+    (λ other. either Signal P (reports_more b w) (Counts (report_event (told b w))) Nothing (λ more. tells stays more) (λ none. nothing))))
 
--- what holds of the retransmission state that is left with the clock: the segment at SND.UNA goes out again as lost or as the next of a recovery, or doesn't
-pub after_paced : (b : Before) (w : View) (now : Moment) (P : Resend → Type 0) → P (resend_heard b w now) → P (resend_lost (resend_heard b w now) (repairs w.congestion.control) (outstanding w.sending))
-    → P (resend_first (resend_heard b w now) (outstanding w.sending)) → P (resend_after b w now)
-after_paced b w now P same lost next =
-    signalled b w (λ g. P (resend_signalled (resend_heard b w now) g w.congestion (outstanding w.sending))) same same (λ whole. same) (λ moves opened goes. next)
-    (λ stays twice. either Resend P (third_is_next w.congestion) (resend_lost (resend_heard b w now) (repairs w.congestion.control) (outstanding w.sending)) (resend_heard b w now) (λ third. lost) (λ other. same))
+-- the third duplicate ACK, or a report that tells a loss
+abbrev pub LosesBy : Before → View → Type 0
+LosesBy b w = ((b.is_duplicate ≡ true) × (third_is_next w.congestion ≡ true)) ⊎ ((reports_more b w ≡ true) × (tells_loss (told b w) ≡ true))
+
+-- what it makes of the retransmission state: the segment at SND.UNA goes out again as lost or as the next of a recovery, or doesn't; and a recovery that reports rule ends
+pub by_signal : (b : Before) (w : View) (p : Resend) (P : Resend → Type 0) → P p → (is_moved b w ≡ true → is_opening b.state ≡ false → P (resend_ends p)) → (is_moved b w ≡ true → is_opening b.state ≡ false → is_partial w ≡ true → P (resend_first p (outstanding w.sending)))
+    → ((r : Bool) → is_moved b w ≡ false → LosesBy b w → P (resend_lost p r (outstanding w.sending))) → P (resend_signalled p (congestion_event_of b w) w.congestion (outstanding w.sending))
+by_signal b w p P same ends next lost =
+    signalled b w (λ g. P (resend_signalled p g w.congestion (outstanding w.sending))) same same
+    (λ moves opened whole. either Resend P (is_selective w.congestion.control && is_recovering w.congestion) (resend_ends p) p (λ rules. ends moves opened) (λ other. same)) next
+    (λ stays twice. either Resend P (third_is_next w.congestion) (resend_lost p (repairs w.congestion.control) (outstanding w.sending)) p (λ third. lost (repairs w.congestion.control) stays (inl (twice, third))) (λ other. same))
+    (λ stays more. either Event (λ e. P (resend_signalled p (Counts e) w.congestion (outstanding w.sending))) (tells_loss (told b w)) (Loss (outstanding w.sending)) (Duplicate (outstanding w.sending))
+    (λ loss. lost true stays (inr (more, loss)))
+    (λ early. either Resend P (third_is_next w.congestion) (resend_lost p (repairs w.congestion.control) (outstanding w.sending)) p (λ third. clash (tells_loss (told b w)) (or_left (third_is_next w.congestion) (nat_lt 0 (loss_end (told b w))) third) early) (λ other. same)))
+
+-- what holds of the retransmission state that is left with the clock
+pub after_paced : (b : Before) (w : View) (now : Moment) (P : Resend → Type 0) → P (resend_told b w now) → P (resend_ends (resend_told b w now)) → ((r : Bool) → P (resend_lost (resend_told b w now) r (outstanding w.sending)))
+    → P (resend_first (resend_told b w now) (outstanding w.sending)) → P (resend_after b w now)
+after_paced b w now P same ends lost next = by_signal b w (resend_told b w now) P same (λ moves opened. ends) (λ moves opened goes. next) (λ r stays why. lost r)
 
 -- the end of a recovery stays at its number where SND.UNA moves
 pub recover_kept : (b : Before) (w : View) (now : Moment) → is_moved b w ≡ true → (resend_after b w now).recover ≡ w.resend.recover
 recover_kept b w now moves =
     let P : Resend → Type 0 = λ p. p.recover ≡ w.resend.recover in
     let heard = heard_paced b w now P refl refl refl in
-    signalled b w (λ g. P (resend_signalled (resend_heard b w now) g w.congestion (outstanding w.sending))) heard heard (λ whole. heard) (λ still_moves opened goes. heard)
-    (λ stays twice. clash (is_moved b w) moves stays)
+    by_signal b w (resend_told b w now) P heard (λ still_moves opened. heard) (λ still_moves opened goes. heard) (λ r stays why. clash (is_moved b w) moves stays)
 
--- past the opening, a segment that moves nothing and is no duplicate ACK tells the congestion window nothing
-pub event_none : (b : Before) (w : View) → is_moved b w ≡ false → b.is_duplicate ≡ false → congestion_event_of b w ≡ Nothing
-event_none b w same first =
+-- what is reported once more, or nothing, is as it was
+reports_none : (b : Before) (w : View) → b.blocks ≡ [] → reports_more b w ≡ false
+reports_none b w silent = ap (λ bs. b.counts_reports && nat_lt (covered w.resend.reported) (covered (with_blocks w.resend.reported w.sending bs))) silent ∙ ap (λ t. b.counts_reports && t) (le-ltb (covered w.resend.reported) (covered w.resend.reported) (omega arith)) ∙ and_false b.counts_reports
+
+told_none : (b : Before) (w : View) (now : Moment) → b.blocks ≡ [] → resend_told b w now ≡ resend_heard b w now
+told_none b w now silent =
+    ap (λ bs. let p : Resend = record (resend_heard b w now) { reported = with_blocks w.resend.reported w.sending bs } in p) silent
+    ∙ heard_paced b w now (λ p. record p { reported = w.resend.reported } ≡ p) refl refl refl
+
+-- past the opening, a segment that moves nothing, reports nothing and is no duplicate ACK tells the congestion window nothing
+pub event_none : (b : Before) (w : View) → is_moved b w ≡ false → b.is_duplicate ≡ false → b.blocks ≡ [] → congestion_event_of b w ≡ Nothing
+event_none b w same first silent =
     either Signal (λ e. e ≡ Nothing) (is_closed w.state) Nothing _ (λ closed. refl)
-    (λ lives. ap (λ t. if t then (if is_opening b.state then Begins else Counts (acknowledged_event w (b.held - length w.sending.held))) else if b.is_duplicate then Counts (Duplicate (outstanding w.sending)) else Nothing) same
-    ∙ ap (λ t. if t then Counts (Duplicate (outstanding w.sending)) else Nothing) first)
+    (λ lives. ap (λ t. if t then (if is_opening b.state then Begins else acknowledged_signal w (b.held - length w.sending.held)) else if b.is_duplicate then Counts (Duplicate (outstanding w.sending)) else if reports_more b w then Counts (report_event (told b w)) else Nothing) same
+    ∙ ap (λ t. if t then Counts (Duplicate (outstanding w.sending)) else if reports_more b w then Counts (report_event (told b w)) else Nothing) first
+    ∙ ap (λ t. if t then Counts (report_event (told b w)) else Nothing) (reports_none b w silent))
 
--- .. and puts nothing out again, nor does one that opens the connection, nor one at or past the end of a recovery
-abbrev pub IsNotPartial : Before → View → Type 0
-IsNotPartial b w = (is_moved b w ≡ false) ⊎ ((is_opening b.state ≡ true) ⊎ (w.resend.recover ≡ 0))
+-- .. and puts nothing out again, nor does one that opens the connection
+abbrev pub IsStill : Before → View → Type 0
+IsStill b w = (is_moved b w ≡ false) ⊎ (is_opening b.state ≡ true)
 
-pub resend_unlost : (b : Before) (w : View) (now : Moment) → IsNotPartial b w → b.is_duplicate ≡ false → resend_after b w now ≡ resend_heard b w now
-resend_unlost b w now none first =
-    signalled b w (λ g. resend_signalled (resend_heard b w now) g w.congestion (outstanding w.sending) ≡ resend_heard b w now) refl refl (λ whole. refl)
-    (λ moves opened goes. elim none [
+pub resend_unlost : (b : Before) (w : View) (now : Moment) → IsStill b w → b.is_duplicate ≡ false → b.blocks ≡ [] → resend_after b w now ≡ resend_heard b w now
+resend_unlost b w now none first silent =
+    let acts_not : (T : Type 0) → is_moved b w ≡ true → is_opening b.state ≡ false → T = λ T moves opened. elim none [
       | inl still ↦ clash (is_moved b w) moves still
-      | inr other ↦ elim other [
-        | inl opening ↦ clash (is_opening b.state) opening opened
-        | inr reached ↦ clash (nat_lt 0 w.resend.recover) (and_right (recovers_on w.congestion) (nat_lt 0 w.resend.recover) goes) (ap (nat_lt 0) reached)
-      ]
+      | inr opening ↦ clash (is_opening b.state) opening opened
+    ] in
+    by_signal b w (resend_told b w now) (λ p. p ≡ resend_told b w now) refl (λ moves opened. acts_not _ moves opened) (λ moves opened goes. acts_not _ moves opened)
+    (λ r stays why. elim why [
+      | inl twice ↦ clash b.is_duplicate twice.0 first
+      | inr more ↦ clash (reports_more b w) more.0 (reports_none b w silent)
     ])
-    (λ stays twice. clash b.is_duplicate twice first)
+    ∙ told_none b w now silent
 
 -- what it tells of time leaves what goes out again
-pub marks_kept : (b : Before) (w : View) (now : Moment) → IsNotPartial b w → b.is_duplicate ≡ false → (resend_after b w now).mark ≡ w.resend.mark
-marks_kept b w now none first = ap (λ (p : Resend). p.mark) (resend_unlost b w now none first) ∙ heard_paced b w now (λ p. p.mark ≡ w.resend.mark) refl refl refl
+pub marks_kept : (b : Before) (w : View) (now : Moment) → IsStill b w → b.is_duplicate ≡ false → b.blocks ≡ [] → (resend_after b w now).mark ≡ w.resend.mark
+marks_kept b w now none first silent = ap (λ (p : Resend). p.mark) (resend_unlost b w now none first silent) ∙ heard_paced b w now (λ p. p.mark ≡ w.resend.mark) refl refl refl
 
 -- .. and whether a probe is due
 pub probes_kept : (b : Before) (w : View) (now : Moment) → (resend_after b w now).owes_probe ≡ w.resend.owes_probe
 probes_kept b w now =
     let P : Resend → Type 0 = λ p. p.owes_probe ≡ w.resend.owes_probe in
     let heard = heard_paced b w now P refl refl refl in
-    after_paced b w now P heard heard heard
+    after_paced b w now P heard heard (λ r. heard) heard
 
 -- nothing changed but what is owed
 abbrev pub Owing : View → View → Type 0
@@ -282,29 +311,36 @@ OwingAt v w = w ≡ record v { owes_ack = w.owes_ack; since = w.since; timers = 
 pub unmoved : (v : View) → not (v.sending.una == v.sending.una) ≡ false
 unmoved v = ap not (equal v.sending.una)
 
--- a segment that acknowledges nothing new, does not answer a probe, and is no duplicate ACK changes no timer by itself
-pub timed_unmoved : (b : Before) (w : View) (now : Moment) → is_moved b w ≡ false → b.answers_probe ≡ false → b.is_duplicate ≡ false
+-- a segment that acknowledges nothing new, reports nothing, does not answer a probe, and is no duplicate ACK changes no timer by itself
+pub timed_unmoved : (b : Before) (w : View) (now : Moment) → is_moved b w ≡ false → b.answers_probe ≡ false → b.is_duplicate ≡ false → b.blocks ≡ []
     → timed_by b w now ≡ clocked false (record w { since = since_after b w now; alive = heard_now w.alive now }) now
-timed_unmoved b w now same quiet first =
+timed_unmoved b w now same quiet first silent =
     let since = since_after b w now in
     let alive = heard_now w.alive now in
     let resend : resend_after b w now ≡ w.resend =
-    resend_unlost b w now (inl same) first
+    resend_unlost b w now (inl same) first silent
     ∙ (ap (λ t. if t then resend_acknowledged w.resend w.sending.una (is_opening b.state) now else if b.answers_probe then record w.resend { expiries = 0 } else w.resend) same
     ∙ ap (λ t. if t then record w.resend { expiries = 0 } else w.resend) quiet) in
-    let congestion : congestion_after b w ≡ w.congestion = ap (λ e. after_signal w.congestion e w.sending.smss w.resend.syn_resent) (event_none b w same first) in
+    let congestion : congestion_after b w ≡ w.congestion = ap (λ e. after_signal w.congestion e w.sending.smss w.resend.syn_resent) (event_none b w same first silent) in
     ap (λ t. clocked t (record w { since = since; resend = resend_after b w now; congestion = congestion_after b w; alive = alive }) now) same
     ∙ (ap (λ (p : Resend). clocked false (record w { since = since; resend = p; congestion = congestion_after b w; alive = alive }) now) resend
     ∙ ap (λ (c : Window). clocked false (record w { since = since; congestion = c; alive = alive }) now) congestion)
 
-timed_owing : (v : View) (s : Segment) (owes : Bool) (now : Moment) → KeepsTime v → answers_probe v s ≡ false → is_counted_duplicate v s ≡ false
+timed_owing : (v : View) (s : Segment) (owes : Bool) (now : Moment) → KeepsTime v → answers_probe v s ≡ false → is_counted_duplicate v s ≡ false → blocks_told v s ≡ []
     → OwingAt v (timed_by (before v s) (record v { owes_ack = owes }) now)
-timed_owing v s owes now keeps quiet first =
+timed_owing v s owes now keeps quiet first silent =
     let w = record v { owes_ack = owes } in
-    subst (λ x. OwingAt v x) (sym (timed_unmoved (before v s) w now (unmoved v) quiet first)) (settles v owes (since_after (before v s) w now) (heard_now v.alive now) now keeps)
+    subst (λ x. OwingAt v x) (sym (timed_unmoved (before v s) w now (unmoved v) quiet first silent)) (settles v owes (since_after (before v s) w now) (heard_now v.alive now) now keeps)
 
--- a segment that draws an acknowledgement, or nothing
-pub owing_timed : (v : View) (s : Segment) (now : Moment) → KeepsTime v → answers_probe v s ≡ false → is_counted_duplicate v s ≡ false → Owing v (after_heard v s) → OwingAt v (after_segment_at v s now)
-owing_timed v s now keeps quiet first same =
+-- a segment that draws an acknowledgement, or nothing, and reports nothing
+pub owing_timed : (v : View) (s : Segment) (now : Moment) → KeepsTime v → answers_probe v s ≡ false → is_counted_duplicate v s ≡ false → blocks_told v s ≡ [] → Owing v (after_heard v s) → OwingAt v (after_segment_at v s now)
+owing_timed v s now keeps quiet first silent same =
     by_clock (OwingAt v) v s now refl
-    (λ heard. subst (λ w. OwingAt v (timed_by (before v s) w now)) (sym same) (timed_owing v s (after_heard v s).owes_ack now keeps quiet first))
+    (λ heard. subst (λ w. OwingAt v (timed_by (before v s) w now)) (sym same) (timed_owing v s (after_heard v s).owes_ack now keeps quiet first silent))
+
+-- nothing goes out again where nothing is outstanding
+pub unmarked_after : (b : Before) (w : View) (now : Moment) → w.resend.mark ≡ None → outstanding w.sending ≡ 0 → (resend_after b w now).mark ≡ None
+unmarked_after b w now none idle =
+    let gone : mark_past 0 (outstanding w.sending) ≡ None = ap (mark_past 0) idle in
+    let P : Resend → Type 0 = λ p. p.mark ≡ None in
+    by_signal b w (resend_told b w now) P (heard_paced b w now P none none none) (λ moves opened. refl) (λ moves opened goes. gone) (λ r stays why. gone)

@@ -193,9 +193,9 @@ heard_unset v s now =
     let h = segment_hears v s in
     let resend = resend_after b w now in
     let interval_kept = heard_paced b w now (λ p. p.interval ≡ w.resend.interval) refl refl refl in
-    let interval : resend.interval ≡ w.resend.interval = after_paced b w now (λ p. p.interval ≡ w.resend.interval) interval_kept interval_kept interval_kept in
+    let interval : resend.interval ≡ w.resend.interval = after_paced b w now (λ p. p.interval ≡ w.resend.interval) interval_kept interval_kept (λ r. interval_kept) interval_kept in
     let override_kept = heard_paced b w now (λ p. p.overridden ≡ w.resend.overridden) refl refl refl in
-    let overridden : resend.overridden ≡ w.resend.overridden = after_paced b w now (λ p. p.overridden ≡ w.resend.overridden) override_kept override_kept override_kept in
+    let overridden : resend.overridden ≡ w.resend.overridden = after_paced b w now (λ p. p.overridden ≡ w.resend.overridden) override_kept override_kept (λ r. override_kept) override_kept in
     let P : Resend → Type 0 = λ p. (p.expiries ≡ v.resend.expiries) ⊎ (((p.expiries ≡ 0) × Progress v w) ⊎ Counts v (Hears s now) (record w { resend = p })) in
     let counted : P (resend_heard b w now) = either Resend P (is_moved b w) (resend_acknowledged w.resend w.sending.una (is_opening b.state) now) _ (λ moves. inr (inl (refl, inl (apart v.sending.una w.sending.una moves))))
     (λ unmoved. either Resend P b.answers_probe (record w.resend { expiries = 0 }) w.resend (λ answers. inr (inl (refl, inr (closed_window v s answers)))) (λ other. inl h.expiries)) in
@@ -207,7 +207,7 @@ heard_unset v s now =
         | inr stop ↦ clash (is_closed w.state) stop.1 lives
       ];
       no_probe = λ none. elim h.timers [ inl same ↦ ap (λ (t : Timers). t.probe) same ∙ none | inr stop ↦ ap (λ (t : Timers). t.probe) stop.0 ];
-      expiries = after_paced b w now P counted counted counted;
+      expiries = after_paced b w now P counted counted (λ r. counted) counted;
       overridden = λ none over. elim h.overridden [
         | inl same ↦ let bad : true ≡ false = sym over ∙ overridden ∙ same ∙ none in cc
         | inr not_over ↦ let bad : true ≡ false = sym over ∙ overridden ∙ not_over in cc
@@ -416,7 +416,7 @@ acknowledged v s now = by_clock (λ w. w.sending.una ≢ v.sending.una → w.res
     let P : Resend → Type 0 = λ p. p.expiries ≡ 0 in
     let heard : P (resend_heard b w now) = either Resend P (is_moved b w) (resend_acknowledged w.resend w.sending.una (is_opening b.state) now) _ (λ moved. refl)
     (λ unmoved. elim (eqb_tells v.sending.una w.sending.una) [ inl same ↦ absurd (moves (sym same.1)) | inr differ ↦ clash (not (v.sending.una == w.sending.una)) (of_false (v.sending.una == w.sending.una) differ.0) unmoved ]) in
-    after_paced b w now P heard heard heard)
+    after_paced b w now P heard heard (λ r. heard) heard)
 
 -- a connection that opens no more rejects nothing
 unrejected : (a x y : Bool) (t : State) → is_opening t ≡ false → (a && (is_syn_sent t || (is_syn_received t && x && y))) ≡ false
@@ -441,4 +441,4 @@ answered v s now lives opened shut fits acks unreset =
     (subst (λ x. (true && true && true && true && not x) ≡ true) (sym unreset) refl)))) in
     let heard : P (resend_heard b w now) = either Resend P (is_moved b w) (resend_acknowledged w.resend w.sending.una (is_opening b.state) now) _ (λ moved. refl)
     (λ unmoved. either Resend P (answers_probe v s) (record w.resend { expiries = 0 }) w.resend (λ answers. refl) (λ silent. clash (answers_probe v s) told silent)) in
-    either View (λ x. x.resend.expiries ≡ 0) (is_closed v.state || is_rejected v s) v (timed_by b w now) (λ is. clash (is_closed v.state || is_rejected v s) is quiet) (λ goes. after_paced b w now P heard heard heard)
+    either View (λ x. x.resend.expiries ≡ 0) (is_closed v.state || is_rejected v s) v (timed_by b w now) (λ is. clash (is_closed v.state || is_rejected v s) is quiet) (λ goes. after_paced b w now P heard heard (λ r. heard) heard)

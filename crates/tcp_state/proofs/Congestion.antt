@@ -11,7 +11,7 @@ use Rattle.retransmit.specs.Deadlines.{next_of}
 use Rattle.congestion.specs.Control.{repairs}
 use Rattle.congestion.specs.Window.{Window, is_recovering, goes_on, most_growth}
 use Rattle.congestion.specs.Events.{Event as WindowEvent}
-use Rattle.congestion.specs.Events.Event.{Expiry, Duplicate}
+use Rattle.congestion.specs.Events.Event.{Expiry, Duplicate, Loss}
 use Rattle.tcp_state.specs.declared.arrival.Before.{Before}
 use Rattle.tcp_state.specs.declared.calls.Refusal.TheVariants.{ECONNREFUSED, ETIMEDOUT}
 use Rattle.tcp_state.specs.declared.emission.Due.{Due}
@@ -27,7 +27,7 @@ use Rattle.tcp_state.specs.Congestion.Signal.{Begins, Counts, Nothing}
 use Rattle.tcp_state.specs.Timing.{clocked, gives_up, retransmission_expired, probe_expired, after_expiry, after_timers, after_tick}
 use Rattle.tcp_state.specs.Alive.{alive_after, after_silence}
 use Rattle.tcp_state.specs.Calls.{send_count, beyond_shutdown, shutdown_refusal, after_shutdown, aborted_at, after_release, is_removed_by_close, is_aborted_by_close}
-use Rattle.tcp_state.specs.Arrival.{opened_passively, is_receiving, beyond_fin, after_ack, after_window, after_text, after_fin, after_heard, is_rejected, before, is_moved, resend_heard, resend_after, congestion_event_of, acknowledged_event, congestion_after, timed_by, after_segment_at}
+use Rattle.tcp_state.specs.Arrival.{opened_passively, is_receiving, beyond_fin, after_ack, after_window, after_text, after_fin, after_heard, is_rejected, before, is_moved, resend_heard, resend_after, congestion_event_of, acknowledged_signal, is_partial, reports_more, told, tells_loss, report_event, congestion_after, timed_by, after_segment_at}
 use Rattle.tcp_state.specs.Due.{after_syn_ack_paid, after_syn_out, after_going_out, first_due}
 use Rattle.tcp_state.specs.Unreachable.{is_unreachable}
 use Rattle.tcp_state.specs.Hop.{unheard_until}
@@ -38,7 +38,8 @@ use Rattle.tcp_state.proofs.Segments.{by_fin, by_ack, by_hearing, by_clock}
 use Rattle.tcp_state.proofs.Deadlines.{none_comes}
 use Rattle.tcp_state.proofs.Asked.{asked_sound, asked_congestion}
 use Rattle.tcp_state.proofs.Emissions.{syn_sends, stretch_sends, probe_sends}
-use Rattle.tcp_state.proofs.Growth.{IsSize, IsWindow, holds_segment, first_sound, new_ack_sound, partial_ack_sound, expiry_sound, duplicate_sound, duplicate_segment, new_ack_adds, duplicate_adds}
+use Rattle.tcp_state.specs.Selective.{selects}
+use Rattle.tcp_state.proofs.Growth.{IsSize, IsWindow, holds_segment, first_sound, new_ack_sound, partial_ack_sound, expiry_sound, duplicate_sound, loss_sound, duplicate_segment, new_ack_adds, duplicate_adds}
 
 -- Whether our SYN went out again.
 
@@ -48,7 +49,7 @@ syn_kept b w now = heard_paced b w now (λ p. p.syn_resent ≡ w.resend.syn_rese
 
 -- .. and so does the third duplicate ACK
 syn_kept_after : (b : Before) (w : View) (now : Moment) → (resend_after b w now).syn_resent ≡ w.resend.syn_resent
-syn_kept_after b w now = after_paced b w now (λ p. p.syn_resent ≡ w.resend.syn_resent) (syn_kept b w now) (syn_kept b w now) (syn_kept b w now)
+syn_kept_after b w now = after_paced b w now (λ p. p.syn_resent ≡ w.resend.syn_resent) (syn_kept b w now) (syn_kept b w now) (λ r. syn_kept b w now) (syn_kept b w now)
 
 -- What a segment leaves without the clock.
 
@@ -168,7 +169,8 @@ few w = omega arith
 signal_sound : (b : Before) (w : View) → IsSize w.sending.smss → IsWindow w.congestion → IsWindow (congestion_after b w)
 signal_sound b w size sound =
     signalled b w (λ g. IsWindow (after_signal w.congestion g w.sending.smss w.resend.syn_resent)) sound (first_sound w.congestion.control w.sending.smss w.resend.syn_resent size)
-    (λ whole. new_ack_sound w.congestion (b.held - length w.sending.held) (outstanding w.sending) sound) (λ moves opened goes. partial_ack_sound w.congestion (b.held - length w.sending.held) sound) (λ stays twice. duplicate_sound w.congestion (outstanding w.sending) (few w) sound)
+    (λ moves opened whole. new_ack_sound w.congestion (b.held - length w.sending.held) (outstanding w.sending) sound) (λ moves opened goes. partial_ack_sound w.congestion (b.held - length w.sending.held) sound) (λ stays twice. duplicate_sound w.congestion (outstanding w.sending) (few w) sound)
+    (λ stays more. either WindowEvent (λ e. IsWindow (after_signal w.congestion (Counts e) w.sending.smss w.resend.syn_resent)) (tells_loss (told b w)) (Loss (outstanding w.sending)) (Duplicate (outstanding w.sending)) (λ loss. loss_sound w.congestion (outstanding w.sending) (few w) sound) (λ early. duplicate_sound w.congestion (outstanding w.sending) (few w) sound))
 
 -- it counts in segments of the peer's size, once it has begun
 signal_segment : (v : View) (s : Segment) → v.sending.una < 2 ^ 32 → is_closed v.state ≡ false → KeepsCongestion v
@@ -184,10 +186,12 @@ signal_segment v s fits lives keeps begun =
     by (is_opening v.state ≡ false) (is_opening v.state) (λ opening. clash (is_moved b w) (ap not (k.opens fits opening begun)) still) (λ opened. opened) in
     either Signal P (is_closed w.state) Nothing _ (λ closed. clash (is_idle w.state) (or_right (is_opening w.state) (is_closed w.state) closed) begun)
     (λ on. either Signal P (is_moved b w) _ _
-    (λ moved. either Signal P (is_opening b.state) Begins (Counts (acknowledged_event w (b.held - length w.sending.held))) (λ opens. refl)
-    (λ opened. either WindowEvent (λ e. P (Counts e)) (goes_on w.congestion && nat_lt 0 w.resend.recover) _ _ (λ goes. kept opened) (λ whole. kept opened)))
-    (λ still. either Signal P b.is_duplicate (Counts (Duplicate (outstanding w.sending))) Nothing
-    (λ twice. duplicate_segment w.congestion (outstanding w.sending) ∙ kept (still_open still)) (λ other. kept (still_open still))))
+    (λ moved. either Signal P (is_opening b.state) Begins (acknowledged_signal w (b.held - length w.sending.held)) (λ opens. refl)
+    (λ opened. either Signal P (is_partial w) _ _ (λ goes. either Signal P (selects w) Nothing _ (λ rules. kept opened) (λ none. kept opened)) (λ whole. kept opened)))
+    (λ still. let twice_kept : P (Counts (Duplicate (outstanding w.sending))) = duplicate_segment w.congestion (outstanding w.sending) ∙ kept (still_open still) in
+    either Signal P b.is_duplicate (Counts (Duplicate (outstanding w.sending))) _
+    (λ twice. twice_kept) (λ other. either Signal P (reports_more b w) (Counts (report_event (told b w))) Nothing
+    (λ more. either WindowEvent (λ e. P (Counts e)) (tells_loss (told b w)) (Loss (outstanding w.sending)) (Duplicate (outstanding w.sending)) (λ loss. kept (still_open still)) (λ early. twice_kept)) (λ none. kept (still_open still)))))
   where
     neither : (a b : Bool) → a ≡ false → b ≡ false → (a || b) ≡ false
     neither true b e f = cc
@@ -350,11 +354,14 @@ signal_adds b w c same sound opened runs =
     let none : P Nothing = λ ends. omega arith in
     either Signal P (is_closed w.state) Nothing _ (λ closed. none)
     (λ lives. either Signal P (is_moved b w) _ _
-    (λ moved. either Signal P (is_opening b.state) Begins (Counts (acknowledged_event w (b.held - length w.sending.held))) (λ opens. clash (is_opening b.state) opens opened)
-    (λ past_opening. either WindowEvent (λ e. P (Counts e)) (goes_on w.congestion && nat_lt 0 w.resend.recover) _ _
+    (λ moved. either Signal P (is_opening b.state) Begins (acknowledged_signal w (b.held - length w.sending.held)) (λ opens. clash (is_opening b.state) opens opened)
+    (λ past_opening. either Signal P (is_partial w) _ _
     (λ goes. clash (is_recovering c) (ap is_recovering (sym same) ∙ and_right (repairs w.congestion.control) (is_recovering w.congestion) (and_left (goes_on w.congestion) (nat_lt 0 w.resend.recover) goes)) runs)
     (λ whole ends. new_ack_adds c (b.held - length w.sending.held) (outstanding w.sending) sound runs)))
-    (λ unmoved. either Signal P b.is_duplicate (Counts (Duplicate (outstanding w.sending))) Nothing (λ twice ends. duplicate_adds c (outstanding w.sending) sound runs ends) (λ other. none)))
+    (λ unmoved. let twice_adds : P (Counts (Duplicate (outstanding w.sending))) = λ ends. duplicate_adds c (outstanding w.sending) sound runs ends in
+    either Signal P b.is_duplicate (Counts (Duplicate (outstanding w.sending))) _ (λ twice. twice_adds)
+    (λ other. either Signal P (reports_more b w) (Counts (report_event (told b w))) Nothing
+    (λ more. either WindowEvent (λ e. P (Counts e)) (tells_loss (told b w)) (Loss (outstanding w.sending)) (Duplicate (outstanding w.sending)) (λ loss ends. cc) (λ early. twice_adds)) (λ quiet. none))))
 
 pub raised_by_one : (v : View) (s : Segment) (now : Moment) → KeepsCongestion v → is_opening v.state ≡ false → is_recovering v.congestion ≡ false
     → is_recovering (after_segment_at v s now).congestion ≡ false → (after_segment_at v s now).congestion.cwnd ≤ v.congestion.cwnd + most_growth v.congestion

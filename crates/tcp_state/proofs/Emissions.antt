@@ -12,8 +12,10 @@ use Rattle.tcp_state.specs.Timing.{probes}
 use Rattle.tcp_state.specs.Alive.{is_alive_due}
 use Rattle.tcp_state.specs.New.{sends_new, sends_fin}
 pub use Rattle.tcp_state.specs.Due.{is_ack_due}
-use Rattle.tcp_state.specs.Due.{probe_stretch, end_of, after_resent, after_first_sent, after_numbers, after_new_octets, after_new_text, brings_new_octets, after_syn_out, after_stretch, after_probe, ack_due, again, goes_again, again_from, new_octets, fin_alone, new_due, first_due}
+use Rattle.tcp_state.specs.Due.{probe_stretch, end_of, after_resent, after_first_sent, after_numbers, after_new_octets, after_new_text, brings_new_octets, after_syn_out, after_stretch, after_probe, ack_due, again, again_at, goes_again, again_from, new_octets, fin_alone, new_due, first_due}
 use Rattle.tcp_state.proofs.Clocked.{syn_out}
+use Rattle.stream_buf.proofs.Reports.{gap_from}
+use Rattle.tcp_state.proofs.Places.{IsMarked}
 use Rattle.tcp_halves.proofs.Choices.{either, and_left, and_right}
 
 -- what may be due first
@@ -21,7 +23,7 @@ pub record ByDue (P : Option Due → Type 0) (v : View) : Type 0 where
   pub nothing : is_ack_due v ≡ false → is_alive_due v ≡ false → P None
   pub rst : v.owes_reset ≡ true → P (Some Rst)
   pub syn : is_opening v.state ≡ true → ((outstanding v.sending == 0) || is_some v.resend.mark) ≡ true → P (Some Syn)
-  pub once_more : is_opening v.state ≡ false → (mark : ℕ) → v.resend.mark ≡ Some mark → goes_again v mark ≡ true → P (Some (Text (again v mark)))
+  pub once_more : is_opening v.state ≡ false → (place : ℕ) → IsMarked v place → goes_again v place ≡ true → P (Some (Text (again v place)))
   pub octets : is_opening v.state ≡ false → sends_new v ≡ true → P (Some (Text (new_octets v)))
   pub fin : is_opening v.state ≡ false → sends_fin v ≡ true → P (Some (Text (fin_alone v)))
   pub probe : is_opening v.state ≡ false → v.resend.owes_probe ≡ true → probes v ≡ true → P (Some Probe)
@@ -42,7 +44,8 @@ by_new_due P v cases opened =
 by_mark : (P : Option Due → Type 0) (v : View) → ByDue P v → is_opening v.state ≡ false → (mark : Option ℕ) → v.resend.mark ≡ mark → P (option_or (again_from v mark) (new_due v))
 by_mark P v cases opened None is = by_new_due P v cases opened
 by_mark P v cases opened (Some mark) is =
-    either (Option Due) (λ o. P (option_or o (new_due v))) (goes_again v mark) (Some (Text (again v mark))) None (cases.once_more opened mark is) (λ waits. by_new_due P v cases opened)
+    let place = again_at v mark in
+    either (Option Due) (λ o. P (option_or o (new_due v))) (goes_again v place) (Some (Text (again v place))) None (cases.once_more opened place (record { mark = mark; is = is; at = refl; from = gap_from v.resend.reported mark })) (λ waits. by_new_due P v cases opened)
 
 pub by_due : (P : Option Due → Type 0) (v : View) → ByDue P v → P (first_due v)
 by_due P v cases =

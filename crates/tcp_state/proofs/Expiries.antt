@@ -1,7 +1,7 @@
 -- What an expiry makes of a connection, and which one ends it.
-use Rattle.std.proofs.Common.{◌≡◌, ℕ, ◌+◌, ◌*◌, ◌≤◌, ◌==◌, ◌||◌, ◌&&◌, ◌⊎◌, not, nat_le, nat_lt, min, if◌then◌else◌, Bool, true, false, Option, Some, None, is_some, inl, inr, arith, refl, sym, ◌∙◌, ap}
+use Rattle.std.proofs.Common.{◌≡◌, ℕ, ◌+◌, ◌*◌, ◌≤◌, ◌==◌, ◌||◌, ◌&&◌, ◌⊎◌, not, nat_le, nat_lt, ◌<◌, min, if◌then◌else◌, Bool, true, false, Option, Some, None, is_some, [], inl, inr, arith, refl, sym, ◌∙◌, ap, subst}
 use Rattle.std.specs.Option.{option_or}
-use Rattle.std.proofs.lemmas.Bool.{leb-true, le-leb}
+use Rattle.std.proofs.lemmas.Bool.{leb-true, le-leb, ltb-true}
 use Rattle.clock.specs.declared.moment.Moment.{Moment}
 use Rattle.clock.specs.Moments.{after, has_come}
 use Rattle.retransmit.specs.Deadlines.{next_of}
@@ -14,6 +14,9 @@ use Rattle.tcp_state.specs.Alive.{is_silent, after_silence}
 use Rattle.tcp_state.specs.Timing.{KeepsTime, probes, retransmits, running, clocked, expires, expires_for_good, is_silent_for_good, gives_up, retransmission_expired, probe_expired, after_timers, after_tick}
 use Rattle.tcp_state.specs.Due.{ack_due, again, again_from, new_due, first_due}
 use Rattle.tcp_halves.proofs.Choices.{either, by, clash, and_left, and_right, both, or_left, or_right, or_else, not_true, unowed}
+use Rattle.stream_buf.specs.Ranges.{AreApart}
+use Rattle.congestion.specs.Window.{is_recovering}
+use Rattle.tcp_state.proofs.Places.{at_una_goes, unruled}
 use Rattle.tcp_state.proofs.Clocked.{by_others, timers_keep}
 use Rattle.tcp_state.proofs.Asked.{asked_timed}
 use Rattle.tcp_state.proofs.Deadlines.{timers_come, come_runs}
@@ -37,46 +40,62 @@ record Expired (v w : View) : Type 0 where
   pub once : w.resend.once ≡ false
   pub rto : w.resend.timeout.rto ≡ min 60000 (2 * v.resend.timeout.rto)
   pub none : w.timers.retransmission ≡ None
+  pub reported : w.resend.reported ≡ []
+  pub runs : is_recovering w.congestion ≡ false
 
 expired : (v : View) (now : Moment) → has_come v.timers.retransmission now ≡ true → retransmits v ≡ true → Expired v (after_timers v now)
 expired v now come runs =
     let some : nat_lt 0 (outstanding v.sending) ≡ true = and_left (nat_lt 0 (outstanding v.sending)) (not (probes v)) runs in
     by_others (Expired v) v now
     (either View (Expired v) (has_come v.timers.retransmission now) (retransmission_expired v) _
-    (λ comes. record { mark = ap (λ b. if b then Some 0 else None) some; once = refl; rto = refl; none = refl })
+    (λ comes. record { mark = ap (λ b. if b then Some 0 else None) some; once = refl; rto = refl; none = refl; reported = refl; runs = refl })
     (λ early. clash (has_come v.timers.retransmission now) come early))
-    (λ w owes k. record { mark = k.mark; once = k.once; rto = k.rto; none = k.none })
-    (λ w k. record { mark = k.mark; once = k.once; rto = k.rto; none = k.none })
+    (λ w owes k. record { mark = k.mark; once = k.once; rto = k.rto; none = k.none; reported = k.reported; runs = k.runs })
+    (λ w k. record { mark = k.mark; once = k.once; rto = k.rto; none = k.none; reported = k.reported; runs = k.runs })
 
--- what is marked from SND.UNA on is due first
-marked_due : (w : View) → w.owes_reset ≡ false → w.resend.mark ≡ Some 0 → (first_due w ≡ Some Syn) ⊎ (first_due w ≡ Some (Text (again w 0)))
-marked_due w none mark =
+-- what is marked from SND.UNA on is due first, where nothing is reported and no recovery runs
+marked_due : (w : View) → w.owes_reset ≡ false → w.resend.mark ≡ Some 0 → w.resend.reported ≡ [] → is_recovering w.congestion ≡ false → 0 < outstanding w.sending → (first_due w ≡ Some Syn) ⊎ (first_due w ≡ Some (Text (again w 0)))
+marked_due w none mark silent runs some =
     let sent = outstanding w.sending == 0 in
     let past_opening = option_or (again_from w w.resend.mark) (new_due w) in
     let opens = if sent || is_some w.resend.mark then Some Syn else ack_due w in
     let no_reset = ap (λ b. if b then Some Rst else if is_opening w.state then opens else past_opening) none in
     by ((first_due w ≡ Some Syn) ⊎ (first_due w ≡ Some (Text (again w 0)))) (is_opening w.state)
     (λ opening. inl (no_reset ∙ ap (λ b. if b then opens else past_opening) opening ∙ ap (λ b. if b then Some Syn else ack_due w) (or_right sent (is_some w.resend.mark) (ap is_some mark))))
-    (λ opened. inr (no_reset ∙ ap (λ b. if b then opens else past_opening) opened ∙ ap (λ m. option_or (again_from w m) (new_due w)) mark))
+    (λ opened. inr (no_reset ∙ ap (λ b. if b then opens else past_opening) opened ∙ ap (λ m. option_or (again_from w m) (new_due w)) mark
+    ∙ ap (λ o. option_or o (new_due w)) (at_una_goes w (subst (AreApart 1) (sym silent) tt) (unruled w runs) some)))
 
 begins : (wants : Bool) (o : Option Moment) (now : Moment) (milliseconds timeout : ℕ) → wants ≡ true → o ≡ None → milliseconds ≡ timeout → (if wants then running o now milliseconds else None) ≡ Some (after now timeout)
 begins true None now milliseconds timeout w e same = ap (λ n. Some (after now n)) same
 begins true (Some deadline) now milliseconds timeout w e same = cc
 begins false o now milliseconds timeout w e same = cc
 
-pub sent_again : (v : View) (now : Moment) → IsSound v → KeepsTime v → has_come v.timers.retransmission now ≡ true → is_closed (after_tick v now).state ≡ false
-    → ((after_tick v now).resend.mark ≡ Some 0) × ((after_tick v now).resend.once ≡ false) × ((first_due (after_tick v now) ≡ Some Syn) ⊎ (first_due (after_tick v now) ≡ Some (Text (again (after_tick v now) 0))))
-sent_again v now sound keeps come lives =
-    let P : View → Type 0 = λ w. is_closed w.state ≡ false → (w.resend.mark ≡ Some 0) × (w.resend.once ≡ false) × ((first_due w ≡ Some Syn) ⊎ (first_due w ≡ Some (Text (again w 0)))) in
+-- what an expiry leaves: all that is outstanding goes out again from SND.UNA on, and nothing is reported
+pub record GoesAgain (w : View) : Type 0 where
+  pub mark : w.resend.mark ≡ Some 0
+  pub once : w.resend.once ≡ false
+  pub due : (first_due w ≡ Some Syn) ⊎ (first_due w ≡ Some (Text (again w 0)))
+  pub reported : w.resend.reported ≡ []
+  pub runs : is_recovering w.congestion ≡ false
+
+pub goes_again_all : (v : View) (now : Moment) → IsSound v → KeepsTime v → has_come v.timers.retransmission now ≡ true → is_closed (after_tick v now).state ≡ false → GoesAgain (after_tick v now)
+goes_again_all v now sound keeps come lives =
+    let P : View → Type 0 = λ w. is_closed w.state ≡ false → GoesAgain w in
     let quiet = after_silence v now in
     let acts = clocked false (after_timers quiet now) now in
-    let k = expired quiet now come (sym keeps.retransmission ∙ come_runs v.timers.retransmission now come) in
+    let runs : retransmits v ≡ true = sym keeps.retransmission ∙ come_runs v.timers.retransmission now come in
+    let k = expired quiet now come runs in
     by_expiry P v now (or_left (has_come v.timers.retransmission now) (has_come v.timers.probe now) come) lives
     (λ living.
     let kept = timers_keep quiet now in
     let was : is_closed v.state ≡ false = sym (ap (λ (w : View). is_closed w.state) kept) ∙ living in
     let none : acts.owes_reset ≡ false = ap (λ (w : View). w.owes_reset) kept ∙ unowed v.owes_reset (is_closed v.state) v.released was sound.reset in
-    (k.mark, k.once, marked_due acts none k.mark)) lives
+    let some : 0 < outstanding acts.sending = ltb-true 0 (outstanding acts.sending) (ap (λ (w : View). nat_lt 0 (outstanding w.sending)) kept ∙ and_left (nat_lt 0 (outstanding v.sending)) (not (probes v)) runs) in
+    record { mark = k.mark; once = k.once; due = marked_due acts none k.mark k.reported k.runs some; reported = k.reported; runs = k.runs }) lives
+
+pub sent_again : (v : View) (now : Moment) → IsSound v → KeepsTime v → has_come v.timers.retransmission now ≡ true → is_closed (after_tick v now).state ≡ false
+    → ((after_tick v now).resend.mark ≡ Some 0) × ((after_tick v now).resend.once ≡ false) × ((first_due (after_tick v now) ≡ Some Syn) ⊎ (first_due (after_tick v now) ≡ Some (Text (again (after_tick v now) 0))))
+sent_again v now sound keeps come lives = let all = goes_again_all v now sound keeps come lives in (all.mark, all.once, all.due)
 
 pub backs_off : (v : View) (now : Moment) → KeepsTime v → has_come v.timers.retransmission now ≡ true → is_closed (after_tick v now).state ≡ false
     → (let timeout = min 60000 (2 * v.resend.timeout.rto) in ((after_tick v now).resend.timeout.rto ≡ timeout) × ((after_tick v now).timers.retransmission ≡ Some (after now timeout)))

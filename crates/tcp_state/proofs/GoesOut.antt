@@ -2,7 +2,7 @@
 use Rattle.std.proofs.Common.{◌≡◌, ℕ, suc, ◌+◌, ◌<◌, ◌≤◌, ◌==◌, ◌&&◌, ◌||◌, not, nat_lt, min, if◌then◌else◌, Bool, true, false, length, Some, inl, inr, arith, refl, sym, ◌∙◌, ap, subst}
 use Rattle.std.proofs.lemmas.Bool.{eqb-true, eq-eqb, ltb-true, lt-ltb}
 use Rattle.std.proofs.lemmas.Bool.Decides.{leb_tells, eqb_tells}
-use Rattle.congestion.specs.Window.{allowed}
+use Rattle.tcp_state.specs.Selective.{allowance}
 use Rattle.tcp_state.specs.declared.emission.Due.{Due}
 use Rattle.tcp_state.specs.declared.emission.Due.TheVariants.{Rst, Syn, Text, Probe, Ack, KeepAlive}
 use Rattle.tcp_state.specs.declared.emission.Stretch.{Stretch}
@@ -16,6 +16,7 @@ use Rattle.tcp_state.specs.New.{sends_new, takes_fin, sends_fin, waits_no_longer
 use Rattle.tcp_state.specs.Alive.{may_rest, rests}
 use Rattle.tcp_state.specs.Due.{MayGoOut, IsHeld, first_due, probe_stretch, again, new_octets, fin_alone}
 use Rattle.tcp_halves.proofs.Choices.{either, clash, and_left, and_right, and_false, both, or_else, not_true}
+use Rattle.tcp_state.proofs.Places.{goes_within, again_few, again_some}
 use Rattle.tcp_state.proofs.Emissions.{is_ack_due, by_due}
 
 -- What is outstanding from the mark on: octets that are held, or the FIN behind them.
@@ -35,16 +36,17 @@ held_again v mark sound opened within =
     let o = outstanding v.sending in
     let stretch = again v mark in
     let most = no_more_than (is_opening v.state) (awaits_fin_ack v.state) held o opened sound.flight in
+    let few = again_few v mark in
     record {
       opened = opened;
       joined = omega (arith, within);
-      held = omega (arith, within, most);
-      size = omega (arith, sound.segment);
+      held = omega (arith, few, within, most);
+      size = omega (arith, few, sound.segment);
       some = elim (leb_tells (suc mark) (min held o)) [
-        | inl t ↦ omega (arith, t.1, sound.segment_least)
+        | inl t ↦ let octets = again_some v mark (omega (arith, t.1, sound.segment_least)) in omega (arith, octets)
         | inr t ↦
             let end : mark ≡ held = omega (arith, t.1, within, most) in
-            let count : stretch.count ≡ 0 = omega (arith, end) in
+            let count : stretch.count ≡ 0 = omega (arith, few, end) in
             let last : stretch.fin ≡ true = both (mark + stretch.count == held) (nat_lt held o) (eq-eqb (mark + stretch.count) held (omega (arith, end, count))) (lt-ltb held o (omega (arith, end, within))) in
             subst (λ b. 0 < stretch.count + (if b then 1 else 0)) (sym last) (omega arith)
       ];
@@ -57,12 +59,12 @@ held_again v mark sound opened within =
 -- no FIN goes with octets of a side that isn't closed
 pub without_fin : (v : View) (end : ℕ) → awaits_fin_ack v.state ≡ false → takes_fin v end ≡ false
 without_fin v end open_yet =
-    let rest = nat_lt end (open_window v.sending (allowed v.congestion)) in
+    let rest = nat_lt end (open_window v.sending (allowance v)) in
     ap (λ b. v.minshall && b && (end == length v.sending.held) && rest) open_yet ∙ ap (λ b. b && (end == length v.sending.held) && rest) (and_false v.minshall)
 
 pub held_new : (v : View) → IsSound v → is_opening v.state ≡ false → sends_new v ≡ true → IsHeld v (new_octets v)
 held_new v sound opened sends =
-    let some : 0 < sendable v.sending (allowed v.congestion) = ltb-true 0 (sendable v.sending (allowed v.congestion)) (and_left (nat_lt 0 (sendable v.sending (allowed v.congestion))) (is_worth_sending v.sending (allowed v.congestion) (waits_no_longer v)) sends) in
+    let some : 0 < sendable v.sending (allowance v) = ltb-true 0 (sendable v.sending (allowance v)) (and_left (nat_lt 0 (sendable v.sending (allowance v))) (is_worth_sending v.sending (allowance v) (waits_no_longer v)) sends) in
     record {
       opened = opened;
       joined = omega arith;
@@ -70,10 +72,10 @@ held_new v sound opened sends =
       size = omega (arith, sound.segment);
       some = omega (arith, some, sound.segment_least);
       fin = λ ends.
-          let last = outstanding v.sending + next_count v.sending (allowed v.congestion) == length v.sending.held in
+          let last = outstanding v.sending + next_count v.sending (allowance v) == length v.sending.held in
           let two = and_left (v.minshall && awaits_fin_ack v.state && last) _ ends in (
             and_right v.minshall (awaits_fin_ack v.state) (and_left (v.minshall && awaits_fin_ack v.state) last two),
-            eqb-true (outstanding v.sending + next_count v.sending (allowed v.congestion)) (length v.sending.held) (and_right (v.minshall && awaits_fin_ack v.state) last two),
+            eqb-true (outstanding v.sending + next_count v.sending (allowance v)) (length v.sending.held) (and_right (v.minshall && awaits_fin_ack v.state) last two),
           );
     }
 
@@ -132,7 +134,7 @@ due-may v due sound first = by_due (λ o. (d : Due) → o ≡ Some d → MayGoOu
   nothing = λ quiet heard d e. cc;
   rst = λ owes d e. let same : Rst ≡ d = cc in subst (MayGoOut v) same owes;
   syn = λ opening goes d e. let same : Syn ≡ d = cc in subst (MayGoOut v) same opening;
-  once_more = λ opened mark is goes d e. let same : Text (again v mark) ≡ d = cc in subst (MayGoOut v) same (held_again v mark sound opened (sound.mark mark is));
+  once_more = λ opened place is goes d e. let same : Text (again v place) ≡ d = cc in subst (MayGoOut v) same (held_again v place sound opened (goes_within v place goes));
   octets = λ opened sends d e. let same : Text (new_octets v) ≡ d = cc in subst (MayGoOut v) same (held_new v sound opened sends);
   fin = λ opened sends d e. let same : Text (fin_alone v) ≡ d = cc in subst (MayGoOut v) same (held_fin v opened sends);
   probe = λ opened owes goes d e. let same : Probe ≡ d = cc in subst (MayGoOut v) same (held_probe v opened goes);

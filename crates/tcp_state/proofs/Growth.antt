@@ -4,7 +4,7 @@ use Rattle.std.proofs.Math.Nat.{div-le_of_le-mul, mul-le-mul_right}
 use Rattle.std.proofs.lemmas.Bool.Decides.{nat_tests}
 use Rattle.congestion.specs.declared.control.Control.{Control}
 use Rattle.congestion.specs.Control.{initial_segments}
-use Rattle.congestion.specs.Window.{Window, IsSound, allowed, initial_window, is_recovering, most_counted, growth, most_growth, after_new_ack, after_partial_ack, after_expiry, after_duplicate}
+use Rattle.congestion.specs.Window.{Window, IsSound, allowed, initial_window, is_recovering, most_counted, growth, most_growth, after_new_ack, after_partial_ack, after_expiry, after_duplicate, after_loss}
 
 -- so many octets as a segment may have
 pub record IsSize (smss : ℕ) : Type 0 where
@@ -82,6 +82,17 @@ duplicate_sound w flight small sound = record {
   ssthresh_least = grind (arith, nat_tests);
   ssthresh_most = grind (arith, nat_tests);
   duplicates = grind (arith, nat_tests);
+}
+
+pub loss_sound : (w : Window) (flight : ℕ) → flight < 2 ^ 32 → IsSound w → IsSound (after_loss w flight)
+loss_sound w flight small sound = record {
+  smss_least = sound.smss_least;
+  smss_most = sound.smss_most;
+  cwnd_least = grind (arith, nat_tests);
+  cwnd_most = grind (arith, nat_tests);
+  ssthresh_least = grind (arith, nat_tests);
+  ssthresh_most = grind (arith, nat_tests);
+  duplicates = omega arith;
 }
 
 -- it counts in segments of the size that it had

@@ -2,7 +2,7 @@
 use Rattle.std.proofs.Common.{◌≡◌, ◌+◌, ◌==◌, ◌&&◌, ◌||◌, not, nat_lt, Bool, true, false, if◌then◌else◌, length, Some, None, is_some, arith, refl, sym, ◌∙◌, ap}
 use Rattle.std.proofs.lemmas.Bool.{eqb-true}
 use Rattle.clock.specs.declared.moment.Moment.{Moment}
-use Rattle.congestion.specs.Window.{allowed}
+use Rattle.tcp_state.specs.Selective.{allowance}
 use Rattle.tcp_state.specs.declared.timing.TheConstants.{OVERRIDE_WAIT}
 use Rattle.tcp_halves.specs.Stream.{outstanding}
 use Rattle.tcp_halves.specs.Windows.{sendable, is_worth_sending}
@@ -47,11 +47,11 @@ idle_timers moved v now sound idle =
     let held = neither (not (length v.sending.held == 0)) (awaits_fin_ack v.state) some.1 in
     let empty : length v.sending.held ≡ 0 = eqb-true (length v.sending.held) 0 (not_not (length v.sending.held == 0) held.0) in
     let shut = v.sending.window == 0 in
-    let worth = is_worth_sending v.sending (allowed v.congestion) (waits_no_longer v) in
+    let worth = is_worth_sending v.sending (allowance v) (waits_no_longer v) in
     let silent : probes v ≡ false = ap (λ b. not (is_opening v.state) && shut && b) some.1 ∙ (ap (λ b. not b && shut && false) opened ∙ and_false shut) in
     let most : most_outstanding v ≡ 0 = ap (λ n. n + (if is_opening v.state || awaits_fin_ack v.state then 1 else 0)) empty ∙ (ap (λ b. 0 + (if b || awaits_fin_ack v.state then 1 else 0)) opened ∙ ap (λ b. 0 + (if b then 1 else 0)) held.1) in
     let none : outstanding v.sending ≡ 0 = omega (arith, most, sound.flight) in
     let rests : retransmits v ≡ false = ap (λ n. nat_lt 0 n && not (probes v)) none in
-    let unsent : sendable v.sending (allowed v.congestion) ≡ 0 = omega (arith, empty) in
+    let unsent : sendable v.sending (allowance v) ≡ 0 = omega (arith, empty) in
     let enough : awaits_more v ≡ false = ap (λ n. not (is_opening v.state) && (nat_lt 0 n && not worth)) unsent ∙ and_false (not (is_opening v.state)) in
     none_waits moved v now silent rests enough (awaits_nothing v opened empty held.1)

@@ -91,7 +91,7 @@ timed_left v s now sound =
     let b = before v s in
     let x = after_heard v s in
     let kept = heard_paced b x now (λ p. p.small ≡ x.resend.small) refl refl refl in
-    after_paced b x now (λ p. p.small ≡ x.resend.small) kept kept kept ∙ (heard_left v s sound).0
+    after_paced b x now (λ p. p.small ≡ x.resend.small) kept kept (λ r. kept) kept ∙ (heard_left v s sound).0
 
 -- What goes out.
 

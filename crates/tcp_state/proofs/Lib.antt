@@ -5,6 +5,8 @@ pub mod Events
 pub mod GoesOut
 pub mod Asked
 pub mod AliveBy
+pub mod Selects
+pub mod Places
 pub mod Awaited
 pub mod Idle
 pub mod Clocked
@@ -13,6 +15,7 @@ pub mod Sound
 pub mod Causes
 pub mod Errors
 pub mod Unchanged
+pub mod Allowance
 pub mod Released
 pub mod SilentEnds
 pub mod Positions
@@ -56,6 +59,8 @@ pub mod WrongAcks
 pub mod Waits
 pub mod PeerSizes
 pub mod Signals
+pub mod Scores
+pub mod Repairs
 pub mod Timeouts
 pub mod StillStreams
 pub mod Measuring

@@ -7,7 +7,7 @@ use Rattle.tcp_segment.specs.Segment.{Segment}
 use Rattle.tcp_segment.specs.Wire.{past}
 use Rattle.clock.specs.declared.moment.Moment.{Moment}
 use Rattle.congestion.specs.Window.{third_is_next, goes_on}
-use Rattle.congestion.specs.Events.Event.{Duplicate}
+use Rattle.congestion.specs.Events.Event.{Duplicate, Loss}
 use Rattle.tcp_state.specs.declared.arrival.Before.{Before}
 use Rattle.tcp_state.specs.declared.emission.Due.TheVariants.{Rst, Syn, Text}
 use Rattle.tcp_state.specs.declared.emission.Stretch.{Stretch}
@@ -17,14 +17,18 @@ use Rattle.tcp_halves.specs.Numbers.{is_before}
 use Rattle.tcp_halves.specs.Halves.{Sending}
 use Rattle.tcp_halves.specs.Stream.{outstanding, is_new_ack}
 use Rattle.tcp_halves.specs.Windows.{window_in, updates_window}
-use Rattle.tcp_state.specs.Resend.{Resend, stopped, mark_past, mark_left, resend_lost}
+use Rattle.tcp_state.specs.Resend.{Resend, stopped, is_alone, mark_past, mark_left, resend_lost, resend_ends}
 use Rattle.tcp_state.specs.View.{View, IsSound, is_opening, is_syn_sent, is_syn_received, is_closed}
 use Rattle.tcp_state.specs.Congestion.{Signal}
 use Rattle.tcp_state.specs.Congestion.Signal.{Begins, Counts, Nothing}
-use Rattle.tcp_state.specs.Arrival.{owing_ack, after_establishment, is_receiving, beyond_fin, is_of_fin, fin_acknowledged, after_new_ack, after_ack, is_read, after_window, after_text, counts_fin, after_fin, is_lost, after_lost, after_segment, after_heard, octets_outstanding, is_duplicate, before, is_moved, resend_heard, resend_after, congestion_event_of, timed_by, after_segment_at, acknowledged_event, counts_duplicates, is_counted_duplicate, resend_signalled}
+use Rattle.stream_buf.specs.Ranges.{AreApart}
+use Rattle.tcp_state.specs.Selective.{with_blocks, repairs_gaps, loss_end}
+use Rattle.tcp_state.proofs.Places.{at_una_goes}
+use Rattle.tcp_state.proofs.Selects.{silent_unselected, counted_selects_none, ends_none}
+use Rattle.tcp_state.specs.Arrival.{owing_ack, after_establishment, is_receiving, beyond_fin, is_of_fin, fin_acknowledged, after_new_ack, after_ack, is_read, after_window, after_text, counts_fin, after_fin, is_lost, after_lost, after_segment, after_heard, octets_outstanding, is_duplicate, before, is_moved, resend_after, congestion_event_of, resend_told, reports_more, told, tells_loss, report_event, reports_loss, timed_by, after_segment_at, acknowledged_signal, counts_duplicates, is_counted_duplicate, resend_signalled}
 use Rattle.tcp_state.specs.Due.{end_of, after_resent, after_first_sent, after_numbers, after_new_text, brings_new_octets, after_emitted, ack_due, again, again_from, new_due, first_due}
 use Rattle.tcp_state.proofs.Clocked.{comes_to, unmoved, heard_paced, signalled}
-use Rattle.tcp_halves.proofs.Choices.{either, clash, and_left, and_right, and_false, not_true, unowed}
+use Rattle.tcp_halves.proofs.Choices.{either, clash, and_left, and_right, and_false, both, not_true, unowed}
 use Rattle.tcp_state.proofs.Segments.{IsRead, by_fin, by_ack, by_hearing, by_clock, read_tells, reads, not_rejected}
 use Rattle.tcp_state.proofs.Congestion.{window_kept}
 
@@ -111,17 +115,18 @@ numbers_stay v s =
 
 -- by it the segment at SND.UNA is lost
 loses : (v : View) (s : Segment) (now : Moment) → is_closed v.state ≡ false → is_counted_duplicate v s ≡ true → third_is_next v.congestion ≡ true
-    → (let b = before v s in let w = after_window v s in resend_after b w now ≡ resend_lost (resend_heard b w now) (repairs w.congestion.control) (outstanding w.sending))
+    → (let b = before v s in let w = after_window v s in resend_after b w now ≡ resend_lost (resend_told b w now) (repairs w.congestion.control) (outstanding w.sending))
 loses v s now lives is third =
     let b = before v s in
     let w = after_window v s in
-    let signal : Signal = if is_moved b w then (if is_opening b.state then Begins else Counts (acknowledged_event w (b.held - length w.sending.held))) else if b.is_duplicate then Counts (Duplicate (outstanding w.sending)) else Nothing in
+    let other : Signal = if reports_more b w then Counts (report_event (told b w)) else Nothing in
+    let signal : Signal = if is_moved b w then (if is_opening b.state then Begins else acknowledged_signal w (b.held - length w.sending.held)) else if b.is_duplicate then Counts (Duplicate (outstanding w.sending)) else other in
     let still : is_moved b w ≡ false = ap (λ n. not (v.sending.una == n)) (numbers_stay v s).0 ∙ unmoved v in
     let event : congestion_event_of b w ≡ Counts (Duplicate (outstanding w.sending)) =
     ap (λ t. if t then Nothing else signal) lives
-    ∙ ap (λ t. if t then (if is_opening b.state then Begins else Counts (acknowledged_event w (b.held - length w.sending.held))) else if b.is_duplicate then Counts (Duplicate (outstanding w.sending)) else Nothing) still
-    ∙ ap (λ t. if t then Counts (Duplicate (outstanding w.sending)) else Nothing) is in
-    let resend = resend_heard b w now in
+    ∙ ap (λ t. if t then (if is_opening b.state then Begins else acknowledged_signal w (b.held - length w.sending.held)) else if b.is_duplicate then Counts (Duplicate (outstanding w.sending)) else other) still
+    ∙ ap (λ t. if t then Counts (Duplicate (outstanding w.sending)) else other) is in
+    let resend = resend_told b w now in
     ap (λ g. resend_signalled resend g w.congestion (outstanding w.sending)) event ∙ ap (λ t. if t then resend_lost resend (repairs w.congestion.control) (outstanding w.sending) else resend) third
 
 pub third_resends : (v : View) (s : Segment) (now : Moment) → IsSound v → is_closed v.state ≡ false → is_counted_duplicate v s ≡ true → third_is_next v.congestion ≡ true
@@ -139,7 +144,10 @@ third_resends v s now sound lives is third =
     ap (λ b. if b then Some Rst else if is_opening v.state then (if (outstanding x.sending == 0) || is_some x.resend.mark then Some Syn else ack_due x) else option_or (again_from x x.resend.mark) (new_due x))
     (unowed v.owes_reset (is_closed v.state) v.released lives sound.reset)
     ∙ ap (λ b. if b then (if (outstanding x.sending == 0) || is_some x.resend.mark then Some Syn else ack_due x) else option_or (again_from x x.resend.mark) (new_due x)) t.opened
-    ∙ ap (λ m. option_or (again_from x m) (new_due x)) mark in
+    ∙ ap (λ m. option_or (again_from x m) (new_due x)) mark
+    ∙ ap (λ o. option_or o (new_due x)) (at_una_goes x
+    (subst (AreApart 1) (sym (ap (λ (p : Resend). p.reported) lost ∙ ap (with_blocks v.resend.reported w.sending) (silent_unselected v s (counted_selects_none v (and_right (is_duplicate v s) (counts_duplicates v) is))))) sound.resend.reported.apart)
+    (ap (λ b. repairs_gaps x && not b) (ap (λ (p : Resend). p.once) lost) ∙ and_false (repairs_gaps x)) (ltb-true 0 (outstanding x.sending) (ap (nat_lt 0) (numbers_stay v s).1 ∙ t.some))) in
     subst (λ u. (first_due u ≡ Some (Text (again u 0))) × (u.resend.once ≡ true)) (sym at) (due, ap (λ (p : Resend). p.once) lost)
 
 -- No other.
@@ -176,29 +184,39 @@ heard_marks_none v s opened none =
     })
 
 -- a third duplicate ACK, and where a recovery goes on a partial one, put a segment out again, and nothing else
-pub others_unlost : (b : Before) (w : View) (now : Moment) → goes_on w.congestion ≡ false → (b.is_duplicate && third_is_next w.congestion) ≡ false → resend_after b w now ≡ resend_heard b w now
-others_unlost b w now stands other =
-    let resend = resend_heard b w now in
-    signalled b w (λ g. resend_signalled resend g w.congestion (outstanding w.sending) ≡ resend) refl refl (λ whole. refl)
+pub others_unlost : (b : Before) (w : View) (now : Moment) → goes_on w.congestion ≡ false → (b.is_duplicate && third_is_next w.congestion) ≡ false → ((not (is_moved b w) && reports_more b w) && tells_loss (told b w)) ≡ false
+    → resend_after b w now ≡ resend_told b w now
+others_unlost b w now stands other unreported =
+    let resend = resend_told b w now in
+    signalled b w (λ g. resend_signalled resend g w.congestion (outstanding w.sending) ≡ resend) refl refl
+    (λ moves opened whole. ap (λ t. if t then resend_ends resend else resend) (ends_none w.congestion stands))
     (λ moves opened goes. clash (goes_on w.congestion) (and_left (goes_on w.congestion) (nat_lt 0 w.resend.recover) goes) stands)
     (λ stays twice. ap (λ t. if t then resend_lost resend (repairs w.congestion.control) (outstanding w.sending) else resend) (second_false b.is_duplicate (third_is_next w.congestion) twice other))
+    (λ stays more.
+    let early : tells_loss (told b w) ≡ false = second_false (not (is_moved b w) && reports_more b w) (tells_loss (told b w)) (both (not (is_moved b w)) (reports_more b w) (ap not stays) more) unreported in
+    ap (λ t. resend_signalled resend (Counts (if t then Loss (outstanding w.sending) else Duplicate (outstanding w.sending))) w.congestion (outstanding w.sending)) early
+    ∙ ap (λ t. if t then resend_lost resend (repairs w.congestion.control) (outstanding w.sending) else resend) (first_false (third_is_next w.congestion) (nat_lt 0 (loss_end (told b w))) early))
   where
+    first_false : (x y : Bool) → (x || y) ≡ false → x ≡ false
+    first_false true y e = cc
+    first_false false y e = refl
+
     second_false : (x y : Bool) → x ≡ true → (x && y) ≡ false → y ≡ false
     second_false true y e f = f
     second_false false y e f = cc
 
-pub others_resend_none : (v : View) (s : Segment) (now : Moment) → IsSound v → v.resend.mark ≡ None → is_opening v.state ≡ false → goes_on v.congestion ≡ false → (is_counted_duplicate v s && third_is_next v.congestion) ≡ false
+pub others_resend_none : (v : View) (s : Segment) (now : Moment) → IsSound v → v.resend.mark ≡ None → is_opening v.state ≡ false → goes_on v.congestion ≡ false → (is_counted_duplicate v s && third_is_next v.congestion) ≡ false → reports_loss v s ≡ false
     → (after_segment_at v s now).resend.mark ≡ None
-others_resend_none v s now sound none opened stands other =
+others_resend_none v s now sound none opened stands other unreported =
     let b = before v s in
     let w = after_heard v s in
     by_clock (λ x. x.resend.mark ≡ None) v s now none
-    (λ lives. ap (λ (p : Resend). p.mark) (others_unlost b w now (ap goes_on (window_kept v s) ∙ stands) (ap (λ c. is_counted_duplicate v s && third_is_next c) (window_kept v s) ∙ other))
+    (λ lives. ap (λ (p : Resend). p.mark) (others_unlost b w now (ap goes_on (window_kept v s) ∙ stands) (ap (λ c. is_counted_duplicate v s && third_is_next c) (window_kept v s) ∙ other) unreported)
     ∙ (heard_paced b w now (λ p. p.mark ≡ w.resend.mark) refl refl refl ∙ heard_marks_none v s opened none))
 
 -- That segment alone.
 
-pub resends_alone : (v : View) (stretch : Stretch) (now : Moment) → v.resend.once ≡ true → nat_lt stretch.offset (outstanding v.sending) ≡ true → (after_emitted v (Text stretch) now).resend.mark ≡ None
+pub resends_alone : (v : View) (stretch : Stretch) (now : Moment) → is_alone v.resend ≡ true → nat_lt stretch.offset (outstanding v.sending) ≡ true → (after_emitted v (Text stretch) now).resend.mark ≡ None
 resends_alone v stretch now once again =
     let P : View → Type 0 = λ w. w.resend.mark ≡ None in
     let sent = after_numbers v stretch.offset (end_of stretch) now in

@@ -53,7 +53,7 @@ timed_same : (v : View) (s : Segment) (now : Moment) → Same v (timed_by (befor
 timed_same v s now =
     let b = before v s in
     let x = after_heard v s in
-    after_paced b x now (λ p. p.syn_resent ≡ (resend_heard b x now).syn_resent) refl refl refl ∙ (syn_kept b x now ∙ heard_same v s)
+    after_paced b x now (λ p. p.syn_resent ≡ (resend_heard b x now).syn_resent) refl refl (λ r. refl) refl ∙ (syn_kept b x now ∙ heard_same v s)
 
 -- What goes out.
 

@@ -85,7 +85,7 @@ abbrev GoesOn : View → Event → Timed → View → Type 0
 GoesOn v e timed w = (w.resend.timed ≡ Some timed) ⊎ ((w.resend.timed ≡ None) × Ends v e timed w)
 
 loss_leaves : (b : Before) (w : View) (now : Moment) → (resend_after b w now).timed ≡ (resend_heard b w now).timed
-loss_leaves b w now = after_paced b w now (λ p. p.timed ≡ (resend_heard b w now).timed) refl refl refl
+loss_leaves b w now = after_paced b w now (λ p. p.timed ≡ (resend_heard b w now).timed) refl refl (λ r. refl) refl
 
 unmoved : (b : Before) (w : View) (now : Moment) → is_moved b w ≡ false → (resend_heard b w now).timed ≡ w.resend.timed
 unmoved b w now stays =

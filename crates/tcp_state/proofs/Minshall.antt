@@ -3,7 +3,7 @@ use Rattle.std.proofs.Common.{◌≡◌, ℕ, ◌==◌, ◌&&◌, ◌||◌, not,
 use Rattle.tcp_segment.specs.Segment.{Segment}
 use Rattle.tcp_halves.specs.Windows.{open_window, takes_enough}
 use Rattle.tcp_halves.proofs.Choices.{either}
-use Rattle.congestion.specs.Window.{allowed}
+use Rattle.tcp_state.specs.Selective.{allowance}
 use Rattle.tcp_state.specs.View.{View, awaits_fin_ack}
 use Rattle.tcp_state.specs.Alive.{after_silence}
 use Rattle.tcp_state.specs.New.{takes_last, passes_full, takes_fin}
@@ -17,8 +17,8 @@ use Rattle.tcp_state.proofs.Segments.{by_ack, by_fin, by_hearing}
 -- without it they wait for all that is outstanding, and no FIN goes with new octets
 pub plain_waits : (v : View) → v.minshall ≡ false → (passes_full v ≡ false) × ((end : ℕ) → takes_fin v end ≡ false)
 plain_waits v plain = (
-  ap (λ b. b && takes_enough v.sending (allowed v.congestion) && ((v.resend.small == 0) || takes_last v)) plain,
-  λ end. ap (λ b. b && awaits_fin_ack v.state && (end == length v.sending.held) && nat_lt end (open_window v.sending (allowed v.congestion))) plain,
+  ap (λ b. b && takes_enough v.sending (allowance v) && ((v.resend.small == 0) || takes_last v)) plain,
+  λ end. ap (λ b. b && awaits_fin_ack v.state && (end == length v.sending.held) && nat_lt end (open_window v.sending (allowance v))) plain,
 )
 
 abbrev Same : View → View → Type 0

@@ -9,7 +9,7 @@ use Rattle.clock.specs.Moments.{has_come}
 use Rattle.retransmit.specs.Deadlines.{next_of}
 use Rattle.retransmit.specs.declared.timers.TimerKind.TheVariants.{Retransmission, Override}
 use Rattle.retransmit.specs.declared.timers.TimerKind.{TimerKind}
-use Rattle.congestion.specs.Window.{allowed, Window}
+use Rattle.tcp_state.specs.Selective.{repairs_gaps, allowance}
 use Rattle.tcp_state.specs.declared.calls.Refusal.TheVariants.{ETIMEDOUT}
 use Rattle.tcp_state.specs.declared.resend.TheConstants.{MOST_EXPIRIES}
 use Rattle.tcp_state.specs.declared.state.State.{State}
@@ -19,23 +19,26 @@ use Rattle.tcp_state.specs.declared.emission.Due.TheVariants.{Rst, Syn, Text, Pr
 use Rattle.tcp_state.specs.declared.emission.Stretch.{Stretch}
 use Rattle.tcp_halves.specs.Halves.{Sending}
 use Rattle.tcp_halves.specs.Stream.{outstanding}
-use Rattle.tcp_halves.specs.Windows.{open_window, sendable, takes_enough, is_worth_sending}
+use Rattle.tcp_halves.specs.Windows.{sendable, takes_enough, is_worth_sending}
 use Rattle.tcp_state.specs.View.{View, IsSound, is_opening, is_closed, is_write_finished, awaits_fin_ack, takes_flag_number, end_of_wait, is_at_end, after_stop, after_reset}
 use Rattle.tcp_state.specs.Congestion.{KeepsCongestion}
 use Rattle.tcp_state.specs.Alive.{may_rest, is_silent, after_silence}
 use Rattle.tcp_state.specs.Timing.{KeepsTime, has_unacknowledged, probes, clocked, expires, expires_for_good, is_silent_for_good, gives_up, retransmission_expired, probe_expired, after_expiry, delayed_ack_expired, override_expired, after_timers, after_tick}
 use Rattle.tcp_state.specs.New.{passes_full, sends_new, sends_fin, waits_no_longer}
-use Rattle.tcp_state.specs.Due.{probe_stretch, ack_due, again, goes_again, again_from, new_octets, fin_alone, new_due, first_due}
+use Rattle.tcp_state.specs.Due.{probe_stretch, ack_due, again, again_at, goes_again, again_from, new_octets, fin_alone, new_due, first_due}
 use Rattle.tcp_state.specs.Said.{segment_of}
 use Rattle.tcp_state.specs.Progress.{AllCome, BringsOldest}
 use Rattle.tcp_halves.proofs.Choices.{either, by, clash, and_left, and_right, and_false, both, or_left, or_right, or_else, neither, of_false}
-use Rattle.tcp_state.proofs.Growth.{allows_some}
+use Rattle.stream_buf.specs.Ranges.{AreApart}
+use Rattle.tcp_state.proofs.Allowance.{allowance_some}
+use Rattle.tcp_state.proofs.Again.{again_within}
+use Rattle.tcp_state.proofs.Places.{goes_within, again_few, again_some, at_una_goes, unruled}
 use Rattle.tcp_state.proofs.Unchanged.{none_below}
 use Rattle.tcp_state.proofs.GoesOut.{without_fin}
 use Rattle.tcp_state.proofs.ResetAges.{live}
 use Rattle.tcp_state.proofs.Clocked.{timers_keep}
 use Rattle.tcp_state.proofs.Deadlines.{timers_come, busy}
-use Rattle.tcp_state.proofs.Expiries.{sent_again, probes_again, probes_alone}
+use Rattle.tcp_state.proofs.Expiries.{goes_again_all, probes_again}
 use Rattle.tcp_state.proofs.StillStreams.{ticks_leave}
 use Rattle.tcp_state.proofs.Fewer.{holds_where}
 
@@ -149,26 +152,26 @@ once_open w s =
     ∙ ap (λ b. if b then (if (outstanding w.sending == 0) || is_some w.resend.mark then Some Syn else ack_due w) else option_or (again_from w w.resend.mark) (new_due w)) s.opened
 
 -- what is outstanding goes out again from SND.UNA on
-marked_brings : (w : View) → Sends w → 0 < outstanding w.sending → w.resend.mark ≡ Some 0 → Brings w (first_due w)
-marked_brings w s out mark = (
+marked_brings : (w : View) → Sends w → 0 < outstanding w.sending → w.resend.mark ≡ Some 0 → AreApart 1 w.resend.reported → (repairs_gaps w && not w.resend.once) ≡ false → Brings w (first_due w)
+marked_brings w s out mark apart plain = (
   Text (again w 0),
-  once_open w s ∙ ap (λ m. option_or (again_from w m) (new_due w)) mark,
-  stretch_brings w (again w 0) s.small s.some refl (omega (arith, out, s.some, s.size)) (omega arith) (again_fin w 0 s),
+  once_open w s ∙ ap (λ m. option_or (again_from w m) (new_due w)) mark ∙ ap (λ o. option_or o (new_due w)) (at_una_goes w apart plain out),
+  stretch_brings w (again w 0) s.small s.some refl (again_some w 0 (omega (arith, out, s.some, s.size))) (let few = again_few w 0 in omega (arith, few)) (again_fin w 0 s),
 )
 
 -- a closed window takes nothing else again, and nothing new but the probe
 probe_is_new : (w : View) → w.sending.window ≡ 0 → w.resend.owes_probe ≡ true → probes w ≡ true → new_due w ≡ Some Probe
 probe_is_new w shut owes goes =
-    let none : sendable w.sending (allowed w.congestion) ≡ 0 = omega (arith, shut) in
+    let none : sendable w.sending (allowance w) ≡ 0 = omega (arith, shut) in
     let no_room : nat_lt (outstanding w.sending) w.sending.window ≡ false = lt-leb (suc (outstanding w.sending)) w.sending.window (omega (arith, shut)) in
     let all = awaits_fin_ack w.state && (outstanding w.sending == length w.sending.held) in
     let no_fin : sends_fin w ≡ false = ap (λ b. all && b) no_room ∙ and_false all in
-    ap (λ n. if nat_lt 0 n && is_worth_sending w.sending (allowed w.congestion) (waits_no_longer w) then Some (Text (new_octets w)) else if sends_fin w then Some (Text (fin_alone w)) else if w.resend.owes_probe && probes w then Some Probe else ack_due w) none
+    ap (λ n. if nat_lt 0 n && is_worth_sending w.sending (allowance w) (waits_no_longer w) then Some (Text (new_octets w)) else if sends_fin w then Some (Text (fin_alone w)) else if w.resend.owes_probe && probes w then Some Probe else ack_due w) none
     ∙ (ap (λ b. if b then Some (Text (fin_alone w)) else if w.resend.owes_probe && probes w then Some Probe else ack_due w) no_fin
     ∙ ap (λ b. if b then Some Probe else ack_due w) (both w.resend.owes_probe (probes w) owes goes))
 
-probed_brings : (w : View) → Sends w → w.sending.window ≡ 0 → w.resend.owes_probe ≡ true → probes w ≡ true → ((mark : ℕ) → w.resend.mark ≡ Some mark → mark < outstanding w.sending) → Brings w (first_due w)
-probed_brings w s shut owes goes within = subst (Brings w) (sym (once_open w s)) (marked w.resend.mark refl)
+probed_brings : (w : View) → Sends w → w.sending.window ≡ 0 → w.resend.owes_probe ≡ true → probes w ≡ true → Brings w (first_due w)
+probed_brings w s shut owes goes = subst (Brings w) (sym (once_open w s)) (marked w.resend.mark refl)
   where
     new : new_due w ≡ Some Probe
     new = probe_is_new w shut owes goes
@@ -176,20 +179,21 @@ probed_brings w s shut owes goes within = subst (Brings w) (sym (once_open w s))
     marked : (mark : Option ℕ) → w.resend.mark ≡ mark → Brings w (option_or (again_from w mark) (new_due w))
     marked None is = (Probe, new, probe_brings w s.some s.size)
     marked (Some mark) is =
-        either (Option Due) (λ o. Brings w (option_or o (new_due w))) (goes_again w mark) (Some (Text (again w mark))) None
+        let place = again_at w mark in
+        either (Option Due) (λ o. Brings w (option_or o (new_due w))) (goes_again w place) (Some (Text (again w place))) None
         (λ goes_it.
-        let first : mark ≡ 0 = elim (or_else (mark == 0) (nat_lt mark (open_window w.sending w.congestion.cwnd)) goes_it) [
-          | inl at_una ↦ eqb-true mark 0 at_una
-          | inr room ↦ let below : mark < open_window w.sending w.congestion.cwnd = ltb-true mark (open_window w.sending w.congestion.cwnd) room in absurd (omega (arith, below, shut))
+        let below = goes_within w place goes_it in
+        let first : place ≡ 0 = elim (again_within w place goes_it below) [
+          | inl at_una ↦ at_una
+          | inr room ↦ let inside = room.0 in absurd (omega (arith, inside, shut))
         ] in
-        let below = within mark is in
-        (Text (again w mark), refl, stretch_brings w (again w mark) s.small s.some first (omega (arith, first, below, s.some, s.size)) (omega arith) (again_fin w mark s)))
+        (Text (again w place), refl, stretch_brings w (again w place) s.small s.some first (again_some w place (omega (arith, first, below, s.some, s.size))) (let few = again_few w place in omega (arith, few)) (again_fin w place s)))
         (λ waits. (Probe, new, probe_brings w s.some s.size))
 
 -- nothing is outstanding: new octets begin there
 new_brings : (w : View) → Sends w → outstanding w.sending ≡ 0 → w.resend.mark ≡ None → sends_new w ≡ true → Brings w (first_due w)
 new_brings w s idle unmarked sends =
-    let some : 0 < sendable w.sending (allowed w.congestion) = ltb-true 0 (sendable w.sending (allowed w.congestion)) (and_left (nat_lt 0 (sendable w.sending (allowed w.congestion))) (is_worth_sending w.sending (allowed w.congestion) (waits_no_longer w)) sends) in (
+    let some : 0 < sendable w.sending (allowance w) = ltb-true 0 (sendable w.sending (allowance w)) (and_left (nat_lt 0 (sendable w.sending (allowance w))) (is_worth_sending w.sending (allowance w) (waits_no_longer w)) sends) in (
       Text (new_octets w),
       once_open w s ∙ (ap (λ m. option_or (again_from w m) (new_due w)) unmarked
           ∙ ap (λ b. if b then Some (Text (new_octets w)) else if sends_fin w then Some (Text (fin_alone w)) else if w.resend.owes_probe && probes w then Some Probe else ack_due w) sends),
@@ -214,13 +218,14 @@ record Idles (v : View) (now : Moment) (w : View) : Type 0 where
   pub over : has_come v.timers.overriding now ≡ true → w.resend.overridden ≡ true
   pub nodelay : w.nodelay ≡ v.nodelay
   pub passes : passes_full w ≡ passes_full v
+  pub room : allowance w ≡ allowance v
 
 override_idles : (v : View) (owes : Bool) (now : Moment) → Idles v now (override_expired (record v { owes_ack = owes }) now)
 override_idles v owes now =
     let x = record v { owes_ack = owes } in
     either View (Idles v now) (has_come v.timers.overriding now) _ x
-    (λ is. record { mark = refl; congestion = refl; still = λ o. refl; over = λ o. refl; nodelay = refl; passes = refl })
-    (λ early. record { mark = refl; congestion = refl; still = λ o. o; over = λ is. clash (has_come v.timers.overriding now) is early; nodelay = refl; passes = refl })
+    (λ is. record { mark = refl; congestion = refl; still = λ o. refl; over = λ o. refl; nodelay = refl; passes = refl; room = refl })
+    (λ early. record { mark = refl; congestion = refl; still = λ o. o; over = λ is. clash (has_come v.timers.overriding now) is early; nodelay = refl; passes = refl; room = refl })
 
 timers_idle : (v : View) (now : Moment) → expires v now ≡ false → Idles v now (after_timers v now)
 timers_idle v now none =
@@ -234,7 +239,7 @@ timers_idle v now none =
 tick_idles : (v : View) (now : Moment) → is_closed (after_tick v now).state ≡ false → expires v now ≡ false → Idles v now (after_tick v now)
 tick_idles v now lives none =
     by_live_tick (Idles v now) v now lives
-    (let k = timers_idle (after_silence v now) now none in record { mark = k.mark; congestion = k.congestion; still = k.still; over = k.over; nodelay = k.nodelay; passes = k.passes })
+    (let k = timers_idle (after_silence v now) now none in record { mark = k.mark; congestion = k.congestion; still = k.still; over = k.over; nodelay = k.nodelay; passes = k.passes; room = k.room })
     (λ early. record {
       mark = refl;
       congestion = refl;
@@ -244,6 +249,7 @@ tick_idles v now lives none =
           clash (has_come v.timers.overriding now) is (neither (has_come v.timers.delayed_ack now) (has_come v.timers.overriding now) others).1;
       nodelay = refl;
       passes = refl;
+      room = refl;
     })
 
 -- Together.
@@ -259,12 +265,12 @@ over_still : (undelayed before after : Bool) → (before ≡ true → after ≡ 
 over_still true before after e w = refl
 over_still false before after e w = e w
 
-sends_where : (v w : View) → w.sending ≡ v.sending → w.congestion ≡ v.congestion → nat_lt 0 (sendable v.sending (allowed v.congestion)) ≡ true
-    → is_worth_sending v.sending (allowed v.congestion) ((w.nodelay && takes_enough v.sending (allowed v.congestion)) || passes_full w || w.resend.overridden) ≡ true → sends_new w ≡ true
-sends_where v w sending congestion goes worth =
-    ap (λ (t : Sending). nat_lt 0 (sendable t (allowed w.congestion)) && is_worth_sending t (allowed w.congestion) ((w.nodelay && takes_enough t (allowed w.congestion)) || passes_full w || w.resend.overridden)) sending
-    ∙ (ap (λ (c : Window). nat_lt 0 (sendable v.sending (allowed c)) && is_worth_sending v.sending (allowed c) ((w.nodelay && takes_enough v.sending (allowed c)) || passes_full w || w.resend.overridden)) congestion
-    ∙ both (nat_lt 0 (sendable v.sending (allowed v.congestion))) (is_worth_sending v.sending (allowed v.congestion) ((w.nodelay && takes_enough v.sending (allowed v.congestion)) || passes_full w || w.resend.overridden)) goes worth)
+sends_where : (v w : View) → w.sending ≡ v.sending → allowance w ≡ allowance v → nat_lt 0 (sendable v.sending (allowance v)) ≡ true
+    → is_worth_sending v.sending (allowance v) ((w.nodelay && takes_enough v.sending (allowance v)) || passes_full w || w.resend.overridden) ≡ true → sends_new w ≡ true
+sends_where v w sending room goes worth =
+    ap (λ (t : Sending). nat_lt 0 (sendable t (allowance w)) && is_worth_sending t (allowance w) ((w.nodelay && takes_enough t (allowance w)) || passes_full w || w.resend.overridden)) sending
+    ∙ (ap (λ n. nat_lt 0 (sendable v.sending n) && is_worth_sending v.sending n ((w.nodelay && takes_enough v.sending n) || passes_full w || w.resend.overridden)) room
+    ∙ both (nat_lt 0 (sendable v.sending (allowance v))) (is_worth_sending v.sending (allowance v) ((w.nodelay && takes_enough v.sending (allowance v)) || passes_full w || w.resend.overridden)) goes worth)
 
 over_worth : (full alone over : Bool) → over ≡ true → (full || alone || over) ≡ true
 over_worth true alone over e = refl
@@ -312,9 +318,7 @@ closed_brings v now sound keeps some all few shut =
     let s = sends_after v now sound some few in
     let come = comes v.timers.probe now (keeps.probe ∙ probing v (holds_where v sound some).opened some shut) (all TimerKind.Probe) in
     let window : w.sending.window ≡ 0 = ap (λ (t : Sending). t.window) k.0 ∙ eqb-true v.sending.window 0 shut in
-    let out : outstanding w.sending ≡ outstanding v.sending = ap outstanding k.0 in
     probed_brings w s window (probes_again v now keeps come lives).2 (probing w s.opened s.some (ap (λ (t : Sending). t.window == 0) k.0 ∙ shut))
-    (λ mark is. let below : mark < outstanding v.sending = sound.mark mark (sym (probes_alone v now keeps come lives).2 ∙ is) in omega (arith, below, out))
 
 -- it is open, and octets are outstanding
 outstanding_brings : (v : View) (now : Moment) → IsSound v → KeepsTime v → 0 < length v.sending.held → AllCome v.timers now → v.resend.expiries < 12 → probes v ≡ false → 0 < outstanding v.sending
@@ -323,7 +327,8 @@ outstanding_brings v now sound keeps some all few unprobed more =
     let lives = stays_up v now sound some few in
     let out : outstanding (after_tick v now).sending ≡ outstanding v.sending = ap outstanding (leaves_streams v now sound some few).0 in
     let come = comes v.timers.retransmission now (keeps.retransmission ∙ both (nat_lt 0 (outstanding v.sending)) (not (probes v)) (lt-ltb 0 (outstanding v.sending) more) (of_false (probes v) unprobed)) (all Retransmission) in
-    marked_brings (after_tick v now) (sends_after v now sound some few) (omega (arith, out, more)) (sent_again v now sound keeps come lives).0
+    let again_all = goes_again_all v now sound keeps come lives in
+    marked_brings (after_tick v now) (sends_after v now sound some few) (omega (arith, out, more)) again_all.mark (subst (AreApart 1) (sym again_all.reported) tt) (unruled (after_tick v now) again_all.runs)
 
 -- it is open, and nothing is
 idle_brings : (v : View) (now : Moment) → IsSound v → KeepsTime v → KeepsCongestion v → 0 < length v.sending.held → AllCome v.timers now → v.resend.expiries < 12 → probes v ≡ false → 0 < v.sending.window → outstanding v.sending ≡ 0
@@ -331,13 +336,13 @@ idle_brings : (v : View) (now : Moment) → IsSound v → KeepsTime v → KeepsC
 idle_brings v now sound keeps network some all few unprobed room idle =
     let w = after_tick v now in
     let sent = v.sending in
-    let cwnd = allowed v.congestion in
+    let cwnd = allowance v in
     let k = leaves_streams v now sound some few in
     let opened = (holds_where v sound some).opened in
     let none : expires v now ≡ false =
     ap (λ b. b || has_come v.timers.probe now) (runs_not v.timers.retransmission now (keeps.retransmission ∙ ap (λ n. nat_lt 0 n && not (probes v)) idle)) ∙ runs_not v.timers.probe now (keeps.probe ∙ unprobed) in
     let i = tick_idles v now (stays_up v now sound some few) none in
-    let some_network : 0 < cwnd = allows_some v.congestion network.sound in
+    let some_network : 0 < cwnd = allowance_some v sound network idle in
     let may : nat_lt 0 (sendable sent cwnd) ≡ true = lt-ltb 0 (sendable sent cwnd) (omega (arith, room, some_network, idle, some)) in
     let full = nat_le sent.smss (sendable sent cwnd) in
     let alone = (outstanding sent == 0) && takes_enough sent cwnd in
@@ -351,7 +356,7 @@ idle_brings v now sound keeps network some all few unprobed room idle =
     let awaits = both (not (is_opening v.state)) (nat_lt 0 (sendable sent cwnd) && not (is_worth_sending sent cwnd before)) (of_false (is_opening v.state) opened)
     (both (nat_lt 0 (sendable sent cwnd)) (not (is_worth_sending sent cwnd before)) may (of_false (is_worth_sending sent cwnd before) waits)) in
     over_worth full alone after (or_right ((w.nodelay && takes_enough sent cwnd) || passes_full w) w.resend.overridden (i.over (comes v.timers.overriding now (keeps.overriding awaits) (all Override))))) in
-    new_brings w (sends_after v now sound some few) (ap outstanding k.0 ∙ idle) (i.mark ∙ none_below v.resend.mark (outstanding sent) idle sound.mark) (sends_where v w k.0 i.congestion may worth)
+    new_brings w (sends_after v now sound some few) (ap outstanding k.0 ∙ idle) (i.mark ∙ none_below v.resend.mark (outstanding sent) idle sound.mark) (sends_where v w k.0 i.room may worth)
 
 pub oldest_brought : (v : View) (now : Moment) → IsSound v → KeepsTime v → KeepsCongestion v → 0 < length v.sending.held → AllCome v.timers now → v.resend.expiries < 12
     → (due : Due) × (first_due (after_tick v now) ≡ Some due) × BringsOldest (after_tick v now) (segment_of (after_tick v now) due)

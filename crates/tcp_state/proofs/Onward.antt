@@ -24,6 +24,7 @@ use Rattle.tcp_state.proofs.Segments.{after_reading, by_fin, by_ack, ack_receive
 use Rattle.tcp_state.proofs.Events.{by_event}
 use Rattle.tcp_halves.proofs.Keeping.{IsKeeping, gained_fits, in_units}
 use Rattle.tcp_state.proofs.Sound.{sound_keeping}
+use Rattle.tcp_state.proofs.Places.{goes_within, again_few}
 use Rattle.tcp_state.proofs.Emissions.{by_due, numbers_send, numbers_receive, stretch_sends, stretch_receives, probe_sends, probe_receives}
 
 -- One number.
@@ -301,10 +302,11 @@ by_emission v now sound =
       nothing = λ quiet heard. still v v refl refl refl;
       rst = λ owes. still v _ refl refl refl;
       syn = λ opening goes. let out = after_going_out v Syn now in alike v out (clocked false out now) refl refl (by_syn v now sound);
-      once_more = λ opened mark is goes.
-          let within : mark < outstanding v.sending = sound.mark mark is in
-          let stretch = again v mark in
-          let size : stretch.offset + stretch.count ≤ 1060000 = omega (arith, within, few, sound.segment) in
+      once_more = λ opened place is goes.
+          let within = goes_within v place goes in
+          let octets = again_few v place in
+          let stretch = again v place in
+          let size : stretch.offset + stretch.count ≤ 1060000 = omega (arith, octets, within, few, sound.segment) in
           let end = flag_number stretch.fin stretch.offset stretch.count 1060000 size in
           text stretch (omega (arith, end));
       octets = λ opened sends.

@@ -1,7 +1,7 @@
 -- Why an acknowledgement that is owed goes out alone where nothing else waits.
 use Rattle.std.proofs.Common.{◌≡◌, ◌+◌, ◌≤◌, ◌==◌, ◌||◌, ◌&&◌, not, nat_lt, if◌then◌else◌, Bool, true, false, [], length, Some, None, is_some, inl, arith, refl, ◌∙◌, ap, subst}
 use Rattle.std.specs.Option.{option_or}
-use Rattle.congestion.specs.Window.{allowed}
+use Rattle.tcp_state.specs.Selective.{allowance}
 use Rattle.tcp_state.specs.declared.emission.Due.TheVariants.{Rst, Syn, Text, Probe, Ack, KeepAlive}
 use Rattle.tcp_halves.specs.Stream.{outstanding}
 use Rattle.tcp_halves.specs.Windows.{sendable, is_worth_sending}
@@ -43,12 +43,12 @@ pub ack_or_probe : (v : View) → IsSound v → is_opening v.state ≡ false →
 ack_or_probe v sound opened shut empty lives =
     let none = none_out v sound opened shut empty in
     let held : length v.sending.held ≡ 0 = ap length empty in
-    let few : sendable v.sending (allowed v.congestion) ≡ 0 = omega (arith, held) in
+    let few : sendable v.sending (allowance v) ≡ 0 = omega (arith, held) in
     let probed = unprobed v shut empty in
     ap (λ b. if b then Some Rst else if is_opening v.state then (if (outstanding v.sending == 0) || is_some v.resend.mark then Some Syn else ack_due v) else option_or (again_from v v.resend.mark) (new_due v)) (live v sound lives)
     ∙ (ap (λ b. if b then (if (outstanding v.sending == 0) || is_some v.resend.mark then Some Syn else ack_due v) else option_or (again_from v v.resend.mark) (new_due v)) opened
     ∙ (ap (λ m. option_or (again_from v m) (new_due v)) (none_below v.resend.mark (outstanding v.sending) none sound.mark)
-    ∙ (ap (λ n. if nat_lt 0 n && is_worth_sending v.sending (allowed v.congestion) (waits_no_longer v) then Some (Text (new_octets v)) else if sends_fin v then Some (Text (fin_alone v)) else if v.resend.owes_probe && probes v then Some Probe else ack_due v) few
+    ∙ (ap (λ n. if nat_lt 0 n && is_worth_sending v.sending (allowance v) (waits_no_longer v) then Some (Text (new_octets v)) else if sends_fin v then Some (Text (fin_alone v)) else if v.resend.owes_probe && probes v then Some Probe else ack_due v) few
     ∙ (ap (λ b. if b && (outstanding v.sending == length v.sending.held) && nat_lt (outstanding v.sending) v.sending.window then Some (Text (fin_alone v)) else if v.resend.owes_probe && probes v then Some Probe else ack_due v) shut
     ∙ (ap (λ b. if v.resend.owes_probe && b then Some Probe else ack_due v) probed
     ∙ ap (λ b. if b then Some Probe else ack_due v) (and_false v.resend.owes_probe))))))

@@ -25,6 +25,7 @@ use Rattle.tcp_state.proofs.Clocked.{timers_keep, emission_keeps}
 use Rattle.tcp_state.proofs.Segments.{opened_by_syn_ack, by_ack, by_fin, by_segment, by_clock}
 use Rattle.tcp_state.proofs.StillStreams.{emissions_leave}
 use Rattle.tcp_state.proofs.Events.{by_event}
+use Rattle.tcp_state.proofs.Places.{again_few}
 use Rattle.tcp_state.proofs.Emissions.{by_due}
 
 -- what the peer's SYN settles: the most octets of a segment, whether windows are scaled and what is kept is reported, how many octets each half holds, and the units of the windows; and beside it how
@@ -294,7 +295,7 @@ keeps_to_size v due sound first =
       nothing = λ quiet heard d e. cc;
       rst = λ owes d e. let same : Rst ≡ d = cc in subst (λ x. length (octets_of v x) ≤ most) same (omega arith);
       syn = λ opening goes d e. let same : Syn ≡ d = cc in subst (λ x. length (octets_of v x) ≤ most) same (omega arith);
-      once_more = λ opened mark is goes d e. let same : Text (again v mark) ≡ d = cc in subst (λ x. length (octets_of v x) ≤ most) same (short v (again v mark) most (omega arith));
+      once_more = λ opened place is goes d e. let same : Text (again v place) ≡ d = cc in subst (λ x. length (octets_of v x) ≤ most) same (short v (again v place) most (let few = again_few v place in omega (arith, few)));
       octets = λ opened sends d e. let same : Text (new_octets v) ≡ d = cc in subst (λ x. length (octets_of v x) ≤ most) same (short v (new_octets v) most (omega arith));
       fin = λ opened sends d e. let same : Text (fin_alone v) ≡ d = cc in subst (λ x. length (octets_of v x) ≤ most) same (short v (fin_alone v) most (omega arith));
       probe = λ opened owes goes d e. let same : Probe ≡ d = cc in let one = probe_short v in subst (λ x. length (octets_of v x) ≤ most) same (short v (probe_stretch v) most (omega (arith, one, sound.segment_least)));

@@ -58,7 +58,7 @@ timed_same v s now =
     let b = before v s in
     let x = after_heard v s in
     let kept = heard_paced b x now (λ p. p.resent ≡ x.resend.resent) refl refl refl in
-    after_paced b x now (λ p. p.resent ≡ x.resend.resent) kept kept kept ∙ heard_same v s
+    after_paced b x now (λ p. p.resent ≡ x.resend.resent) kept kept (λ r. kept) kept ∙ heard_same v s
 
 -- What goes out.
 

@@ -26,11 +26,16 @@ use Rattle.tcp_state.specs.Alive.{alive_after, after_silence}
 use Rattle.tcp_state.specs.Timing.{probes, clocked, retransmission_expired, probe_expired, after_timers, after_expiries}
 use Rattle.tcp_state.specs.Congestion.{Signal, after_signal}
 use Rattle.tcp_state.specs.Congestion.Signal.{Begins, Counts, Nothing}
-use Rattle.tcp_state.specs.Arrival.{owing_ack, is_receiving, is_of_fin, beyond_fin, beyond_end, after_new_ack, after_ack, after_window, after_text, after_heard, is_rejected, is_duplicate, counts_duplicates, is_counted_duplicate, before, is_moved, resend_heard, acknowledged_event, congestion_event_of, resend_signalled, resend_after, timed_by, after_segment_at}
+use Rattle.tcp_state.specs.Arrival.{owing_ack, is_receiving, is_of_fin, beyond_fin, beyond_end, after_new_ack, after_ack, after_window, after_text, after_heard, is_rejected, is_duplicate, counts_duplicates, is_counted_duplicate, before, is_moved, resend_heard, resend_told, told, reports_more, tells_loss, report_event, is_report, reports_loss, acknowledged_signal, congestion_event_of, resend_signalled, resend_after, timed_by, after_segment_at}
 use Rattle.tcp_state.specs.Counted.{IsDuplicate}
 use Rattle.tcp_state.specs.Due.{ack_due, again, again_from, new_due, first_due, probe_stretch, end_of, after_resent, after_first_sent, after_numbers, after_new_octets, after_new_text, brings_new_octets, after_syn_ack_paid, after_syn_out, after_emitted}
 use Rattle.tcp_state.specs.Edges.{Event, Hears, Ticks, Emits, after_first, after_event}
-use Rattle.tcp_state.proofs.Clocked.{by_others, heard_paced, signalled, recover_kept, syn_out}
+use Rattle.stream_buf.specs.Ranges.{AreApart}
+use Rattle.tcp_state.specs.Selective.{selects, repairs_gaps, with_blocks}
+use Rattle.tcp_state.proofs.Selects.{silent_unselected, more_counts, report_counts}
+use Rattle.tcp_state.proofs.Places.{at_una_goes}
+use Rattle.tcp_state.proofs.Scores.{heard_scores}
+use Rattle.tcp_state.proofs.Clocked.{by_others, heard_paced, signalled, by_signal, recover_kept, syn_out}
 use Rattle.tcp_state.proofs.Asked.{asked_sound}
 use Rattle.tcp_state.proofs.Congestion.{window_kept}
 use Rattle.tcp_state.proofs.Deadlines.{none_comes}
@@ -38,7 +43,7 @@ use Rattle.tcp_state.proofs.Duplicates.{window_stays, repeats, comes_alone, una_
 use Rattle.tcp_state.proofs.Events.{by_event}
 use Rattle.tcp_state.proofs.Losses.{past_opening}
 use Rattle.tcp_state.proofs.Segments.{by_fin, by_ack, by_hearing, by_clock}
-use Rattle.tcp_state.proofs.Signals.{duplicates_are, heard_is, moved_hears, is_moved_by, counts_partly, counts_duplicate, goes_on as ticks_on, others_count_none}
+use Rattle.tcp_state.proofs.Signals.{duplicates_are, heard_is, heard_selects, moved_hears, is_moved_by, counts_partly, counts_no_part, counts_duplicate, goes_on as ticks_on, others_count_none}
 use Rattle.tcp_state.proofs.StillStreams.{emissions_leave}
 
 -- Its end keeps its number.
@@ -106,7 +111,7 @@ heard_left v s sound =
 
 -- a third duplicate ACK, or an expiry, notes another
 abbrev Notes : View → Event → Type 0
-Notes v e = ((s : Segment) × (now : Moment) × (e ≡ Hears s now) × (is_counted_duplicate v s ≡ true) × (third_is_next v.congestion ≡ true))
+Notes v e = ((s : Segment) × (now : Moment) × (e ≡ Hears s now) × (((is_counted_duplicate v s ≡ true) × (third_is_next v.congestion ≡ true)) ⊎ (reports_loss v s ≡ true)))
     ⊎ ((now : Moment) × (e ≡ Ticks now) × (has_come v.timers.retransmission now ≡ true))
 
 timed_left : (v : View) (s : Segment) (now : Moment) → IsSound v → Left v (timed_by (before v s) (after_heard v s) now) ⊎ Notes v (Hears s now)
@@ -115,44 +120,55 @@ timed_left v s now sound =
     let x = after_heard v s in
     let G : Resend → Type 0 = λ p. (p.recover ≡ v.resend.recover - past x.sending.una v.sending.una) ⊎ Notes v (Hears s now) in
     let heard : (resend_heard b x now).recover ≡ x.resend.recover = heard_paced b x now (λ p. p.recover ≡ x.resend.recover) refl refl refl in
-    let same : G (resend_heard b x now) = inl (heard ∙ (heard_left v s sound).0) in
-    signalled b x (λ g. G (resend_signalled (resend_heard b x now) g x.congestion (outstanding x.sending))) same same (λ whole. same) (λ moves opened goes. same)
-    (λ stays twice. either Resend G (third_is_next x.congestion) (resend_lost (resend_heard b x now) (repairs x.congestion.control) (outstanding x.sending)) (resend_heard b x now)
-    (λ third. inr (inl (s, now, refl, twice, ap third_is_next (sym (window_kept v s)) ∙ third))) (λ other. same))
+    let same : G (resend_told b x now) = inl (heard ∙ (heard_left v s sound).0) in
+    by_signal b x (resend_told b x now) G same (λ moves opened. same) (λ moves opened goes. same)
+    (λ r stays why. inr (inl (
+      s,
+      now,
+      refl,
+      elim why [
+        | inl twice ↦ inl (twice.0, ap third_is_next (sym (window_kept v s)) ∙ twice.1)
+        | inr more ↦ inr (both (not (is_moved b x) && reports_more b x) (tells_loss (told b x)) (both (not (is_moved b x)) (reports_more b x) (ap not stays) more.0) more.1)
+      ],
+    )))
 
 -- What goes out leaves it.
 
-numbers_left : (v : View) (offset end : ℕ) (now : Moment) → (after_numbers v offset end now).resend.recover ≡ v.resend.recover
-numbers_left v offset end now = either View (λ w. w.resend.recover ≡ v.resend.recover) (nat_lt offset (outstanding v.sending)) (after_resent v end) (after_first_sent v end now) (λ again. refl) (λ first. refl)
+-- nor what is reported
+abbrev pub KeepsEnds : View → View → Type 0
+KeepsEnds v w = (w.resend.recover ≡ v.resend.recover) × (w.resend.reported ≡ v.resend.reported)
 
-emitted_left : (v : View) (due : Due) (now : Moment) → (after_emitted v due now).resend.recover ≡ v.resend.recover
-emitted_left v Rst now = refl
+numbers_left : (v : View) (offset end : ℕ) (now : Moment) → KeepsEnds v (after_numbers v offset end now)
+numbers_left v offset end now = either View (KeepsEnds v) (nat_lt offset (outstanding v.sending)) (after_resent v end) (after_first_sent v end now) (λ again. (refl, refl)) (λ first. (refl, refl))
+
+emitted_left : (v : View) (due : Due) (now : Moment) → KeepsEnds v (after_emitted v due now)
+emitted_left v Rst now = (refl, refl)
 emitted_left v Syn now =
-    let P : View → Type 0 = λ w. w.resend.recover ≡ v.resend.recover in
+    let P : View → Type 0 = KeepsEnds v in
     let sent = numbers_left v 0 1 now in
     let out : P (after_syn_out v now) = syn_out v now P sent sent in
     either View P (is_syn_received v.state) (after_syn_ack_paid (after_syn_out v now)) (after_syn_out v now) (λ received. out) (λ waits. out)
 emitted_left v (Text stretch) now =
-    let P : View → Type 0 = λ w. w.resend.recover ≡ v.resend.recover in
+    let P : View → Type 0 = KeepsEnds v in
     let sent = after_numbers v stretch.offset (end_of stretch) now in
     let all = numbers_left v stretch.offset (end_of stretch) now in
     either View P (brings_new_octets v stretch) (after_new_text sent stretch) sent (λ new. all) (λ old. all)
 emitted_left v Probe now =
-    let P : View → Type 0 = λ w. w.resend.recover ≡ v.resend.recover in
+    let P : View → Type 0 = KeepsEnds v in
     let sent = record v { sending = after_sent v.sending (end_of (probe_stretch v)); resend = resend_probed v.resend } in
-    either View P (brings_new_octets v (probe_stretch v)) (after_new_octets sent) sent (λ new. refl) (λ old. refl)
-emitted_left v Ack now = refl
-emitted_left v KeepAlive now = refl
+    either View P (brings_new_octets v (probe_stretch v)) (after_new_octets sent) sent (λ new. (refl, refl)) (λ old. (refl, refl))
+emitted_left v Ack now = (refl, refl)
+emitted_left v KeepAlive now = (refl, refl)
+
+pub first_left : (v : View) (o : Option Due) (now : Moment) → KeepsEnds v (after_first v o now)
+first_left v None now = (refl, refl)
+first_left v (Some due) now = emitted_left v due now
 
 emits_left : (v : View) (now : Moment) → IsSound v → Left v (after_event v (Emits now))
 emits_left v now sound =
     let w = after_event v (Emits now) in
     let una : w.sending.una ≡ v.sending.una = ap (λ (t : Sending). t.una) (emissions_leave v now).0 in
-    first_left (first_due v) ∙ there v sound ∙ ap (λ n. v.resend.recover - past n v.sending.una) (sym una)
-  where
-    first_left : (o : Option Due) → (after_first v o now).resend.recover ≡ v.resend.recover
-    first_left None = refl
-    first_left (Some due) = emitted_left v due now
+    (first_left v (first_due v) now).0 ∙ there v sound ∙ ap (λ n. v.resend.recover - past n v.sending.una) (sym una)
 
 -- Timers.
 
@@ -188,7 +204,7 @@ noted_at_expiry v now on comes alive =
 
 pub end_stays : (v : View) (e : Event) → IsSound v
     → ((after_event v e).resend.recover ≡ v.resend.recover - past (after_event v e).sending.una v.sending.una)
-    ⊎ (((s : Segment) × (now : Moment) × (e ≡ Hears s now) × (is_counted_duplicate v s ≡ true) × (third_is_next v.congestion ≡ true))
+    ⊎ (((s : Segment) × (now : Moment) × (e ≡ Hears s now) × (((is_counted_duplicate v s ≡ true) × (third_is_next v.congestion ≡ true)) ⊎ (reports_loss v s ≡ true)))
     ⊎ ((now : Moment) × (e ≡ Ticks now) × (has_come v.timers.retransmission now ≡ true)))
 end_stays v e sound =
     let here = there v sound in
@@ -225,17 +241,22 @@ Ended v e = ((s : Segment) × (now : Moment) × (e ≡ Hears s now) × ((after_e
 
 -- an ACK of new octets does, if it is no partial one
 ended_by : (v : View) (s : Segment) (now : Moment) → IsSound v → is_opening v.state ≡ false → goes_on v.congestion ≡ true → is_recovering (after_event v (Hears s now)).congestion ≡ false
-    → is_closed (after_event v (Hears s now)).state ≡ false → ((after_event v (Hears s now)).sending.una ≢ v.sending.una) ⊎ (IsDuplicate v s × (counts_duplicates v ≡ true)) → Ended v (Hears s now)
+    → is_closed (after_event v (Hears s now)).state ≡ false → ((after_event v (Hears s now)).sending.una ≢ v.sending.una) ⊎ ((IsDuplicate v s × (counts_duplicates v ≡ true)) ⊎ (is_report v s ≡ true)) → Ended v (Hears s now)
 ended_by v s now sound opened on ends alive how =
     let w = after_event v (Hears s now) in
     let recovers = and_right (repairs v.congestion.control) (is_recovering v.congestion) on in
     elim how [
       | inl moved ↦ by (Ended v (Hears s now)) (goes_on v.congestion && nat_lt 0 w.resend.recover)
-          (λ part. clash (is_recovering w.congestion) (ap is_recovering (counts_partly v s now opened moved alive part) ∙ recovers) ends)
+          (λ part. by (Ended v (Hears s now)) (selects v)
+          (λ rules. clash (is_recovering w.congestion) (ap is_recovering (counts_no_part v s now opened moved alive part rules) ∙ recovers) ends)
+          (λ plain. clash (is_recovering w.congestion) (ap is_recovering (counts_partly v s now opened moved alive part plain) ∙ recovers) ends))
           (λ whole.
           let none = ltb-false 0 w.resend.recover (ap (λ b. b && nat_lt 0 w.resend.recover) (sym on) ∙ whole) in
           inl (s, now, refl, moved, omega (arith, none)))
-      | inr twice ↦ clash (is_recovering w.congestion) (ap is_recovering (counts_duplicate v s now sound twice.0 twice.1) ∙ twice_recovers v.congestion (past v.sending.nxt v.sending.una) recovers) ends
+      | inr told_so ↦ elim told_so [
+        | inl twice ↦ clash (is_recovering w.congestion) (ap is_recovering (counts_duplicate v s now sound twice.0 twice.1) ∙ twice_recovers v.congestion (past v.sending.nxt v.sending.una) recovers) ends
+        | inr reports ↦ clash (is_recovering v.congestion) recovers (report_counts v s reports).runs
+      ]
     ]
 
 pub ends_at_end : (v : View) (e : Event) → IsSound v → is_opening v.state ≡ false → goes_on v.congestion ≡ true → is_recovering (after_event v e).congestion ≡ false
@@ -246,7 +267,7 @@ ends_at_end v e sound opened on ends =
       | inl same ↦ clash (is_recovering v.congestion) (and_right (repairs v.congestion.control) (is_recovering v.congestion) on) (sym (ap is_recovering same) ∙ ends)
       | inr tells ↦ elim tells [
         | inl hears ↦ subst (λ (d : Event). is_recovering (after_event v d).congestion ≡ false → is_closed (after_event v d).state ≡ false
-            → ((after_event v d).sending.una ≢ v.sending.una) ⊎ (IsDuplicate v hears.0 × (counts_duplicates v ≡ true)) → Ended v d)
+            → ((after_event v d).sending.una ≢ v.sending.una) ⊎ ((IsDuplicate v hears.0 × (counts_duplicates v ≡ true)) ⊎ (is_report v hears.0 ≡ true)) → Ended v d)
             (sym hears.2) (ended_by v hears.0 hears.1 sound opened on) ends hears.3 hears.4
         | inr expires ↦ inr expires
       ]
@@ -260,22 +281,26 @@ none_below v s now on runs some =
     let x = after_heard v s in
     let kept : is_recovering x.congestion ≡ false = ap is_recovering (window_kept v s) ∙ runs in
     let more : (v.resend.recover == 0) ≡ false = elim (eqb_tells v.resend.recover 0) [ inl none ↦ let zero = none.1 in absurd (omega (arith, some, zero)) | inr other ↦ other.0 ] in
-    let uncounted : counts_duplicates v ≡ false = ap (λ r. not r || ((is_recovering v.congestion || (v.resend.recover == 0)) && not (probes v))) on ∙ ap₂ (λ c n. (c || n) && not (probes v)) runs more in
+    let uncounted : counts_duplicates v ≡ false = ap (λ r. not r || ((is_recovering v.congestion || (v.resend.recover == 0)) && not (probes v) && not (selects v))) on ∙ ap₂ (λ c n. (c || n) && not (probes v) && not (selects v)) runs more in
     by_clock (λ w. is_recovering w.congestion ≡ false) v s now runs
-    (λ lives. signalled b x (λ g. is_recovering (after_signal x.congestion g x.sending.smss x.resend.syn_resent) ≡ false) kept refl (λ whole. refl)
+    (λ lives. signalled b x (λ g. is_recovering (after_signal x.congestion g x.sending.smss x.resend.syn_resent) ≡ false) kept refl (λ moves opened whole. refl)
     (λ moves opened goes. clash (is_recovering x.congestion) (and_right (repairs x.congestion.control) (is_recovering x.congestion) (and_left (goes_on x.congestion) (nat_lt 0 x.resend.recover) goes)) kept)
-    (λ stays twice. clash (counts_duplicates v) (and_right (is_duplicate v s) (counts_duplicates v) twice) uncounted))
+    (λ stays twice. clash (counts_duplicates v) (and_right (is_duplicate v s) (counts_duplicates v) twice) uncounted)
+    (λ stays reports. clash (v.resend.recover == 0) (more_counts v s x reports).all more))
 
 pub none_by_probes : (v : View) (s : Segment) (now : Moment) → IsSound v → repairs v.congestion.control ≡ true → probes v ≡ true → IsDuplicate v s → (after_segment_at v s now).congestion ≡ v.congestion
 none_by_probes v s now sound on asks twice =
     let goes = is_recovering v.congestion || (v.resend.recover == 0) in
-    let uncounted : counts_duplicates v ≡ false = ap (λ r. not r || (goes && not (probes v))) on ∙ ap (λ p. goes && not p) asks ∙ and_false goes in
+    let uncounted : counts_duplicates v ≡ false = ap (λ r. not r || (goes && not (probes v) && not (selects v))) on ∙ ap (λ p. goes && not p && not (selects v)) asks ∙ ap (λ b. b && not (selects v)) (and_false goes) in
     elim (others_count_none v (Hears s now)) [
       | inl same ↦ same
       | inr tells ↦ elim tells [
         | inl hears ↦ elim hears.4 [
           | inl moved ↦ absurd (moved (una_stays v s now sound twice))
-          | inr counted ↦ clash (counts_duplicates v) counted.1 uncounted
+          | inr told_so ↦ elim told_so [
+            | inl counted ↦ clash (counts_duplicates v) counted.1 uncounted
+            | inr reports ↦ clash (probes v) asks (report_counts v hears.0 reports).unprobed
+          ]
         ]
         | inr expires ↦ let bad = expires.1 in cc
       ]
@@ -291,7 +316,7 @@ noted_at_third v s now sound on is third =
     let twice = and_left (is_duplicate v s) (counts_duplicates v) is in
     let d = duplicates_are v s sound in
     let stays = window_stays v s (d.0 twice) in
-    let heard = resend_heard b x now in
+    let heard = resend_told b x now in
     ap (λ (w : View). w.resend.recover) (comes_alone v s now sound (d.0 twice))
     ∙ ap (λ g. (resend_signalled heard g x.congestion (outstanding x.sending)).recover) (repeats v s sound (d.0 twice) is)
     ∙ ap (λ t. let p = if t then resend_lost heard (repairs v.congestion.control) (outstanding x.sending) else heard in p.recover) third
@@ -351,10 +376,10 @@ goes_after v s sound opened fits =
       read = λ on alive. by_fin (Goes v) read s (λ counts. record { reset = text.reset; opened = ended_opened read.state text.opened; una = text.una }) (record { reset = text.reset; opened = text.opened; una = text.una }) text;
     })
 
-pub part_resends : (v : View) (s : Segment) (now : Moment) → IsSound v → is_opening v.state ≡ false → goes_on v.congestion ≡ true → s.acknowledgement < 2 ^ 32
+pub part_resends : (v : View) (s : Segment) (now : Moment) → IsSound v → is_opening v.state ≡ false → goes_on v.congestion ≡ true → selects v ≡ false → s.acknowledgement < 2 ^ 32
     → let w = after_event v (Hears s now) in w.sending.una ≢ v.sending.una → is_closed w.state ≡ false → 0 < w.resend.recover
     → (first_due w ≡ Some (Text (again w 0))) × (w.resend.once ≡ true) × (is_recovering w.congestion ≡ true)
-part_resends v s now sound opened on fits moved alive some =
+part_resends v s now sound opened on plain fits moved alive some =
     let b = before v s in
     let x = after_heard v s in
     let w = after_event v (Hears s now) in
@@ -367,26 +392,28 @@ part_resends v s now sound opened on fits moved alive some =
     let n = length v.sending.held - length x.sending.held in
     let part : (goes_on x.congestion && nat_lt 0 x.resend.recover) ≡ true =
     both (goes_on x.congestion) (nat_lt 0 x.resend.recover) (ap goes_on (window_kept v s) ∙ on) (lt-ltb 0 x.resend.recover (omega (arith, some, recover))) in
-    let other : Signal = if b.is_duplicate then Counts (Duplicate (outstanding x.sending)) else Nothing in
-    let acks : Signal = if is_opening b.state then Begins else Counts (acknowledged_event x n) in
+    let other : Signal = if b.is_duplicate then Counts (Duplicate (outstanding x.sending)) else if reports_more b x then Counts (report_event (told b x)) else Nothing in
+    let acks : Signal = if is_opening b.state then Begins else acknowledged_signal x n in
     let event : congestion_event_of b x ≡ Counts (PartialAck n) =
     ap (λ t. if t then Nothing else if is_moved b x then acks else other) lives
     ∙ ap (λ t. if t then acks else other) moves
-    ∙ ap (λ t. if t then Begins else Counts (acknowledged_event x n)) opened
-    ∙ ap (λ t. Counts (if t then PartialAck n else NewAck n (outstanding x.sending))) part in
-    let resend : resend_after b x now ≡ resend_first (resend_heard b x now) (outstanding x.sending) = ap (λ g. resend_signalled (resend_heard b x now) g x.congestion (outstanding x.sending)) event in
+    ∙ ap (λ t. if t then Begins else acknowledged_signal x n) opened
+    ∙ ap₂ (λ t r. if t then (if r then Nothing else Counts (PartialAck n)) else Counts (NewAck n (outstanding x.sending))) part (heard_selects v s (past_opening v.state opened).0 ∙ plain) in
+    let resend : resend_after b x now ≡ resend_first (resend_told b x now) (outstanding x.sending) = ap (λ g. resend_signalled (resend_told b x now) g x.congestion (outstanding x.sending)) event in
     let k = goes_after v s sound opened fits lives in
     let left = (heard_left v s sound).0 in
     let nxt = (heard_left v s sound).1 in
     let flies : 0 < outstanding x.sending = omega (arith, some, recover, left, nxt, sound.recover, sound.una, sound.nxt, k.una) in
     let mark : u.resend.mark ≡ Some 0 = ap (λ (p : Resend). p.mark) resend ∙ ap (λ t. if t then Some 0 else None) (lt-ltb 0 (outstanding x.sending) flies) in
     let owes : u.owes_reset ≡ false = k.reset ∙ unowed v.owes_reset (is_closed v.state) v.released (neither (is_closed v.state) (is_rejected v s) hears).0 sound.reset in
+    let once : u.resend.once ≡ true = ap (λ (p : Resend). p.once) resend in
+    let reported : u.resend.reported ≡ x.resend.reported = ap (λ (p : Resend). p.reported) resend ∙ ap (with_blocks x.resend.reported x.sending) (silent_unselected v s plain) in
     let due : first_due u ≡ Some (Text (again u 0)) =
     ap (λ t. if t then Some Rst else if is_opening u.state then (if (outstanding u.sending == 0) || is_some u.resend.mark then Some Syn else ack_due u) else option_or (again_from u u.resend.mark) (new_due u)) owes
     ∙ ap (λ t. if t then (if (outstanding u.sending == 0) || is_some u.resend.mark then Some Syn else ack_due u) else option_or (again_from u u.resend.mark) (new_due u)) k.opened
-    ∙ ap (λ m. option_or (again_from u m) (new_due u)) mark in
-    let once : u.resend.once ≡ true = ap (λ (p : Resend). p.once) resend in
-    let window = counts_partly v s now opened moved alive (both (goes_on v.congestion) (nat_lt 0 w.resend.recover) on (lt-ltb 0 w.resend.recover some)) in (
+    ∙ ap (λ m. option_or (again_from u m) (new_due u)) mark
+    ∙ ap (λ o. option_or o (new_due u)) (at_una_goes u (subst (AreApart 1) (sym reported) (heard_scores v s sound).apart) (ap (λ b. repairs_gaps u && not b) once ∙ and_false (repairs_gaps u)) flies) in
+    let window = counts_partly v s now opened moved alive (both (goes_on v.congestion) (nat_lt 0 w.resend.recover) on (lt-ltb 0 w.resend.recover some)) plain in (
       subst (λ y. first_due y ≡ Some (Text (again y 0))) (sym at) due,
       ap (λ (y : View). y.resend.once) at ∙ once,
       ap is_recovering window ∙ and_right (repairs v.congestion.control) (is_recovering v.congestion) on,

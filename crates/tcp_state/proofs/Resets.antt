@@ -15,6 +15,7 @@ use Rattle.tcp_state.specs.View.{View, IsSound, is_opening, is_syn_sent, is_clos
 use Rattle.tcp_state.specs.Timing.{KeepsTime}
 use Rattle.tcp_state.specs.Arrival.{is_acceptable_to, is_acting_reset, is_read, octets_outstanding, is_duplicate, is_lost, after_lost, ends_by_syn, ends_by_reset, ends_opening, acknowledges_unsent, is_rejected, reset_error, after_rst_in_syn_sent, after_rst, after_segment, is_of_fin, begins_wait, repeats_fin, answers_probe, after_segment_at, after_heard, counts_duplicates, is_counted_duplicate}
 use Rattle.tcp_state.specs.Edges.{Hears, after_event, fate_by, is_removed, is_reset_by, ends_by, ends_by_ack}
+use Rattle.tcp_state.proofs.Selects.{silent_unread}
 use Rattle.tcp_state.proofs.Clocked.{Owing, OwingAt, owing_timed, starts_none, comes_to}
 use Rattle.tcp_halves.proofs.Choices.{either, by, clash, and_left, and_right, both, or_left, or_right, or_else, not_true, of_false}
 use Rattle.tcp_state.proofs.Segments.{is_taken, by_segment, by_clock, read_tells}
@@ -123,7 +124,8 @@ rst_repeats_none v s rst = by (is_counted_duplicate v s ≡ false) (is_duplicate
 
 pub unaccepted_changes : (v : View) (s : Segment) (now : Moment) → KeepsTime v → is_syn_sent v.state ≡ false → is_acceptable_to v s ≡ false → OwingAt v (after_segment_at v s now)
 unaccepted_changes v s now keeps past_opening refused =
-    owing_timed v s now keeps (unaccepted_is_none v s refused) (unaccepted_repeats_none v s refused) (either View (λ w. Owing v w) (is_lost v s) (after_lost v s) (after_segment v s)
+    owing_timed v s now keeps (unaccepted_is_none v s refused) (unaccepted_repeats_none v s refused)
+    (silent_unread v s (by (is_read v s ≡ false) (is_read v s) (λ read. clash (is_acceptable_to v s) (read_is_accepted v s read) refused) (λ unread. unread))) (either View (λ w. Owing v w) (is_lost v s) (after_lost v s) (after_segment v s)
     (λ lost. clash (is_acceptable_to v s) (read_is_accepted v s (lost_is_read v s lost)) refused)
     (λ kept. unaccepted_segment v s past_opening refused))
 
@@ -161,7 +163,7 @@ elsewhere_changes v s now keeps past_opening rst apart =
     let same : Owing v w = either View (λ x. Owing v x) (is_lost v s) (after_lost v s) (after_segment v s)
     (λ lost. clash s.flags.rst rst (read_is_no_rst v s (lost_is_read v s lost)))
     (λ kept. elsewhere_segment v s past_opening rst apart) in
-    let at : OwingAt v (after_segment_at v s now) = owing_timed v s now keeps (rst_is_none v s rst) (rst_repeats_none v s rst) same in
+    let at : OwingAt v (after_segment_at v s now) = owing_timed v s now keeps (rst_is_none v s rst) (rst_repeats_none v s rst) (silent_unread v s (by (is_read v s ≡ false) (is_read v s) (λ read. clash s.flags.rst rst (read_is_no_rst v s read)) (λ unread. unread))) same in
     at ∙ ap (λ (n : Moment). record v { owes_ack = (after_segment_at v s now).owes_ack; since = n; timers = record v.timers { delayed_ack = (after_segment_at v s now).timers.delayed_ack }; alive = (after_segment_at v s now).alive }) (no_wait v s now rst same)
 
 -- A reset at RCV.NXT that takes no numbers acts.

@@ -13,10 +13,11 @@ use Rattle.tcp_halves.specs.Halves.{Sending, Receiving}
 use Rattle.tcp_halves.specs.Stream.{outstanding, after_sent}
 use Rattle.tcp_halves.specs.Windows.{receive_room, has_grown, whole_units, after_advertisement, after_syn_advertisement}
 use Rattle.tcp_halves.proofs.Keeping.{IsKeeping, in_units}
+use Rattle.tcp_state.proofs.Places.{IsMarked, goes_within}
 use Rattle.tcp_state.proofs.Sound.{sound_keeping}
 use Rattle.tcp_halves.proofs.Choices.{either, clash, and_left, neither}
 use Rattle.tcp_state.specs.View.{View, IsSound, is_opening, is_syn_received, is_closed, is_write_finished, awaits_fin_ack, most_outstanding}
-use Rattle.tcp_state.specs.Resend.{mark_past, resend_probed}
+use Rattle.tcp_state.specs.Resend.{is_alone, mark_past, resend_probed}
 use Rattle.tcp_state.specs.Timing.{probes, clocked}
 use Rattle.tcp_state.specs.Alive.{rests}
 use Rattle.tcp_state.specs.Due.{IsHeld, first_due, is_ack_due, again, new_octets, fin_alone, probe_stretch, end_of, after_ack_paid, after_syn_ack_paid, after_speaking, after_asking, after_resent, after_first_sent, after_numbers, after_new_octets, after_new_text, brings_new_octets, after_syn_again, after_syn_out, after_stretch, after_probe, after_emitted}
@@ -126,7 +127,7 @@ fall_first most out new end left rest a b c = omega (arith, a, b, c)
 fall_probe : (most out new end left was : ℕ) → new ≡ max out end → was ≡ 1 → (most - new) + left + 0 < (most - out) + left + was
 fall_probe most out new end left was a b = omega (arith, a, b)
 
-left_past : (once : Bool) (end out most : ℕ) → left_from (if once then None else mark_past end out) most ≤ most - end
+left_past : (alone : Bool) (end out most : ℕ) → left_from (if alone then None else mark_past end out) most ≤ most - end
 left_past true end out most = omega arith
 left_past false end out most = either (Option ℕ) (λ o. left_from o most ≤ most - end) (nat_lt end out) (Some end) None (λ more. omega arith) (λ all. omega arith)
 
@@ -135,8 +136,8 @@ resent v mark end sound is some small =
     let most = most_outstanding v in
     let sent = after_sent v.sending end in
     record {
-      fewer = fall_again most (outstanding v.sending) (outstanding sent) mark end (left_from (if v.resend.once then None else mark_past end (outstanding sent)) most) (left_from v.resend.mark most) (one_if v.resend.owes_probe)
-          (out_after v.sending end sound.una sound.nxt small) (left_past v.resend.once end (outstanding sent) most) (ap (λ o. left_from o most) is) some (sound.mark mark is) sound.flight;
+      fewer = fall_again most (outstanding v.sending) (outstanding sent) mark end (left_from (if is_alone v.resend then None else mark_past end (outstanding sent)) most) (left_from v.resend.mark most) (one_if v.resend.owes_probe)
+          (out_after v.sending end sound.una sound.nxt small) (left_past (is_alone v.resend) end (outstanding sent) most) (ap (λ o. left_from o most) is) some (sound.mark mark is) sound.flight;
       reset = refl;
       owes = refl;
       spoke = refl;
@@ -186,13 +187,14 @@ stretch_of v stretch now s =
     let sent = after_numbers v stretch.offset (end_of stretch) now in
     either View (Sends v) (brings_new_octets v stretch) (after_new_text sent stretch) sent (λ new. text_sends v sent stretch s) (λ old. s)
 
-again_goes : (v : View) (mark : ℕ) (now : Moment) → IsSound v → v.resend.mark ≡ Some mark → IsHeld v (again v mark) → Sends v (after_stretch v (again v mark) now)
-again_goes v mark now sound is h =
-    let stretch = again v mark in
+again_goes : (v : View) (place : ℕ) (now : Moment) → IsSound v → IsMarked v place → nat_lt place (outstanding v.sending) ≡ true → IsHeld v (again v place) → Sends v (after_stretch v (again v place) now)
+again_goes v place now sound is goes h =
+    let stretch = again v place in
     let some = h.some in
-    stretch_of v stretch now (either View (Sends v) (nat_lt mark (outstanding v.sending)) (after_resent v (end_of stretch)) (after_first_sent v (end_of stretch) now)
-    (λ before. resent v mark (end_of stretch) sound is (omega (arith, some)) (end_small v stretch sound h))
-    (λ past. clash (nat_lt mark (outstanding v.sending)) (lt-ltb mark (outstanding v.sending) (sound.mark mark is)) past))
+    let past_mark = is.from in
+    stretch_of v stretch now (either View (Sends v) (nat_lt place (outstanding v.sending)) (after_resent v (end_of stretch)) (after_first_sent v (end_of stretch) now)
+    (λ before. resent v is.mark (end_of stretch) sound is.is (omega (arith, some, past_mark)) (end_small v stretch sound h))
+    (λ past. clash (nat_lt place (outstanding v.sending)) goes past))
 
 new_goes : (v : View) (stretch : Stretch) (now : Moment) → IsSound v → stretch.offset ≡ outstanding v.sending → IsHeld v stretch → Sends v (after_stretch v stretch now)
 new_goes v stretch now sound at h =
@@ -258,8 +260,8 @@ runs_dry v due now sound first = by_due (λ o. (d : Due) → o ≡ Some d → Fa
   rst = λ owes d e. let same : Rst ≡ d = cc in let one : one_if v.owes_reset ≡ 1 = ap one_if owes in subst Falls same (falls (record v { owes_reset = false }) (omega (arith, one)));
   syn = λ opening goes d e. let same : Syn ≡ d = cc in let s = syn_goes v now sound opening goes in
       subst Falls same (either View Less (is_syn_received v.state) (after_syn_ack_paid (after_syn_out v now)) (after_syn_out v now) (λ received. falls (after_syn_ack_paid (after_syn_out v now)) (paid_opening v (after_syn_out v now) opening s)) (λ waits. falls (after_syn_out v now) (unpaid v (after_syn_out v now) s)));
-  once_more = λ opened mark is goes d e. let same : Text (again v mark) ≡ d = cc in
-      subst Falls same (settles (after_stretch v (again v mark) now) true (again_goes v mark now sound is (held_again v mark sound opened (sound.mark mark is))));
+  once_more = λ opened place is goes d e. let same : Text (again v place) ≡ d = cc in
+      subst Falls same (settles (after_stretch v (again v place) now) true (again_goes v place now sound is (lt-ltb place (outstanding v.sending) (goes_within v place goes)) (held_again v place sound opened (goes_within v place goes))));
   octets = λ opened sends d e. let same : Text (new_octets v) ≡ d = cc in subst Falls same (settles (after_stretch v (new_octets v) now) true (new_goes v (new_octets v) now sound refl (held_new v sound opened sends)));
   fin = λ opened sends d e. let same : Text (fin_alone v) ≡ d = cc in subst Falls same (settles (after_stretch v (fin_alone v) now) true (new_goes v (fin_alone v) now sound refl (held_fin v opened sends)));
   probe = λ opened owes goes d e. let same : Probe ≡ d = cc in subst Falls same (settles (after_probe v) true (probe_goes v sound owes));

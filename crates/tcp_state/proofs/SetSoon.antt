@@ -112,7 +112,7 @@ heard_few v s now least few =
     let still : w.resend.timeout.rto ≤ 60000 = omega (arith, same, few) in
     let bounded : w.resend.timeout.least ≤ 1000 = subst (λ (t : Timeout). t.least ≤ 1000) (sym (segment_hears v s).timeout) least in
     let heard = heard_paced b w now (λ p. p.timeout.rto ≤ 60000) (acknowledged_few w.resend w.sending.una (is_opening b.state) now bounded still) still still in
-    after_paced b w now (λ p. p.timeout.rto ≤ 60000) heard heard heard
+    after_paced b w now (λ p. p.timeout.rto ≤ 60000) heard heard (λ r. heard) heard
 
 heard_soon : (v : View) (s : Segment) (now : Moment) → v.resend.timeout.least ≤ 1000 → v.resend.timeout.rto ≤ 60000 → SetSoon now v.timers (timed_by (before v s) (after_heard v s) now).timers
 heard_soon v s now least few =

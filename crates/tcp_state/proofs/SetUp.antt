@@ -5,7 +5,8 @@ use Rattle.clock.specs.declared.moment.Moment.{Moment}
 use Rattle.clock.specs.Moments.{has_come}
 use Rattle.congestion.specs.Control.{repairs}
 use Rattle.congestion.specs.Window.{Window, is_recovering, goes_on, third_is_next, after_third}
-use Rattle.congestion.specs.Events.Event.{NewAck, PartialAck, Expiry, Duplicate}
+use Rattle.congestion.specs.Events.{Event as WindowEvent}
+use Rattle.congestion.specs.Events.Event.{NewAck, PartialAck, Expiry, Duplicate, Loss}
 use Rattle.retransmit.specs.Timeout.{Timeout, after_sample, after_lost_syn}
 use Rattle.tcp_state.specs.declared.emission.Due.{Due}
 use Rattle.tcp_state.specs.declared.resend.Timed.{Timed}
@@ -17,7 +18,7 @@ use Rattle.tcp_state.specs.Alive.{after_silence}
 use Rattle.tcp_state.specs.Timing.{clocked, gives_up, retransmission_expired, probe_expired, after_timers}
 use Rattle.tcp_state.specs.Congestion.{Signal, after_signal}
 use Rattle.tcp_state.specs.Congestion.Signal.{Begins, Counts, Nothing}
-use Rattle.tcp_state.specs.Arrival.{after_heard, is_rejected, before, resend_heard, congestion_event_of, timed_by}
+use Rattle.tcp_state.specs.Arrival.{after_heard, is_rejected, before, resend_heard, told, tells_loss, congestion_event_of, timed_by}
 use Rattle.tcp_state.specs.Due.{first_due}
 use Rattle.tcp_state.specs.Edges.{Event, Hears, Ticks, Emits, Sends, Receives, Shuts, SetsNoDelay, SetsKeepAlive, Closes, Aborts, Unreachable, LosesHop, after_first, after_event, congestion_event_by}
 use Rattle.tcp_state.proofs.Clocked.{by_others, heard_paced, after_paced, signalled}
@@ -32,6 +33,7 @@ signal_leaves c Begins smss resent = refl
 signal_leaves c (Counts (NewAck octets flight)) smss resent = refl
 signal_leaves c (Counts (PartialAck octets)) smss resent = refl
 signal_leaves c (Counts (Expiry flight)) smss resent = refl
+signal_leaves c (Counts (Loss flight)) smss resent = refl
 signal_leaves c (Counts (Duplicate flight)) smss resent =
     let P : Window → Type 0 = λ x. x.control ≡ c.control in
     either Window P (is_recovering c) _ _ (λ recovers. refl) (λ runs. either Window P (third_is_next c) (after_third c flight) _ (λ third. refl) (λ other. refl))
@@ -60,7 +62,7 @@ heard_leaves v s now =
     let x = after_heard v s in
     let P : Resend → Type 0 = λ p. p.timeout.least ≡ x.resend.timeout.least in
     let paced : P (resend_heard b x now) = heard_paced b x now P (progress_leaves x.resend x.sending.una (is_opening b.state) now) refl refl in
-    after_paced b x now P paced paced paced ∙ ap (λ (t : Timeout). t.least) (segment_hears v s).timeout
+    after_paced b x now P paced paced (λ r. paced) paced ∙ ap (λ (t : Timeout). t.least) (segment_hears v s).timeout
 
 acts_leave : (v : View) (now : Moment) → (clocked false (after_timers v now) now).resend.timeout.least ≡ v.resend.timeout.least
 acts_leave v now =
@@ -101,10 +103,11 @@ plainly_none v (Hears s now) octets plain =
     let b = before v s in
     let x = after_heard v s in
     either Signal P (is_closed v.state || is_rejected v s) Nothing (congestion_event_of b x) (λ unheard e. cc)
-    (λ hears. signalled b x P (λ e. cc) (λ e. cc) (λ whole e. cc)
+    (λ hears. signalled b x P (λ e. cc) (λ e. cc) (λ moves opened whole e. cc)
     (λ moves opened goes. clash (repairs v.congestion.control)
     (ap (λ c. repairs c.control) (sym (window_kept v s)) ∙ and_left (repairs x.congestion.control) (is_recovering x.congestion) (and_left (goes_on x.congestion) (nat_lt 0 x.resend.recover) goes)) plain)
-    (λ stays twice e. cc))
+    (λ stays twice e. cc)
+    (λ stays more. either WindowEvent (λ e. Counts e ≢ Counts (PartialAck octets)) (tells_loss (told b x)) (Loss (outstanding x.sending)) (Duplicate (outstanding x.sending)) (λ loss e. cc) (λ early e. cc)))
 plainly_none v (Ticks now) octets plain =
     let P : Signal → Type 0 = λ g. g ≢ Counts (PartialAck octets) in
     either Signal P (is_at_end v now || gives_up v now) Nothing _ (λ ends e. cc)

@@ -8,8 +8,10 @@ use Rattle.tcp_segment.specs.Segment.{Segment}
 use Rattle.tcp_segment.specs.Wire.{past}
 use Rattle.clock.specs.declared.moment.Moment.{Moment}
 use Rattle.clock.specs.Moments.{has_come}
-use Rattle.congestion.specs.Window.{initial_window, goes_on as recovers_on, after_new_ack, after_partial_ack, after_duplicate, after_expiry}
-use Rattle.congestion.specs.Events.Event.{NewAck, PartialAck, Expiry, Duplicate}
+use Rattle.congestion.specs.Control.{is_selective}
+use Rattle.congestion.specs.Window.{Window, initial_window, goes_on as recovers_on, after_new_ack, after_partial_ack, after_duplicate, after_expiry, after_loss}
+use Rattle.tcp_state.specs.Selective.{selects}
+use Rattle.congestion.specs.Events.Event.{NewAck, PartialAck, Expiry, Duplicate, Loss}
 use Rattle.tcp_state.specs.declared.state.State.{State}
 use Rattle.tcp_state.specs.declared.state.State.TheVariants.{SynSent, SynReceived}
 use Rattle.tcp_halves.specs.Halves.{Sending}
@@ -24,10 +26,10 @@ use Rattle.tcp_state.specs.declared.calls.Refusal.TheVariants.{ETIMEDOUT}
 use Rattle.tcp_state.specs.Timing.{gives_up, after_expiries, after_tick}
 use Rattle.tcp_state.specs.Alive.{after_silence}
 use Rattle.tcp_state.specs.Reporting.{noted}
-use Rattle.tcp_state.specs.Arrival.{owing_ack, may_delay, beyond_end, is_acceptable_to, is_read, is_read_on, is_of_fin, fin_acknowledged, after_new_ack as after_acknowledging, after_establishment, after_ack, after_window, is_receiving, after_text, after_fin, after_segment, brings_more, is_lost, after_lost, after_heard, is_rejected, before, octets_outstanding, is_duplicate, is_moved, congestion_event_of, timed_by, acknowledged_event, counts_duplicates, is_counted_duplicate}
+use Rattle.tcp_state.specs.Arrival.{owing_ack, may_delay, beyond_end, is_acceptable_to, is_read, is_read_on, is_of_fin, fin_acknowledged, after_new_ack as after_acknowledging, after_establishment, after_ack, after_window, is_receiving, after_text, after_fin, after_segment, brings_more, is_lost, after_lost, after_heard, is_rejected, before, octets_outstanding, is_duplicate, is_moved, congestion_event_of, told, reports_more, tells_loss, report_event, is_report, reports_loss, timed_by, acknowledged_signal, counts_duplicates, is_counted_duplicate}
 use Rattle.tcp_state.specs.Edges.{Event, Hears, Ticks, Emits, Sends, Receives, Shuts, SetsNoDelay, SetsKeepAlive, Closes, Aborts, Unreachable, LosesHop, after_event, congestion_event_by}
 use Rattle.tcp_state.specs.Counted.{HasOctetOut, IsDuplicate}
-use Rattle.tcp_state.proofs.Segments.{IsRead, by_ack, by_hearing, reads, read_tells, reading_sends, not_rejected}
+use Rattle.tcp_state.proofs.Segments.{IsRead, by_ack, by_fin, by_hearing, reads, read_tells, reading_sends, not_rejected}
 use Rattle.tcp_state.proofs.Unchanged.{closed_plain}
 use Rattle.tcp_state.proofs.Congestion.{moves_by_events, window_kept}
 
@@ -203,20 +205,21 @@ pub is_moved_by : (v : View) (s : Segment) → (after_heard v s).sending.una ≢
 is_moved_by v s moved = elim (eqb_tells v.sending.una (after_heard v s).sending.una) [ inl same ↦ absurd (moved (sym same.1)) | inr other ↦ ap not other.0 ]
 
 moved_event : (v : View) (s : Segment) (now : Moment) → (after_event v (Hears s now)).sending.una ≢ v.sending.una → is_closed (after_event v (Hears s now)).state ≡ false
-    → congestion_event_by v (Hears s now) ≡ (if is_opening v.state then Begins else Counts (acknowledged_event (after_heard v s) (length v.sending.held - length (after_heard v s).sending.held)))
+    → congestion_event_by v (Hears s now) ≡ (if is_opening v.state then Begins else acknowledged_signal (after_heard v s) (length v.sending.held - length (after_heard v s).sending.held))
 moved_event v s now moved alive =
     let x = after_heard v s in
     let hears = moved_hears v s now moved in
     let at = heard_is v s now hears in
-    let event : Signal = if is_opening v.state then Begins else Counts (acknowledged_event x (length v.sending.held - length x.sending.held)) in
+    let event : Signal = if is_opening v.state then Begins else acknowledged_signal x (length v.sending.held - length x.sending.held) in
+    let other : Signal = if is_counted_duplicate v s then Counts (Duplicate (outstanding x.sending)) else if reports_more (before v s) x then Counts (report_event (told (before v s) x)) else Nothing in
     event_is v s now hears
-    ∙ ap (λ b. if b then Nothing else if is_moved (before v s) x then event else if is_counted_duplicate v s then Counts (Duplicate (outstanding x.sending)) else Nothing) (sym (ap (λ (w : View). is_closed w.state) at) ∙ alive)
-    ∙ ap (λ b. if b then event else if is_counted_duplicate v s then Counts (Duplicate (outstanding x.sending)) else Nothing) (is_moved_by v s (λ same. moved (ap (λ (w : View). w.sending.una) at ∙ same)))
+    ∙ ap (λ b. if b then Nothing else if is_moved (before v s) x then event else other) (sym (ap (λ (w : View). is_closed w.state) at) ∙ alive)
+    ∙ ap (λ b. if b then event else other) (is_moved_by v s (λ same. moved (ap (λ (w : View). w.sending.una) at ∙ same)))
 
 pub begins_at_opening : (v : View) (s : Segment) (now : Moment) → is_opening v.state ≡ true → (after_event v (Hears s now)).sending.una ≢ v.sending.una → is_closed (after_event v (Hears s now)).state ≡ false
     → (after_event v (Hears s now)).congestion ≡ initial_window v.congestion.control (after_event v (Hears s now)).sending.smss (after_event v (Hears s now)).resend.syn_resent
 begins_at_opening v s now opening moved alive =
-    window_by v (Hears s now) Begins (moved_event v s now moved alive ∙ ap (λ b. if b then Begins else Counts (acknowledged_event (after_heard v s) (length v.sending.held - length (after_heard v s).sending.held))) opening)
+    window_by v (Hears s now) Begins (moved_event v s now moved alive ∙ ap (λ b. if b then Begins else acknowledged_signal (after_heard v s) (length v.sending.held - length (after_heard v s).sending.held)) opening)
 
 -- so many octets are held no longer as it acknowledges
 
@@ -249,13 +252,31 @@ frees v s opened =
       read = λ on alive. subst (Frees v) (sym (reading_sends v s)) window;
     })
 
+-- reports are taken as before
+pub heard_selects : (v : View) (s : Segment) → is_syn_sent v.state ≡ false → selects (after_heard v s) ≡ selects v
+heard_selects v s past_opening =
+    let P : View → Type 0 = λ w. w.reporting.sacks ≡ v.reporting.sacks in
+    let told_by = after_window (after_ack v s.acknowledgement) s in
+    let acked : P (after_ack v s.acknowledgement) = by_ack P v s.acknowledgement (record { old = refl; beyond = refl; opens = λ received new. refl; octets = λ new. refl; fin = λ new fin. refl }) in
+    let text : P (after_text told_by s) = either View P ((length s.octets == 0) || not (is_receiving told_by.state)) told_by _ (λ none. acked) (λ some. acked) in
+    ap₂ (λ (c : Window) b. is_selective c.control && b) (window_kept v s)
+    (by_hearing P v s acked (record {
+      dropped = refl;
+      drawn = refl;
+      reset = λ acts. refl;
+      crossed = λ waits. clash (is_syn_sent v.state) waits past_opening;
+      opened = λ waits right. clash (is_syn_sent v.state) waits past_opening;
+      acknowledged = λ taken. acked;
+      read = λ on. by_fin P (after_text told_by s) s (λ counts. text) text text;
+    }))
+
 -- whether it is a partial one
 abbrev Partial : View → View → Bool
 Partial v w = recovers_on v.congestion && nat_lt 0 w.resend.recover
 
 acked_event : (v : View) (s : Segment) (now : Moment) (partial : Bool) → is_opening v.state ≡ false → (after_event v (Hears s now)).sending.una ≢ v.sending.una → is_closed (after_event v (Hears s now)).state ≡ false
     → Partial v (after_event v (Hears s now)) ≡ partial
-    → congestion_event_by v (Hears s now) ≡ Counts (let n = length v.sending.held - length (after_heard v s).sending.held in if partial then PartialAck n else NewAck n (outstanding (after_heard v s).sending))
+    → congestion_event_by v (Hears s now) ≡ (let n = length v.sending.held - length (after_heard v s).sending.held in if partial then (if selects v then Nothing else Counts (PartialAck n)) else Counts (NewAck n (outstanding (after_heard v s).sending)))
 acked_event v s now partial opened moved alive is =
     let x = after_heard v s in
     let n = length v.sending.held - length x.sending.held in
@@ -263,8 +284,9 @@ acked_event v s now partial opened moved alive is =
     let moves = is_moved_by v s (λ same. moved (ap (λ (w : View). w.sending.una) at ∙ same)) in
     let recover : (after_event v (Hears s now)).resend.recover ≡ x.resend.recover = ap (λ (w : View). w.resend.recover) at ∙ recover_kept (before v s) x now moves in
     let told : (recovers_on x.congestion && nat_lt 0 x.resend.recover) ≡ partial = ap₂ (λ c r. recovers_on c && nat_lt 0 r) (window_kept v s) (sym recover) ∙ is in
-    moved_event v s now moved alive ∙ ap (λ b. if b then Begins else Counts (acknowledged_event x n)) opened
-    ∙ ap (λ b. Counts (if b then PartialAck n else NewAck n (outstanding x.sending))) told
+    let rules : selects x ≡ selects v = heard_selects v s (opened_tells v.state opened).0 in
+    moved_event v s now moved alive ∙ ap (λ b. if b then Begins else acknowledged_signal x n) opened
+    ∙ ap₂ (λ b r. if b then (if r then Nothing else Counts (PartialAck n)) else Counts (NewAck n (outstanding x.sending))) told rules
 
 -- what it counts for
 acked_octets : (v : View) (s : Segment) (now : Moment) → is_opening v.state ≡ false → (after_event v (Hears s now)).sending.una ≢ v.sending.una → is_closed (after_event v (Hears s now)).state ≡ false
@@ -286,12 +308,46 @@ counts_octets v s now opened moved alive whole =
     ∙ ap₂ (after_new_ack v.congestion) counts.0 counts.1
 
 pub counts_partly : (v : View) (s : Segment) (now : Moment) → is_opening v.state ≡ false → (after_event v (Hears s now)).sending.una ≢ v.sending.una → is_closed (after_event v (Hears s now)).state ≡ false
-    → (recovers_on v.congestion && nat_lt 0 (after_event v (Hears s now)).resend.recover) ≡ true
+    → (recovers_on v.congestion && nat_lt 0 (after_event v (Hears s now)).resend.recover) ≡ true → selects v ≡ false
     → (after_event v (Hears s now)).congestion ≡ after_partial_ack v.congestion (min (past (after_event v (Hears s now)).sending.una v.sending.una) (length v.sending.held))
-counts_partly v s now opened moved alive goes =
+counts_partly v s now opened moved alive goes plain =
     let n = length v.sending.held - length (after_heard v s).sending.held in
-    window_by v (Hears s now) (Counts (PartialAck n)) (acked_event v s now true opened moved alive goes)
+    window_by v (Hears s now) (Counts (PartialAck n)) (acked_event v s now true opened moved alive goes ∙ ap (λ r. if r then Nothing else Counts (PartialAck n)) plain)
     ∙ ap (after_partial_ack v.congestion) (acked_octets v s now opened moved alive).0
+
+-- .. but nothing where reports rule the recovery
+pub counts_no_part : (v : View) (s : Segment) (now : Moment) → is_opening v.state ≡ false → (after_event v (Hears s now)).sending.una ≢ v.sending.una → is_closed (after_event v (Hears s now)).state ≡ false
+    → (recovers_on v.congestion && nat_lt 0 (after_event v (Hears s now)).resend.recover) ≡ true → selects v ≡ true → (after_event v (Hears s now)).congestion ≡ v.congestion
+counts_no_part v s now opened moved alive goes rules =
+    let n = length v.sending.held - length (after_heard v s).sending.held in
+    window_by v (Hears s now) Nothing (acked_event v s now true opened moved alive goes ∙ ap (λ r. if r then Nothing else Counts (PartialAck n)) rules)
+
+-- A report that counts.
+
+pub counts_report : (v : View) (s : Segment) (now : Moment) → is_closed (after_event v (Hears s now)).state ≡ false → is_report v s ≡ true → is_counted_duplicate v s ≡ false → (is_closed v.state || is_rejected v s) ≡ false
+    → (after_event v (Hears s now)).congestion ≡ (let flight = outstanding (after_heard v s).sending in if reports_loss v s then after_loss v.congestion flight else after_duplicate v.congestion flight)
+counts_report v s now alive is other hears =
+    let b = before v s in
+    let x = after_heard v s in
+    let at = heard_is v s now hears in
+    let flight = outstanding x.sending in
+    let still : is_moved b x ≡ false = not_true (is_moved b x) (and_left (not (is_moved b x)) (reports_more b x) is) in
+    let tells : Signal = if reports_more b x then Counts (report_event (told b x)) else Nothing in
+    let repeats : Signal = if is_counted_duplicate v s then Counts (Duplicate flight) else tells in
+    let acked : Signal = if is_opening v.state then Begins else acknowledged_signal x (length v.sending.held - length x.sending.held) in
+    window_by v (Hears s now) (Counts (report_event (told b x)))
+    (event_is v s now hears
+    ∙ ap (λ t. if t then Nothing else if is_moved b x then acked else repeats) (sym (ap (λ (w : View). is_closed w.state) at) ∙ alive)
+    ∙ ap (λ t. if t then acked else repeats) still
+    ∙ ap (λ t. if t then Counts (Duplicate flight) else tells) other
+    ∙ ap (λ t. if t then Counts (report_event (told b x)) else Nothing) (and_right (not (is_moved b x)) (reports_more b x) is))
+    ∙ chosen (tells_loss (told b x)) (after_event v (Hears s now)).sending.smss (after_event v (Hears s now)).resend.syn_resent
+    ∙ ap (λ t. if t && tells_loss (told b x) then after_loss v.congestion flight else after_duplicate v.congestion flight) (sym is)
+  where
+    chosen : (loss : Bool) (smss : ℕ) (resent : Bool) → (let flight = outstanding (after_heard v s).sending in after_signal v.congestion (Counts (if loss then Loss flight else Duplicate flight)) smss resent)
+        ≡ (let flight = outstanding (after_heard v s).sending in if loss then after_loss v.congestion flight else after_duplicate v.congestion flight)
+    chosen true smss resent = refl
+    chosen false smss resent = refl
 
 pub counts_duplicate : (v : View) (s : Segment) (now : Moment) → IsSound v → IsDuplicate v s → counts_duplicates v ≡ true → (after_event v (Hears s now)).congestion ≡ after_duplicate v.congestion (past v.sending.nxt v.sending.una)
 counts_duplicate v s now sound d counts =
@@ -304,13 +360,16 @@ counts_duplicate v s now sound d counts =
     window_by v (Hears s now) (Counts (Duplicate (past v.sending.nxt v.sending.una)))
     (event_is v s now hears
     ∙ ap (congestion_event_of (before v s)) (only_window v s sound d)
-    ∙ ap (λ b. if b then Nothing else if is_moved (before v s) told then (if is_opening v.state then Begins else Counts (acknowledged_event told (length v.sending.held - length told.sending.held))) else repeated told) lives
-    ∙ ap (λ b. if not b then (if is_opening v.state then Begins else Counts (acknowledged_event told (length v.sending.held - length told.sending.held))) else repeated told) same
-    ∙ ap (λ b. if b then Counts (Duplicate (outstanding told.sending)) else Nothing) (both (is_duplicate v s) (counts_duplicates v) (is_repeated v s sound d) counts)
+    ∙ ap (λ b. if b then Nothing else if is_moved (before v s) told then (if is_opening v.state then Begins else acknowledged_signal told (length v.sending.held - length told.sending.held)) else repeated told) lives
+    ∙ ap (λ b. if not b then (if is_opening v.state then Begins else acknowledged_signal told (length v.sending.held - length told.sending.held)) else repeated told) same
+    ∙ ap (λ b. if b then Counts (Duplicate (outstanding told.sending)) else reported told) (both (is_duplicate v s) (counts_duplicates v) (is_repeated v s sound d) counts)
     ∙ ap₂ (λ n u. Counts (Duplicate (past n u))) stays.1 stays.0)
   where
+    reported : View → Signal
+    reported w = if reports_more (before v s) w then Counts (report_event (told (before v s) w)) else Nothing
+
     repeated : View → Signal
-    repeated w = if is_counted_duplicate v s then Counts (Duplicate (outstanding w.sending)) else Nothing
+    repeated w = if is_counted_duplicate v s then Counts (Duplicate (outstanding w.sending)) else reported w
 
 -- An expiry.
 
@@ -336,7 +395,7 @@ counts_expiry v now comes alive =
 -- Nothing else.
 
 abbrev Tells : View → Event → View → Type 0
-Tells v e w = ((s : Segment) × (now : Moment) × (e ≡ Hears s now) × (is_closed w.state ≡ false) × ((w.sending.una ≢ v.sending.una) ⊎ (IsDuplicate v s × (counts_duplicates v ≡ true))))
+Tells v e w = ((s : Segment) × (now : Moment) × (e ≡ Hears s now) × (is_closed w.state ≡ false) × ((w.sending.una ≢ v.sending.una) ⊎ ((IsDuplicate v s × (counts_duplicates v ≡ true)) ⊎ (is_report v s ≡ true))))
     ⊎ ((now : Moment) × (e ≡ Ticks now) × (has_come v.timers.retransmission now ≡ true))
 
 pub others_count_none : (v : View) (e : Event) → ((after_event v e).congestion ≡ v.congestion) ⊎ Tells v e (after_event v e)
@@ -348,13 +407,15 @@ others_count_none v (Hears s now) =
     (λ hears.
     let at = heard_is v s now hears in
     let none : congestion_event_of (before v s) x ≡ Nothing → G = λ is. inl (window_by v (Hears s now) Nothing (event_is v s now hears ∙ is)) in
-    let tells : is_closed x.state ≡ false → (x.sending.una ≢ v.sending.una) ⊎ (IsDuplicate v s × (counts_duplicates v ≡ true)) → G = λ alive how.
+    let tells : is_closed x.state ≡ false → (x.sending.una ≢ v.sending.una) ⊎ ((IsDuplicate v s × (counts_duplicates v ≡ true)) ⊎ (is_report v s ≡ true)) → G = λ alive how.
     inr (inl (s, now, refl, ap (λ (y : View). is_closed y.state) at ∙ alive, elim how [ inl moved ↦ inl (λ same. moved (sym (ap (λ (y : View). y.sending.una) at) ∙ same)) | inr twice ↦ inr twice ])) in
     either Signal (λ g. (g ≡ Nothing → G) → G) (is_closed x.state) Nothing _ (λ closed how. how refl)
     (λ alive. either Signal (λ g. (g ≡ Nothing → G) → G) (is_moved (before v s) x) _ _
     (λ moved how. tells alive (inl (λ same. clash (v.sending.una == x.sending.una) (eq-eqb v.sending.una x.sending.una (sym same)) (not_true (v.sending.una == x.sending.una) moved))))
-    (λ stays. either Signal (λ g. (g ≡ Nothing → G) → G) (is_counted_duplicate v s) (Counts (Duplicate (outstanding x.sending))) Nothing
-    (λ twice how. tells alive (inr (duplicate_tells v s (and_left (is_duplicate v s) (counts_duplicates v) twice), and_right (is_duplicate v s) (counts_duplicates v) twice))) (λ other how. how refl))) none)
+    (λ stays. either Signal (λ g. (g ≡ Nothing → G) → G) (is_counted_duplicate v s) (Counts (Duplicate (outstanding x.sending))) _
+    (λ twice how. tells alive (inr (inl (duplicate_tells v s (and_left (is_duplicate v s) (counts_duplicates v) twice), and_right (is_duplicate v s) (counts_duplicates v) twice))))
+    (λ other. either Signal (λ g. (g ≡ Nothing → G) → G) (reports_more (before v s) x) (Counts (report_event (told (before v s) x))) Nothing
+    (λ more how. tells alive (inr (inr (both (not (is_moved (before v s) x)) (reports_more (before v s) x) (ap not stays) more)))) (λ quiet how. how refl)))) none)
 others_count_none v (Ticks now) =
     by (((after_event v (Ticks now)).congestion ≡ v.congestion) ⊎ Tells v (Ticks now) (after_event v (Ticks now))) (has_come v.timers.retransmission now)
     (λ comes. inr (inr (now, refl, comes)))

@@ -13,7 +13,8 @@ use Rattle.tcp_segment.specs.Wire.{wire, past}
 use Rattle.retransmit.specs.declared.timers.Timers.{Timers}
 use Rattle.retransmit.specs.Deadlines.{no_timers}
 use Rattle.congestion.specs.Control.{is_selective}
-use Rattle.congestion.specs.Window.{allowed, initial_window}
+use Rattle.congestion.specs.Window.{initial_window}
+use Rattle.tcp_state.specs.Selective.{allowance}
 use Rattle.tcp_state.specs.declared.timing.TheConstants.{OVERRIDE_WAIT}
 use Rattle.tcp_state.specs.declared.reporting.Reporting.{Reporting}
 use Rattle.tcp_state.specs.declared.emission.Due.{Due}
@@ -34,6 +35,7 @@ use Rattle.tcp_state.specs.Arrival.{owing_ack, after_establishment, after_window
 use Rattle.tcp_state.specs.Due.{first_due, ack_due, new_octets, head_of, octets_of, after_syn_ack_paid, after_resent, after_first_sent, after_syn_again}
 use Rattle.tcp_state.specs.Edges.{Hears, Emits, after_first, after_event}
 use Rattle.tcp_state.specs.Simultaneous.{first_segment, after_coming, Ends, crossed, AnswersSyn, CanBeMade, HasOpened, KnowsWindow}
+use Rattle.tcp_state.proofs.Selects.{silent_opening}
 use Rattle.tcp_state.proofs.Clocked.{comes_to, unmoved, timed_unmoved}
 use Rattle.tcp_halves.proofs.Choices.{either, clash, both, or_left, and_false}
 use Rattle.tcp_halves.proofs.Keeping.{in_units}
@@ -302,7 +304,7 @@ syn_comes m now f =
     let b = before v (syn_of (mirror m)) in
     ap (λ n. timed_by b (taken m (read_of m) n (mark_past 0 n) now) now) (one_out m.isn f.isn)
     ∙ (ap (λ t. timed_by b (taken m t 1 (Some 0) now) now) f.settles
-    ∙ (timed_unmoved b w now (unmoved v) refl refl ∙ ap (running_if w None now now) (one_out m.isn f.isn)))
+    ∙ (timed_unmoved b w now (unmoved v) refl refl (silent_opening v (syn_of (mirror m)) refl) ∙ ap (running_if w None now now) (one_out m.isn f.isn)))
 
 -- The SYN-ACK.
 
@@ -344,7 +346,7 @@ syn_ack_comes m first now f =
     let s = syn_ack_of (mirror m) first in
     let b = before v s in
     comes_to v s now refl (and_no (acknowledges_unsent v s) (is_acceptable_to v s && false) (and_no (is_acceptable_to v s) false refl))
-    ∙ (ap (λ a. timed_by b (if a then after_acceptable_segment v s else owing_ack v) now) (unacceptable m f) ∙ (timed_unmoved b w now (unmoved v) refl refl ∙ ap (running_if w None now first) (one_out m.isn f.isn)))
+    ∙ (ap (λ a. timed_by b (if a then after_acceptable_segment v s else owing_ack v) now) (unacceptable m f) ∙ (timed_unmoved b w now (unmoved v) refl refl (silent_opening v s refl) ∙ ap (running_if w None now first) (one_out m.isn f.isn)))
 
 -- The acknowledgement.
 
@@ -405,8 +407,8 @@ at_rest : (m : Meeting) (first now : Moment) → clocked true (record (opened m 
 at_rest m first now =
     let w = opened m now in
     let n = outstanding w.sending in
-    let open_window = min w.sending.window (allowed w.congestion) - n in
-    let worth = is_worth_sending w.sending (allowed w.congestion) (waits_no_longer w) in
+    let open_window = min w.sending.window (allowance w) - n in
+    let worth = is_worth_sending w.sending (allowance w) (waits_no_longer w) in
     ap (λ b. record w {
       resend = record w.resend { interval = if b && false then 1000 else 1000 };
       timers = record no_timers {
@@ -436,18 +438,19 @@ ack_comes m first last now f =
     let w = heard m first last in
     comes_to v s now refl (ap (λ a. not a && (is_acceptable_to v s && true)) (acknowledges m.isn f.isn))
     ∙ (ap (λ x. timed_by b x now) (ack_heard m first last f)
+    ∙ (ap (λ bs. timed_by (record b { blocks = bs }) w now) (silent_opening v s refl)
     ∙ (ap (λ x. clocked x (record w {
-      resend = let once = resent_once m.mine.room.manner.least_timeout in let resend = if x then once else if answers_probe v s then once else once in resend_signalled resend (if x then Begins else Nothing) w.congestion (outstanding w.sending);
+      resend = let once = resent_once m.mine.room.manner.least_timeout in let resend : Resend = record (if x then once else if answers_probe v s then once else once) { reported = [] } in resend_signalled resend (if x then Begins else Nothing) w.congestion (outstanding w.sending);
       congestion = after_signal w.congestion (if x then Begins else Nothing) 1460 false;
       alive = asked None now;
     }) now) (moves m.isn f.isn)
-    ∙ at_rest m first now))
+    ∙ at_rest m first now)))
 
 none_left : (m : Meeting) (last : Moment) → Fits m → first_due (opened m last) ≡ None
 none_left m last f =
     let v = opened m last in
     let n = outstanding v.sending in
-    ap (λ b. if b && is_worth_sending v.sending (allowed v.congestion) (waits_no_longer v) then Some (Text (new_octets v)) else ack_due v) (none_waits n (min v.sending.window (allowed v.congestion) - n))
+    ap (λ b. if b && is_worth_sending v.sending (allowance v) (waits_no_longer v) then Some (Text (new_octets v)) else ack_due v) (none_waits n (min v.sending.window (allowance v) - n))
     ∙ ap (λ b. if b then Some Ack else None) (full m f)
 
 -- Both together.

@@ -2,7 +2,7 @@
 use Rattle.std.proofs.Common.{◌≡◌, ◌+◌, ◌*◌, ◌<◌, ◌≤◌, ◌==◌, ◌&&◌, ◌||◌, ◌⊎◌, nat_le, nat_lt, true, false, length, Some, inl, inr, arith, ◌∙◌, ap, subst}
 use Rattle.std.proofs.lemmas.Bool.{leb-true, ltb-true, eqb-true}
 use Rattle.std.proofs.lemmas.Bool.Decides.{leb_tells}
-use Rattle.congestion.specs.Window.{allowed}
+use Rattle.tcp_state.specs.Selective.{allowance}
 use Rattle.tcp_state.specs.declared.emission.Due.TheVariants.{Text}
 use Rattle.tcp_state.specs.declared.emission.Stretch.{Stretch}
 use Rattle.tcp_halves.specs.Stream.{outstanding}
@@ -11,6 +11,7 @@ use Rattle.tcp_state.specs.View.{View, IsSound, awaits_fin_ack}
 use Rattle.tcp_state.specs.New.{takes_last, passes_full, sends_new, waits_no_longer}
 use Rattle.tcp_state.specs.Due.{first_due, again, new_octets, fin_alone}
 use Rattle.tcp_halves.proofs.Choices.{clash, and_left, and_right, or_else}
+use Rattle.tcp_state.proofs.Places.{goes_within}
 use Rattle.tcp_state.proofs.Emissions.{by_due}
 
 -- what holds of each stretch of new octets that goes out holds of any that is due
@@ -19,7 +20,7 @@ by_new P v sound new stretch first = by_due (λ o. (t : Stretch) → o ≡ Some 
   nothing = λ quiet heard t e. cc;
   rst = λ owes t e. cc;
   syn = λ opening goes t e. cc;
-  once_more = λ opened mark is goes t e. let same : again v mark ≡ t = cc in subst (λ (u : Stretch). outstanding v.sending ≤ u.offset → 0 < u.count → P u) same (λ past. let within = sound.mark mark is in absurd (omega (arith, past, within)));
+  once_more = λ opened place is goes t e. let same : again v place ≡ t = cc in subst (λ (u : Stretch). outstanding v.sending ≤ u.offset → 0 < u.count → P u) same (λ past. let within = goes_within v place goes in absurd (omega (arith, past, within)));
   octets = λ opened sends t e. let same : new_octets v ≡ t = cc in subst (λ (u : Stretch). outstanding v.sending ≤ u.offset → 0 < u.count → P u) same (λ past some. new sends);
   fin = λ opened sends t e. let same : fin_alone v ≡ t = cc in subst (λ (u : Stretch). outstanding v.sending ≤ u.offset → 0 < u.count → P u) same (λ past some. absurd (omega (arith, some)));
   probe = λ opened owes goes t e. cc;
@@ -28,27 +29,27 @@ by_new P v sound new stretch first = by_due (λ o. (t : Stretch) → o ≡ Some 
 }) stretch first
 
 -- all that is held, or half of the largest window
-enough : (v : View) → takes_enough v.sending (allowed v.congestion) ≡ true → next_count v.sending (allowed v.congestion) < v.sending.smss → outstanding v.sending ≤ length v.sending.held
-    → (outstanding v.sending + next_count v.sending (allowed v.congestion) ≡ length v.sending.held) ⊎ (v.sending.max_window ≤ 2 * next_count v.sending (allowed v.congestion))
+enough : (v : View) → takes_enough v.sending (allowance v) ≡ true → next_count v.sending (allowance v) < v.sending.smss → outstanding v.sending ≤ length v.sending.held
+    → (outstanding v.sending + next_count v.sending (allowance v) ≡ length v.sending.held) ⊎ (v.sending.max_window ≤ 2 * next_count v.sending (allowance v))
 enough v much small within =
-    let n = sendable v.sending (allowed v.congestion) in
+    let n = sendable v.sending (allowance v) in
     let d = unsent v.sending in
-    let u = usable v.sending (allowed v.congestion) in
-    elim (or_else (takes_all v.sending (allowed v.congestion)) (nat_le v.sending.max_window (2 * n)) much) [
+    let u = usable v.sending (allowance v) in
+    elim (or_else (takes_all v.sending (allowance v)) (nat_le v.sending.max_window (2 * n)) much) [
       | inl all ↦ let fits = leb-true d u all in inl (omega (arith, fits, small, within))
       | inr half ↦ let most = leb-true v.sending.max_window (2 * n) half in inr (omega (arith, most, small))
     ]
 
 -- Why it is worth its way: nothing is outstanding, or it waits no longer.
-worth : (v : View) → sends_new v ≡ true → next_count v.sending (allowed v.congestion) < v.sending.smss
-    → ((outstanding v.sending ≡ 0) × (takes_enough v.sending (allowed v.congestion) ≡ true)) ⊎ (waits_no_longer v ≡ true)
+worth : (v : View) → sends_new v ≡ true → next_count v.sending (allowance v) < v.sending.smss
+    → ((outstanding v.sending ≡ 0) × (takes_enough v.sending (allowance v) ≡ true)) ⊎ (waits_no_longer v ≡ true)
 worth v sends small =
-    let n = sendable v.sending (allowed v.congestion) in
+    let n = sendable v.sending (allowance v) in
     let full = nat_le v.sending.smss n in
     let none = outstanding v.sending == 0 in
-    let much = takes_enough v.sending (allowed v.congestion) in
+    let much = takes_enough v.sending (allowance v) in
     let short : full ≡ false = elim (leb_tells v.sending.smss n) [ inl t ↦ absurd (omega (arith, t.1, small)) | inr t ↦ t.0 ] in
-    elim (or_else (full || (none && much)) (waits_no_longer v) (and_right (nat_lt 0 n) (is_worth_sending v.sending (allowed v.congestion) (waits_no_longer v)) sends)) [
+    elim (or_else (full || (none && much)) (waits_no_longer v) (and_right (nat_lt 0 n) (is_worth_sending v.sending (allowance v) (waits_no_longer v)) sends)) [
       | inl goes ↦ elim (or_else full (none && much) goes) [
         | inl whole ↦ clash full whole short
         | inr idle ↦ inl (eqb-true (outstanding v.sending) 0 (and_left none much idle), and_right none much idle)
@@ -59,8 +60,8 @@ worth v sends small =
 -- some octets are held that have not gone out
 some_unsent : (v : View) → sends_new v ≡ true → outstanding v.sending ≤ length v.sending.held
 some_unsent v sends =
-    let n = sendable v.sending (allowed v.congestion) in
-    let some = ltb-true 0 n (and_left (nat_lt 0 n) (is_worth_sending v.sending (allowed v.congestion) (waits_no_longer v)) sends) in omega (arith, some)
+    let n = sendable v.sending (allowance v) in
+    let some = ltb-true 0 n (and_left (nat_lt 0 n) (is_worth_sending v.sending (allowance v) (waits_no_longer v)) sends) in omega (arith, some)
 
 -- without delay asked for, without the override and where large segments are waited for too, nothing is outstanding
 abbrev Waits : View → Stretch → Type 0
@@ -69,7 +70,7 @@ Waits v t = t.count < v.sending.smss → v.resend.overridden ≡ false → v.nod
 
 new_octets_wait : (v : View) → sends_new v ≡ true → Waits v (new_octets v)
 new_octets_wait v sends small quiet delays plain =
-    let much = takes_enough v.sending (allowed v.congestion) in
+    let much = takes_enough v.sending (allowance v) in
     let waits : waits_no_longer v ≡ false = ap (λ b. (b && much) || passes_full v || v.resend.overridden) delays
     ∙ (ap (λ b. (b && much && ((v.resend.small == 0) || takes_last v)) || v.resend.overridden) plain ∙ quiet) in
     elim (worth v sends small) [
@@ -93,8 +94,8 @@ WaitsForSmall v t = t.count < v.sending.smss → v.resend.overridden ≡ false �
 
 new_octets_wait_for_small : (v : View) → IsSound v → sends_new v ≡ true → WaitsForSmall v (new_octets v)
 new_octets_wait_for_small v sound sends small quiet delays =
-    let n = sendable v.sending (allowed v.congestion) in
-    let much = takes_enough v.sending (allowed v.congestion) in
+    let n = sendable v.sending (allowance v) in
+    let much = takes_enough v.sending (allowance v) in
     let none = v.resend.small == 0 in
     let within = some_unsent v sends in
     let told : waits_no_longer v ≡ true → passes_full v ≡ true = λ over. elim (or_else ((v.nodelay && much) || passes_full v) v.resend.overridden over) [
@@ -111,8 +112,8 @@ new_octets_wait_for_small v sound sends small quiet delays =
           elim (or_else none (takes_last v) (and_right (v.minshall && much) (none || takes_last v) passes)) [
             | inl first ↦ inl (eqb-true v.resend.small 0 first, enough v (and_right v.minshall much (and_left (v.minshall && much) (none || takes_last v) passes)) small within)
             | inr last ↦
-                let all = leb-true (unsent v.sending) (usable v.sending (allowed v.congestion)) (and_right (awaits_fin_ack v.state) (takes_all v.sending (allowed v.congestion)) last) in
-                inr (and_left (awaits_fin_ack v.state) (takes_all v.sending (allowed v.congestion)) last, omega (arith, all, small, within))
+                let all = leb-true (unsent v.sending) (usable v.sending (allowance v)) (and_right (awaits_fin_ack v.state) (takes_all v.sending (allowance v)) last) in
+                inr (and_left (awaits_fin_ack v.state) (takes_all v.sending (allowance v)) last, omega (arith, all, small, within))
           ]
     ]
 

@@ -20,6 +20,7 @@ use Rattle.tcp_state.specs.View.{View, IsSound, is_opening, is_syn_sent, is_syn_
 use Rattle.tcp_state.specs.Resend.{mark_past}
 use Rattle.tcp_state.specs.Timing.{probes}
 use Rattle.tcp_state.specs.Alive.{heard_now}
+use Rattle.tcp_state.proofs.Selects.{silent_opening}
 use Rattle.tcp_state.specs.Arrival.{reset_error, after_rst_in_syn_sent, after_rst, is_acting_reset, ends_by_reset, ends_by_syn, ends_opening, is_acceptable_to, is_simultaneous_syn, after_simultaneous_syn, after_syn_ack, after_segment, is_receiving, is_read, octets_outstanding, brings_more, is_lost, after_lost, after_heard, before, is_moved, resend_after, timed_by, after_segment_at, is_rejected, fate, counts_duplicates, is_counted_duplicate}
 use Rattle.tcp_state.specs.Due.{first_due, ack_due}
 use Rattle.tcp_state.specs.Edges.{after_first}
@@ -70,7 +71,7 @@ answers v s now sound opens =
     let o = opening v sound opens in
     let due : first_due w ≡ Some Syn =
     ap (λ b. if b then Some Rst else (if (out == 0) || is_some (resend_after (before v s) u now).mark then Some Syn else ack_due w)) o.quiet
-    ∙ (ap (λ m. if (out == 0) || is_some m then Some Syn else ack_due w) (marks_kept (before v s) u now (inr (inl (ap is_opening opens))) (repeats_none v s (ap is_opening opens))) ∙ ap (λ b. if b then Some Syn else ack_due w) (goes_at_once out)) in
+    ∙ (ap (λ m. if (out == 0) || is_some m then Some Syn else ack_due w) (marks_kept (before v s) u now (inr (ap is_opening opens)) (repeats_none v s (ap is_opening opens)) (silent_opening v s (ap is_opening opens))) ∙ ap (λ b. if b then Some Syn else ack_due w) (goes_at_once out)) in
     let few : out ≤ 1 = one_out v.sending.size v.state (length v.sending.held) out o.waits sound.held sound.flight in
     record {
       state = refl;
@@ -149,7 +150,7 @@ refused v s now sound is quiet =
       recv = λ len. refl;
       held = refl;
       readable = none_listed v.receiving.readable (subst (λ t. length v.receiving.readable ≤ (if is_opening t then 0 else v.receiving.size)) is sound.readable);
-      due = silent (record v { alive = heard_now v.alive now }) timed.resend quiet (marks_kept b w now (inr (inl (ap is_opening is))) (repeats_none v s (ap is_opening is))) (ap (λ b. b && probes (record w { resend = resend })) (probes_kept b w now));
+      due = silent (record v { alive = heard_now v.alive now }) timed.resend quiet (marks_kept b w now (inr (ap is_opening is)) (repeats_none v s (ap is_opening is)) (silent_opening v s (ap is_opening is))) (ap (λ b. b && probes (record w { resend = resend })) (probes_kept b w now));
       timer = ap (λ t. sooner (sooner (next_of t) None) None) (at_rest v resend (is_moved b w) now sound.nxt);
     }
 

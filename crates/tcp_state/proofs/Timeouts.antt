@@ -67,7 +67,7 @@ after_moved v una now = if is_late v then after_lost_syn (sample v una now) else
 
 -- the third duplicate ACK leaves it
 loss_leaves : (b : Before) (w : View) (now : Moment) → (resend_after b w now).timeout ≡ (resend_heard b w now).timeout
-loss_leaves b w now = after_paced b w now (λ p. p.timeout ≡ (resend_heard b w now).timeout) refl refl refl
+loss_leaves b w now = after_paced b w now (λ p. p.timeout ≡ (resend_heard b w now).timeout) refl refl (λ r. refl) refl
 
 timeout_is : (v : View) (s : Segment) (now : Moment) → (is_closed v.state || is_rejected v s) ≡ false → (after_event v (Hears s now)).resend.timeout ≡ (resend_heard (before v s) (after_heard v s) now).timeout
 timeout_is v s now hears = ap (λ (w : View). w.resend.timeout) (heard_is v s now hears) ∙ loss_leaves (before v s) (after_heard v s) now

@@ -8,7 +8,7 @@ use Rattle.tcp_segment.specs.Wire.{past}
 use Rattle.clock.specs.declared.moment.Moment.{Moment}
 use Rattle.clock.specs.Moments.{has_come}
 use Rattle.retransmit.specs.Deadlines.{no_timers}
-use Rattle.congestion.specs.Window.{allowed}
+use Rattle.tcp_state.specs.Selective.{allowance}
 use Rattle.tcp_state.specs.declared.calls.Refusal.{Refusal}
 use Rattle.tcp_state.specs.declared.calls.Refusal.TheVariants.{ECONNREFUSED, ETIMEDOUT}
 use Rattle.tcp_state.specs.declared.emission.Due.{Due}
@@ -45,8 +45,8 @@ Quiet v = is_closed v.state ≡ true → (v.timers.overriding ≡ None) × (leng
 -- of nothing that is held none waits
 awaits_none : (v : View) → length v.sending.held ≡ 0 → awaits_more v ≡ false
 awaits_none v empty =
-    let none : sendable v.sending (allowed v.congestion) ≡ 0 = omega (arith, empty) in
-    ap (λ n. not (is_opening v.state) && (nat_lt 0 n && not (is_worth_sending v.sending (allowed v.congestion) (waits_no_longer v)))) none ∙ and_false (not (is_opening v.state))
+    let none : sendable v.sending (allowance v) ≡ 0 = omega (arith, empty) in
+    ap (λ n. not (is_opening v.state) && (nat_lt 0 n && not (is_worth_sending v.sending (allowance v) (waits_no_longer v)))) none ∙ and_false (not (is_opening v.state))
 
 runs_where : (wants : Bool) (deadline : Option Moment) (now : Moment) (milliseconds : ℕ) → is_some (if wants then running deadline now milliseconds else None) ≡ wants
 runs_where true None now milliseconds = refl

@@ -1,5 +1,5 @@
 -- Why new octets go past the congestion window at the first two duplicate ACKs alone, and never past the peer's window.
-use Rattle.std.proofs.Common.{◌≡◌, ℕ, ◌+◌, ◌*◌, ◌^◌, ◌<◌, ◌≤◌, ◌==◌, ◌&&◌, ◌||◌, not, nat_le, nat_lt, min, true, false, if◌then◌else◌, length, Some, None, is_some, inl, inr, arith, ◌∙◌, ap, ap₂}
+use Rattle.std.proofs.Common.{◌≡◌, ℕ, ◌+◌, ◌*◌, ◌^◌, ◌<◌, ◌≤◌, ◌==◌, ◌&&◌, ◌||◌, not, nat_le, nat_lt, min, true, false, if◌then◌else◌, length, Some, None, is_some, inl, inr, arith, ◌∙◌, ap, ap₂, subst}
 use Rattle.std.specs.Option.{option_or}
 use Rattle.std.proofs.lemmas.Bool.{lt-ltb, le-leb}
 use Rattle.std.proofs.lemmas.Bool.Decides.{eqb_tells, leb_tells}
@@ -17,8 +17,15 @@ use Rattle.tcp_state.specs.View.{View, IsSound, is_opening, is_closed}
 use Rattle.tcp_state.specs.Congestion.{KeepsCongestion}
 use Rattle.tcp_state.specs.Timing.{probes}
 use Rattle.tcp_state.specs.New.{waits_no_longer, sends_new, takes_fin, sends_fin}
-use Rattle.tcp_state.specs.Arrival.{after_window, is_duplicate, counts_duplicates, is_counted_duplicate, before, timed_by, after_segment_at}
+use Rattle.tcp_state.specs.Arrival.{after_window, is_duplicate, counts_duplicates, is_counted_duplicate, before, timed_by, reports_loss, after_segment_at}
 use Rattle.tcp_state.specs.Due.{first_due, end_of, ack_due, again_from, new_octets, fin_alone, new_due}
+use Rattle.congestion.specs.Control.{is_selective}
+use Rattle.tcp_state.specs.declared.reporting.Reporting.{Reporting}
+use Rattle.tcp_state.specs.Edges.{Hears}
+use Rattle.tcp_state.specs.Selective.{selects, counts_pipe, allowance}
+use Rattle.tcp_state.proofs.Allowance.{allowance_plain}
+use Rattle.tcp_state.proofs.Selects.{counted_selects_none}
+use Rattle.tcp_state.proofs.SetUp.{control_stays}
 use Rattle.tcp_state.proofs.Duplicates.{window_stays, comes_alone}
 use Rattle.tcp_state.proofs.Losses.{others_resend_none}
 use Rattle.tcp_state.proofs.NewNumbers.{keeps_window, keeps_cwnd}
@@ -38,10 +45,10 @@ allowed_past c end within past =
     (few, below, and_left (repairs c.control) (not (is_recovering c)) limited))
     (λ plain few. absurd (omega (arith, few, past))) within
 
-pub limited_within : (v : View) (stretch : Stretch) → IsSound v → first_due v ≡ Some (Text stretch) → outstanding v.sending ≤ stretch.offset → 0 < stretch.count → v.congestion.cwnd < end_of stretch
+pub limited_within : (v : View) (stretch : Stretch) → IsSound v → counts_pipe v ≡ false → first_due v ≡ Some (Text stretch) → outstanding v.sending ≤ stretch.offset → 0 < stretch.count → v.congestion.cwnd < end_of stretch
     → (end_of stretch ≤ v.congestion.cwnd + v.congestion.duplicates * v.congestion.smss) × (v.congestion.duplicates ≤ 2) × (end_of stretch ≤ v.sending.window) × (repairs v.congestion.control ≡ true)
-limited_within v stretch sound first new some past =
-    let k = allowed_past v.congestion (end_of stretch) (keeps_cwnd v stretch sound first new some) past in
+limited_within v stretch sound plain first new some past =
+    let k = allowed_past v.congestion (end_of stretch) (subst (λ n. end_of stretch ≤ n) (allowance_plain v plain) (keeps_cwnd v stretch sound first new some)) past in
     (k.0, k.1, (keeps_window v stretch sound first new).1, k.2)
 
 -- The first two duplicate ACKs.
@@ -66,24 +73,24 @@ segment_more count size = omega arith
 
 -- a full segment is due that may be in flight
 full_due : (w : View) → is_opening w.state ≡ false → w.owes_reset ≡ false → w.resend.mark ≡ None → 0 < w.sending.smss → outstanding w.sending + w.sending.smss ≤ length w.sending.held → outstanding w.sending + w.sending.smss ≤ w.sending.window
-    → outstanding w.sending + w.sending.smss ≤ allowed w.congestion → first_due w ≡ Some (Text (record { offset = outstanding w.sending; count = w.sending.smss; fin = takes_fin w (outstanding w.sending + w.sending.smss) }))
+    → outstanding w.sending + w.sending.smss ≤ allowance w → first_due w ≡ Some (Text (record { offset = outstanding w.sending; count = w.sending.smss; fin = takes_fin w (outstanding w.sending + w.sending.smss) }))
 full_due w opened owes unmarked some held window cwnd =
-    let n = sendable w.sending (allowed w.congestion) in
+    let n = sendable w.sending (allowance w) in
     let full : w.sending.smss ≤ n = omega (arith, held, window, cwnd) in
-    let worth : is_worth_sending w.sending (allowed w.congestion) (waits_no_longer w) ≡ true =
-    or_left (nat_le w.sending.smss n || ((outstanding w.sending == 0) && takes_enough w.sending (allowed w.congestion))) (waits_no_longer w)
+    let worth : is_worth_sending w.sending (allowance w) (waits_no_longer w) ≡ true =
+    or_left (nat_le w.sending.smss n || ((outstanding w.sending == 0) && takes_enough w.sending (allowance w))) (waits_no_longer w)
     (or_left (nat_le w.sending.smss n) _ (le-leb w.sending.smss n full)) in
     let sends : sends_new w ≡ true = both (nat_lt 0 n) _ (lt-ltb 0 n (omega (arith, full, some))) worth in
-    let count : next_count w.sending (allowed w.congestion) ≡ w.sending.smss = omega (arith, full) in
+    let count : next_count w.sending (allowance w) ≡ w.sending.smss = omega (arith, full) in
     ap₂ (λ a b. if a then Some Rst else if b then (if (outstanding w.sending == 0) || is_some w.resend.mark then Some Syn else ack_due w) else option_or (again_from w w.resend.mark) (new_due w)) owes opened
     ∙ ap (λ m. option_or (again_from w m) (new_due w)) unmarked
     ∙ ap (λ b. if b then Some (Text (new_octets w)) else if sends_fin w then Some (Text (fin_alone w)) else if w.resend.owes_probe && probes w then Some Probe else ack_due w) sends
     ∙ ap (λ k. Some (Text (record { offset = outstanding w.sending; count = k; fin = takes_fin w (outstanding w.sending + k) }))) count
 
-pub limited_sends : (v : View) (s : Segment) (now : Moment) → IsSound v → KeepsCongestion v → is_closed v.state ≡ false → repairs v.congestion.control ≡ true → is_counted_duplicate v s ≡ true → v.congestion.duplicates < 2 → v.resend.mark ≡ None
+pub limited_sends : (v : View) (s : Segment) (now : Moment) → IsSound v → KeepsCongestion v → is_closed v.state ≡ false → repairs v.congestion.control ≡ true → is_counted_duplicate v s ≡ true → reports_loss v s ≡ false → v.congestion.duplicates < 2 → v.resend.mark ≡ None
     → outstanding v.sending + v.sending.smss ≤ length v.sending.held → outstanding v.sending + v.sending.smss ≤ v.sending.window → outstanding v.sending ≤ v.congestion.cwnd + v.congestion.duplicates * v.congestion.smss
     → let w = after_segment_at v s now in first_due w ≡ Some (Text (record { offset = outstanding v.sending; count = v.sending.smss; fin = takes_fin w (outstanding v.sending + v.sending.smss) }))
-limited_sends v s now sound keeps lives on is few unmarked held window cwnd =
+limited_sends v s now sound keeps lives on is quiet few unmarked held window cwnd =
     let d = (duplicates_are v s sound).0 (and_left (is_duplicate v s) (counts_duplicates v) is) in
     let x = timed_by (before v s) (after_window v s) now in
     let w = after_segment_at v s now in
@@ -96,11 +103,13 @@ limited_sends v s now sound keeps lives on is few unmarked held window cwnd =
     let owes : w.owes_reset ≡ false = ap (λ (u : View). u.owes_reset) at ∙ unowed v.owes_reset (is_closed v.state) v.released lives sound.reset in
     let runs : goes_on v.congestion ≡ false = ap (λ b. repairs v.congestion.control && b) (below_third v.congestion few) ∙ and_false (repairs v.congestion.control) in
     let other : (is_counted_duplicate v s && third_is_next v.congestion) ≡ false = ap (λ b. is_counted_duplicate v s && b) (before_third v.congestion few) ∙ and_false (is_counted_duplicate v s) in
-    let more : allowed w.congestion ≡ v.congestion.cwnd + (v.congestion.duplicates + 1) * v.congestion.smss =
-    ap allowed (counts_duplicate v s now sound d (and_right (is_duplicate v s) (counts_duplicates v) is)) ∙ one_more v.congestion (past v.sending.nxt v.sending.una) on few in
+    let rules : selects w ≡ selects v = ap₂ (λ c (r : Reporting). is_selective c && r.sacks) (control_stays v (Hears s now)) (ap (λ (u : View). u.reporting) at) in
+    let more : allowance w ≡ v.congestion.cwnd + (v.congestion.duplicates + 1) * v.congestion.smss =
+    allowance_plain w (ap (λ b. b && (is_recovering w.congestion || (w.resend.recover == 0))) (rules ∙ counted_selects_none v (and_right (is_duplicate v s) (counts_duplicates v) is)))
+    ∙ ap allowed (counts_duplicate v s now sound d (and_right (is_duplicate v s) (counts_duplicates v) is)) ∙ one_more v.congestion (past v.sending.nxt v.sending.una) on few in
     let segment : v.congestion.smss ≡ v.sending.smss = keeps.segment (ap₂ (λ a b. a || b) d.opened lives) in
-    let room : outstanding w.sending + w.sending.smss ≤ allowed w.congestion =
+    let room : outstanding w.sending + w.sending.smss ≤ allowance w =
     let grown = segment_more v.congestion.duplicates v.congestion.smss in omega (arith, out, smss, more, segment, cwnd, grown) in
-    let due = full_due w (ap (λ (u : View). is_opening u.state) at ∙ d.opened) owes (others_resend_none v s now sound unmarked d.opened runs other) (omega (arith, smss, sound.segment_least))
+    let due = full_due w (ap (λ (u : View). is_opening u.state) at ∙ d.opened) owes (others_resend_none v s now sound unmarked d.opened runs other quiet) (omega (arith, smss, sound.segment_least))
     (omega (arith, out, smss, octets, held)) (omega (arith, out, smss, told, window)) room in
     due ∙ ap₂ (λ o n. Some (Text (record { offset = o; count = n; fin = takes_fin w (o + n) }))) out smss

@@ -3,7 +3,7 @@ use Rattle.std.proofs.Common.{◌≡◌, ◌+◌, ◌<◌, ◌≤◌, ◌==◌, 
 use Rattle.std.specs.Option.{option_or}
 use Rattle.tcp_segment.specs.Segment.{Segment}
 use Rattle.clock.specs.declared.moment.Moment.{Moment}
-use Rattle.congestion.specs.Window.{allowed}
+use Rattle.tcp_state.specs.Selective.{allowance}
 use Rattle.tcp_state.specs.declared.connection.Fate.TheVariants.{Stays, Removed, Rejected}
 use Rattle.tcp_state.specs.declared.emission.Due.{Due}
 use Rattle.tcp_state.specs.declared.emission.Due.TheVariants.{Rst, Syn, Text, Probe, Ack, KeepAlive}
@@ -102,7 +102,7 @@ rejected_leaves_at v s now e =
 pub record IsQuiet (v : View) : Type 0 where
   pub opened : is_opening v.state ≡ false
   pub mark : v.resend.mark ≡ None
-  pub octets : sendable v.sending (allowed v.congestion) ≡ 0
+  pub octets : sendable v.sending (allowance v) ≡ 0
   pub fin : awaits_fin_ack v.state ≡ false
   pub probe : probes v ≡ false
   pub closed : is_closed v.state ≡ true
@@ -132,7 +132,7 @@ closed_rests_not _ empty e = cc
 
 pub none_due : (v : View) → IsQuiet v → first_due v ≡ (if v.owes_reset then Some Rst else None)
 none_due v quiet =
-    let octets = ap (λ n. nat_lt 0 n && is_worth_sending v.sending (allowed v.congestion) (waits_no_longer v)) quiet.octets in
+    let octets = ap (λ n. nat_lt 0 n && is_worth_sending v.sending (allowance v) (waits_no_longer v)) quiet.octets in
     let fin = ap (λ b. b && (outstanding v.sending == length v.sending.held) && nat_lt (outstanding v.sending) v.sending.window) quiet.fin in
     let new : new_due v ≡ None = none_new _ (sends_fin v) v.resend.owes_probe (probes v) v.owes_ack (not (is_opening v.state)) (is_closed v.state) v.spoke (has_grown v.receiving) v.alive.owed (rests v) (Text (new_octets v)) (Text (fin_alone v)) octets fin quiet.probe quiet.ack quiet.closed
     (closed_rests_not v.state (length v.sending.held == 0) quiet.closed) in

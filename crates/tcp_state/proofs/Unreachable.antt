@@ -4,7 +4,7 @@ use Rattle.std.proofs.lemmas.Bool.Decides.{eqb_tells}
 use Rattle.clock.specs.declared.moment.Moment.{Moment}
 use Rattle.retransmit.specs.Deadlines.{no_timers}
 use Rattle.tcp_segment.specs.Wire.{past}
-use Rattle.congestion.specs.Window.{allowed}
+use Rattle.tcp_state.specs.Selective.{allowance}
 use Rattle.tcp_state.specs.declared.timing.TheConstants.{OVERRIDE_WAIT}
 use Rattle.tcp_state.specs.declared.calls.Refusal.TheVariants.{ECONNREFUSED}
 use Rattle.tcp_state.specs.declared.connection.Fate.TheVariants.{Stays, Removed}
@@ -91,8 +91,8 @@ pub silent : (v : View) (resend : Resend) → v.owes_reset ≡ false → resend.
 silent v resend quiet unmarked unprobed =
     let w = record (after_stop v) { resend = record resend { mark = None; owes_probe = false } } in
     let same : record (after_stop v) { resend = resend } ≡ w = rw unmarked (rw unprobed refl) in
-    let least : sendable w.sending (allowed w.congestion) ≡ 0 = omega arith in
-    let none_new : sends_new w ≡ false = ap (λ n. nat_lt 0 n && is_worth_sending w.sending (allowed w.congestion) (waits_no_longer w)) least in
+    let least : sendable w.sending (allowance w) ≡ 0 = omega arith in
+    let none_new : sends_new w ≡ false = ap (λ n. nat_lt 0 n && is_worth_sending w.sending (allowance w) (waits_no_longer w)) least in
     ap first_due same ∙ (ap (λ b. if b then Some Rst else new_due w) quiet
     ∙ (ap (λ b. if b then Some (Text (new_octets w)) else if v.alive.owed && false then Some KeepAlive else None) none_new ∙ ap (λ b. if b then Some KeepAlive else None) (and_no v.alive.owed false refl)))
 
@@ -106,8 +106,8 @@ at_rest v resend moved now fits =
     let w = record (after_stop v) { resend = resend } in
     let idle : probes w ≡ false = and_no (v.sending.window == 0) false refl in
     let none_out : retransmits w ≡ false = ap (λ n. nat_lt 0 n && not (probes w)) (none_outstanding_at v.sending.nxt fits) in
-    let least : sendable w.sending (allowed w.congestion) ≡ 0 = omega arith in
-    let content : awaits_more w ≡ false = ap (λ n. nat_lt 0 n && not (is_worth_sending w.sending (allowed w.congestion) (waits_no_longer w))) least in
+    let least : sendable w.sending (allowance w) ≡ 0 = omega arith in
+    let content : awaits_more w ≡ false = ap (λ n. nat_lt 0 n && not (is_worth_sending w.sending (allowance w) (waits_no_longer w))) least in
     none_run (retransmission_timer w moved now) (probe_timer w now) (override_timer w now)
     (ap (λ b. if b then running (if moved then None else None) now resend.timeout.rto else None) none_out)
     (ap (λ b. if b then running None now resend.timeout.rto else None) idle)

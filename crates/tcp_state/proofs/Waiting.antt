@@ -6,7 +6,7 @@ use Rattle.std.specs.Option.{option_or}
 use Rattle.clock.specs.declared.moment.Moment.{Moment}
 use Rattle.clock.specs.Moments.{sooner}
 use Rattle.retransmit.specs.Deadlines.{next_of}
-use Rattle.congestion.specs.Window.{allowed}
+use Rattle.tcp_state.specs.Selective.{allowance}
 use Rattle.tcp_state.specs.declared.emission.Due.{Due}
 use Rattle.tcp_state.specs.declared.emission.Due.TheVariants.{Rst, Syn, Text, Probe}
 use Rattle.tcp_halves.specs.Stream.{outstanding}
@@ -16,10 +16,10 @@ use Rattle.tcp_state.specs.Alive.{alive_at}
 use Rattle.tcp_state.specs.Congestion.{KeepsCongestion}
 use Rattle.tcp_state.specs.Timing.{KeepsTime, has_unacknowledged, probes, deadline}
 use Rattle.tcp_state.specs.New.{sends_new, sends_fin, waits_no_longer}
-use Rattle.tcp_state.specs.Due.{first_due, ack_due, again, goes_again, again_from, new_octets, fin_alone, new_due}
+use Rattle.tcp_state.specs.Due.{first_due, ack_due, again, again_at, goes_again, again_from, new_octets, fin_alone, new_due}
 use Rattle.tcp_state.specs.Positions.{HasToSend, takes_numbers}
 use Rattle.tcp_halves.proofs.Choices.{either, by, clash, and_false, both, or_left, or_right, of_false}
-use Rattle.tcp_state.proofs.Growth.{allows_some}
+use Rattle.tcp_state.proofs.Allowance.{allowance_some}
 use Rattle.tcp_state.proofs.Unchanged.{closed_plain, closed_holds}
 
 -- Timers.
@@ -108,7 +108,7 @@ new_goes v none opened new =
   where
     marked : (mark : Option ℕ) → takes_numbers (option_or (again_from v mark) (new_due v)) ≡ true
     marked None = new
-    marked (Some mark) = either (Option Due) (λ o. takes_numbers (option_or o (new_due v)) ≡ true) (goes_again v mark) (Some (Text (again v mark))) None (λ goes. refl) (λ waits. new)
+    marked (Some mark) = either (Option Due) (λ o. takes_numbers (option_or o (new_due v)) ≡ true) (goes_again v (again_at v mark)) (Some (Text (again v (again_at v mark)))) None (λ goes. refl) (λ waits. new)
 
 octets_go : (v : View) → sends_new v ≡ true → takes_numbers (new_due v) ≡ true
 octets_go v sends =
@@ -121,11 +121,11 @@ fin_goes v sends =
     (λ no_octets. either (Option Due) P (sends_fin v) (Some (Text (fin_alone v))) _ (λ fin. refl) (λ no_fin. clash (sends_fin v) sends no_fin))
 
 -- octets may go out, and do or wait for more
-sendable_goes : (v : View) → v.owes_reset ≡ false → KeepsTime v → is_opening v.state ≡ false → 0 < sendable v.sending (allowed v.congestion) → (takes_numbers (first_due v) || is_some (deadline v)) ≡ true
+sendable_goes : (v : View) → v.owes_reset ≡ false → KeepsTime v → is_opening v.state ≡ false → 0 < sendable v.sending (allowance v) → (takes_numbers (first_due v) || is_some (deadline v)) ≡ true
 sendable_goes v none keeps opened some =
-    let goes = nat_lt 0 (sendable v.sending (allowed v.congestion)) in
-    let worth = is_worth_sending v.sending (allowed v.congestion) (waits_no_longer v) in
-    let may : goes ≡ true = lt-ltb 0 (sendable v.sending (allowed v.congestion)) some in
+    let goes = nat_lt 0 (sendable v.sending (allowance v)) in
+    let worth = is_worth_sending v.sending (allowance v) (waits_no_longer v) in
+    let may : goes ≡ true = lt-ltb 0 (sendable v.sending (allowance v)) some in
     by ((takes_numbers (first_due v) || is_some (deadline v)) ≡ true) worth
     (λ is. or_left (takes_numbers (first_due v)) (is_some (deadline v)) (new_goes v none opened (octets_go v (both goes worth may is))))
     (λ is_not. or_right (takes_numbers (first_due v)) (is_some (deadline v)) (override_told v (keeps.overriding (both (not (is_opening v.state)) (goes && not worth) (of_false (is_opening v.state) opened) (both goes (not worth) may (of_false worth is_not))))))
@@ -141,12 +141,11 @@ wide_window : (v : View) → IsSound v → v.owes_reset ≡ false → KeepsTime 
     → (takes_numbers (first_due v) || is_some (deadline v)) ≡ true
 wide_window v sound none keeps network opened wide has =
     let goal : Type 0 = (takes_numbers (first_due v) || is_some (deadline v)) ≡ true in
-    let some_network : 0 < allowed v.congestion = allows_some v.congestion network.sound in
     let room : 0 < v.sending.window = elim (eqb_tells v.sending.window 0) [ inl t ↦ clash (v.sending.window == 0) t.0 wide | inr t ↦ omega (arith, t.1) ] in
     let unprobed : probes v ≡ false = ap (λ b. not (is_opening v.state) && b && has_unacknowledged v) wide ∙ ap (λ b. b && has_unacknowledged v) (and_false (not (is_opening v.state))) in
     elim (eqb_tells (outstanding v.sending) 0) [
       | inr some ↦ or_right (takes_numbers (first_due v)) (is_some (deadline v)) (outstanding_told v keeps some.0 unprobed)
-      | inl idle ↦ elim (eqb_tells (length v.sending.held) 0) [
+      | inl idle ↦ let some_network = allowance_some v sound network idle.1 in elim (eqb_tells (length v.sending.held) 0) [
         | inr octets ↦ sendable_goes v none keeps opened (omega (arith, room, some_network, idle.1, octets.1))
         | inl empty ↦
             let waits : awaits_fin_ack v.state ≡ true = sym (ap (λ b. not b || awaits_fin_ack v.state) empty.0) ∙ has in

@@ -1,9 +1,10 @@
 -- What an arriving segment makes of a connection, step by step (RFC 9293 section 3.10.7).
-use Rattle.std.specs.Prelude.{ℕ, ◌+◌, ◌-◌, ◌%◌, ◌^◌, ◌==◌, ◌&&◌, ◌||◌, not, nat_lt, min, Bool, true, false, if◌then◌else◌, length, Option, Some, None, is_some}
+use Rattle.std.specs.Prelude.{ℕ, ◌+◌, ◌-◌, ◌%◌, ◌^◌, ◌==◌, ◌&&◌, ◌||◌, not, nat_lt, min, Bool, true, false, if◌then◌else◌, List, [], length, Option, Some, None, is_some}
 use Rattle.tcp_state.specs.declared.calls.Refusal.{Refusal}
 use Rattle.tcp_state.specs.declared.calls.Refusal.TheVariants.{ECONNREFUSED, ECONNRESET}
 use Rattle.ipv4.specs.declared.addr.Endpoint.{Endpoint}
-use Rattle.tcp_segment.specs.Segment.{Segment, smss_of, scale_option_of, shift_of, span_of}
+use Rattle.tcp_segment.specs.declared.blocks.Block.{Block}
+use Rattle.tcp_segment.specs.Segment.{Segment, smss_of, scale_option_of, shift_of, span_of, blocks_of}
 use Rattle.tcp_halves.specs.Numbers.{is_before}
 use Rattle.tcp_state.specs.declared.connection.Fate.{Fate}
 use Rattle.tcp_state.specs.declared.connection.Fate.TheVariants.{Stays, Removed, Rejected}
@@ -14,21 +15,24 @@ use Rattle.tcp_halves.specs.Halves.{Room}
 use Rattle.tcp_halves.specs.Stream.{outstanding, is_new_ack, sending_settled, receiving_settled, after_syn_acknowledged, after_acknowledged, is_in_window, is_acceptable, after_syn, after_octets, stands_next, after_end}
 use Rattle.tcp_halves.specs.Windows.{window_in, after_syn_heard, after_window_update, syn_window}
 use Rattle.tcp_state.specs.View.{View, opened_actively, is_opening, is_syn_sent, is_syn_received, is_closed, is_fin_wait_2, is_time_wait, awaits_fin_ack, after_reset, is_over}
-use Rattle.tcp_state.specs.Resend.{Resend, stopped, mark_past, mark_moved, unmarked, resend_acknowledged, resend_first, resend_lost}
-use Rattle.congestion.specs.Control.{repairs}
+use Rattle.tcp_state.specs.Resend.{Resend, stopped, mark_past, mark_moved, unmarked, resend_acknowledged, resend_first, resend_lost, resend_ends}
+use Rattle.congestion.specs.Control.{repairs, is_selective}
 use Rattle.congestion.specs.Window.{Window, is_recovering, goes_on, third_is_next}
 use Rattle.congestion.specs.Events.{Event}
-use Rattle.congestion.specs.Events.Event.{NewAck, PartialAck, Duplicate}
+use Rattle.congestion.specs.Events.Event.{NewAck, PartialAck, Duplicate, Loss}
 use Rattle.tcp_state.specs.Congestion.{Signal, after_signal}
 use Rattle.tcp_state.specs.Congestion.Signal.{Begins, Counts, Nothing}
 use Rattle.tcp_state.specs.Timing.{probes, clocked}
 use Rattle.retransmit.specs.Deadlines.{no_timers}
+use Rattle.stream_buf.specs.declared.ranges.Range.{Range}
+use Rattle.stream_buf.specs.Ranges.{covered}
 use Rattle.stream_buf.specs.Receiving.{ranges}
 use Rattle.tcp_segment.specs.Wire.{past}
 use Rattle.tcp_state.specs.declared.arrival.Before.{Before}
 use Rattle.tcp_state.specs.Calls.{aborted}
 use Rattle.tcp_state.specs.Alive.{heard_now}
 use Rattle.tcp_state.specs.Reporting.{settled, noted}
+use Rattle.tcp_state.specs.Selective.{selects, with_blocks, loss_end}
 
 abbrev pub owing_ack : View → View
 owing_ack v = record v { owes_ack = true }
@@ -269,12 +273,19 @@ is_duplicate v s =
     && (s.acknowledgement == v.sending.una) && (window_in v.sending s.window == v.sending.window)
 
 -- Where losses are repaired, it counts in a recovery, and where all is acknowledged that was outstanding when the last one began or the timer expired (RFC 6582 section 3.2, steps 2 and 4); not while the peer's closed window is
--- probed, for it answers each probe with one.
+-- probed, for it answers each probe with one; nor where reports are taken, which count instead.
 abbrev pub counts_duplicates : View → Bool
-counts_duplicates v = not (repairs v.congestion.control) || ((is_recovering v.congestion || (v.resend.recover == 0)) && not (probes v))
+counts_duplicates v = not (repairs v.congestion.control) || ((is_recovering v.congestion || (v.resend.recover == 0)) && not (probes v) && not (selects v))
 
 abbrev pub is_counted_duplicate : View → Segment → Bool
 is_counted_duplicate v s = is_duplicate v s && counts_duplicates v
+
+-- What a segment reports that is read, past the opening. Outside a recovery it counts as a duplicate ACK does there.
+abbrev pub blocks_told : View → Segment → List Block
+blocks_told v s = if selects v && not (is_opening v.state) && is_read v s then blocks_of s else []
+
+abbrev pub counts_reports : View → Bool
+counts_reports v = not (is_recovering v.congestion) && (v.resend.recover == 0) && not (probes v)
 
 -- what the clock and the congestion window have to know of a connection before a segment and of the segment
 abbrev pub before : View → Segment → Before
@@ -285,6 +296,8 @@ before v s = record {
   repeats_fin = repeats_fin v s;
   answers_probe = answers_probe v s;
   is_duplicate = is_counted_duplicate v s;
+  counts_reports = counts_reports v;
+  blocks = blocks_told v s;
   held = length v.sending.held;
 }
 
@@ -301,26 +314,66 @@ resend_heard b w now =
     else if b.answers_probe then record w.resend { expiries = 0 }
     else w.resend
 
--- an ACK of so many new octets: a partial one where a recovery goes on, and some of what was outstanding at its beginning still is (RFC 6582 section 3.2, step 3)
-abbrev pub acknowledged_event : View → ℕ → Event
-acknowledged_event w octets = if goes_on w.congestion && nat_lt 0 w.resend.recover then PartialAck octets else NewAck octets (outstanding w.sending)
+-- What the segment reports joins what was reported, of what is outstanding still. Octets that nothing reported before make it a duplicate ACK, whatever else it brings (RFC 6675 section 2); one that moves SND.UNA counts as that alone.
+abbrev pub reported_by : Before → View → List Range
+reported_by b w = with_blocks w.resend.reported w.sending b.blocks
 
--- What a segment that was heard is to the congestion window: its beginning, where it acknowledges our SYN; an ACK of new octets; or a duplicate one that counts. To what is CLOSED it is nothing.
-abbrev pub congestion_event_of : Before → View → Signal
-congestion_event_of b w =
+abbrev pub told : Before → View → View
+told b w = record w { resend = record w.resend { reported = reported_by b w } }
+
+abbrev pub resend_told : Before → View → Moment → Resend
+resend_told b w now = record (resend_heard b w now) { reported = reported_by b w }
+
+abbrev pub reports_more : Before → View → Bool
+reports_more b w = b.counts_reports && nat_lt (covered w.resend.reported) (covered (reported_by b w))
+
+-- An ACK of so many new octets: a partial one where a recovery goes on, and some of what was outstanding at its beginning still is (RFC 6582 section 3.2, step 3). In a recovery that reports rule that is nothing to the window: what is in the
+-- network is counted by reports (RFC 6675 section 5).
+abbrev pub is_partial : View → Bool
+is_partial w = goes_on w.congestion && nat_lt 0 w.resend.recover
+
+abbrev pub acknowledged_signal : View → ℕ → Signal
+acknowledged_signal w octets =
+    if is_partial w then (if selects w then Nothing else Counts (PartialAck octets))
+    else Counts (NewAck octets (outstanding w.sending))
+
+-- The third report that counts tells a loss, or one by which what is at SND.UNA is lost (RFC 6675 section 5, steps 1 and 2).
+abbrev pub tells_loss : View → Bool
+tells_loss w = third_is_next w.congestion || nat_lt 0 (loss_end w)
+
+abbrev pub report_event : View → Event
+report_event w = if tells_loss w then Loss (outstanding w.sending) else Duplicate (outstanding w.sending)
+
+-- What a segment that was heard is to the congestion window: its beginning, where it acknowledges our SYN; an ACK of new octets; or a duplicate one or a report that counts. To what is CLOSED it is nothing.
+abbrev pub signal_of : Before → View → Bool → Signal
+signal_of b w more =
     if is_closed w.state then Nothing
-    else if is_moved b w then (if is_opening b.state then Begins else Counts (acknowledged_event w (b.held - length w.sending.held)))
+    else if is_moved b w then (if is_opening b.state then Begins else acknowledged_signal w (b.held - length w.sending.held))
     else if b.is_duplicate then Counts (Duplicate (outstanding w.sending))
+    else if more then Counts (report_event w)
     else Nothing
 
--- The third duplicate ACK in a row tells that the segment at SND.UNA is lost (RFC 5681 section 3.2), and a partial ACK that the next one is, too (RFC 6582 section 3.2, step 3): it goes out again.
+abbrev pub congestion_event_of : Before → View → Signal
+congestion_event_of b w = signal_of b (told b w) (reports_more b w)
+
+-- a segment that is a report which counts, and one that tells a loss
+abbrev pub is_report : View → Segment → Bool
+is_report v s = not (is_moved (before v s) (after_heard v s)) && reports_more (before v s) (after_heard v s)
+
+abbrev pub reports_loss : View → Segment → Bool
+reports_loss v s = is_report v s && tells_loss (told (before v s) (after_heard v s))
+
+-- The third duplicate ACK in a row tells that the segment at SND.UNA is lost (RFC 5681 section 3.2), and a partial ACK that the next one is, too (RFC 6582 section 3.2, step 3): it goes out again. So it does
+-- where reports tell that it is lost; and behind it what else they tell of, up to the end of that recovery (RFC 6675 section 5).
 abbrev pub resend_signalled : Resend → Signal → Window → ℕ → Resend
 resend_signalled p (Counts (Duplicate flight)) window outstanding = if third_is_next window then resend_lost p (repairs window.control) outstanding else p
+resend_signalled p (Counts (Loss flight)) window outstanding = resend_lost p true outstanding
 resend_signalled p (Counts (PartialAck octets)) window outstanding = resend_first p outstanding
+resend_signalled p (Counts (NewAck octets flight)) window outstanding = if is_selective window.control && is_recovering window then resend_ends p else p
 resend_signalled p _ window outstanding = p
 
 abbrev pub resend_after : Before → View → Moment → Resend
-resend_after b w now = resend_signalled (resend_heard b w now) (congestion_event_of b w) w.congestion (outstanding w.sending)
+resend_after b w now = resend_signalled (resend_told b w now) (congestion_event_of b w) w.congestion (outstanding w.sending)
 
 abbrev pub congestion_after : Before → View → Window
 congestion_after b w = after_signal w.congestion (congestion_event_of b w) w.sending.smss w.resend.syn_resent

@@ -1,5 +1,5 @@
 -- What goes out, and what that makes of a connection (RFC 9293 section 3.8).
-use Rattle.std.specs.Prelude.{◌≡◌, ℕ, ◌+◌, ◌-◌, ◌*◌, ◌%◌, ◌^◌, ◌<◌, ◌≤◌, ◌==◌, ◌&&◌, ◌||◌, not, nat_lt, min, Bool, true, false, if◌then◌else◌, List, [], length, take, drop, Option, Some, None, is_some}
+use Rattle.std.specs.Prelude.{◌≡◌, ℕ, ◌+◌, ◌-◌, ◌*◌, ◌%◌, ◌^◌, ◌<◌, ◌≤◌, ◌==◌, ◌&&◌, ◌||◌, not, nat_lt, nat_le, min, Bool, true, false, if◌then◌else◌, List, [], length, take, drop, Option, Some, None, is_some}
 use Rattle.std.specs.Option.{option_or}
 use Rattle.tcp_segment.specs.declared.TheConstants.{MSS}
 use Rattle.tcp_segment.specs.declared.flags.Flags.{Flags}
@@ -13,8 +13,9 @@ use Rattle.tcp_state.specs.Resend.{resend_again, resend_sent, resend_probed, res
 use Rattle.tcp_halves.specs.declared.buffers.TheConstants.{CAPACITY}
 use Rattle.tcp_halves.specs.Stream.{outstanding, after_sent, receive_window}
 use Rattle.tcp_halves.specs.Windows.{hears_next, open_window, next_count, has_grown, after_advertisement, window_field, after_syn_advertisement}
-use Rattle.congestion.specs.Window.{allowed}
+use Rattle.stream_buf.specs.Scoreboard.{first_gap, gap_len, reported_end}
 use Rattle.tcp_state.specs.View.{View, is_opening, is_syn_sent, is_syn_received, is_closed, awaits_fin_ack}
+use Rattle.tcp_state.specs.Selective.{repairs_gaps, loss_end, pipe, allowance}
 use Rattle.tcp_state.specs.New.{sends_new, takes_fin, sends_fin}
 use Rattle.tcp_state.specs.Timing.{probes, clocked}
 use Rattle.tcp_state.specs.Alive.{may_rest, is_alive_due}
@@ -229,24 +230,41 @@ is_ack_due v = v.owes_ack || (not (is_opening v.state) && not (is_closed v.state
 abbrev pub ack_due : View → Option Due
 ack_due v = if is_ack_due v then Some Ack else if is_alive_due v then Some KeepAlive else None
 
--- What is outstanding from a mark on, once more: one segment's octets, with the FIN where it follows them and has gone out.
+-- What is outstanding from a place on, once more: one segment's octets, up to those that are reported, with the FIN where it follows them and has gone out.
 abbrev pub again : View → ℕ → Stretch
 again v mark =
-    let count = min (min (length v.sending.held) (outstanding v.sending) - mark) v.sending.smss in
+    let count = gap_len v.resend.reported mark (min (min (length v.sending.held) (outstanding v.sending) - mark) v.sending.smss) in
     record { offset = mark; count = count; fin = (mark + count == length v.sending.held) && nat_lt (length v.sending.held) (outstanding v.sending) }
 
--- what goes out again stays within the lesser of the peer's window and the congestion window, but for what is at SND.UNA
+-- A place that isn't reported is taken for missing where it is lost; or, where nothing new may go out, where one behind it is reported (RFC 6675 section 4, NextSeg, rules 1 and 3).
+abbrev pub is_missing : View → ℕ → Bool
+is_missing v place = nat_lt place (loss_end v) || (nat_lt place (reported_end v.resend.reported) && not (sends_new v || sends_fin v))
+
+-- In a recovery that reports rule, what is missing goes out again, within the peer's window, while the network takes one more segment (RFC 6675 section 5).
+abbrev pub goes_by_reports : View → ℕ → Bool
+goes_by_reports v place = is_missing v place && nat_lt place v.sending.window && nat_le (pipe v + v.sending.smss) v.congestion.cwnd
+
+-- Else what goes out again stays within the lesser of the peer's window and the congestion window, but for what is at SND.UNA; and so does the first segment of a recovery.
+abbrev pub goes_by_windows : View → ℕ → Bool
+goes_by_windows v place = (place == 0) || nat_lt place (open_window v.sending v.congestion.cwnd)
+
 abbrev pub goes_again : View → ℕ → Bool
-goes_again v mark = (mark == 0) || nat_lt mark (open_window v.sending v.congestion.cwnd)
+goes_again v place =
+    nat_lt place (outstanding v.sending)
+    && (if repairs_gaps v && not v.resend.once then goes_by_reports v place else goes_by_windows v place)
+
+-- the resend mark stands before it, and nothing but what is reported stands between
+abbrev pub again_at : View → ℕ → ℕ
+again_at v mark = first_gap v.resend.reported mark
 
 abbrev pub again_from : View → Option ℕ → Option Due
 again_from v None = None
-again_from v (Some mark) = if goes_again v mark then Some (Text (again v mark)) else None
+again_from v (Some mark) = if goes_again v (again_at v mark) then Some (Text (again v (again_at v mark))) else None
 
 -- the new octets of the next segment, and the FIN that goes with them
 abbrev pub new_octets : View → Stretch
 new_octets v =
-    let count = next_count v.sending (allowed v.congestion) in
+    let count = next_count v.sending (allowance v) in
     record { offset = outstanding v.sending; count = count; fin = takes_fin v (outstanding v.sending + count) }
 
 -- all that has not gone out, as much of it as one segment takes, and the FIN that goes with that

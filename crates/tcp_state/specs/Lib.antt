@@ -9,6 +9,7 @@ pub mod View
 pub mod Alive
 pub mod Reporting
 pub mod Congestion
+pub mod Selective
 pub mod New
 pub mod Timing
 pub mod Hop

@@ -1,5 +1,7 @@
 -- The retransmission state of a connection: what goes out again, and what the clock measures of a round trip (RFC 6298, RFC 9293 sections 3.8.1 and 3.8.6.1).
-use Rattle.std.specs.Prelude.{ℕ, suc, ◌+◌, ◌-◌, ◌*◌, ◌^◌, ◌≤◌, ◌&&◌, ◌||◌, nat_lt, min, Bool, true, false, if◌then◌else◌, not, Option, Some, None}
+use Rattle.std.specs.Prelude.{ℕ, suc, ◌+◌, ◌-◌, ◌*◌, ◌^◌, ◌≤◌, ◌==◌, ◌&&◌, ◌||◌, nat_lt, min, Bool, true, false, if◌then◌else◌, not, Option, Some, None, List, [], length}
+use Rattle.stream_buf.specs.declared.ranges.Range.{Range}
+use Rattle.stream_buf.specs.Scoreboard.{IsScoreboard, passed}
 use Rattle.clock.specs.declared.moment.Moment.{Moment}
 use Rattle.retransmit.specs.Timeout.{Timeout, first_timeout, after_sample, after_expiry, after_lost_syn}
 use Rattle.tcp_halves.specs.Numbers.{is_before}
@@ -31,6 +33,8 @@ pub record Resend : Type 0 where
   pub small : ℕ
   -- the number behind all that was outstanding when a recovery began or the timer expired, as a distance past SND.UNA; 0 where all of it is acknowledged ("recover", RFC 6582 section 3.2)
   pub recover : ℕ
+  -- what the peer reports that it keeps ahead of a gap, by distances past SND.UNA (RFC 6675 section 3)
+  pub reported : List Range
 
 -- the timeout and the wait of a probe last as long as the least timeout and a minute at most, and the timers expire twelve times without progress at most
 pub record IsSoundResend (p : Resend) : Type 0 where
@@ -41,6 +45,7 @@ pub record IsSoundResend (p : Resend) : Type 0 where
   pub interval_least : p.timeout.least ≤ p.interval
   pub interval_most : p.interval ≤ MOST_INTERVAL
   pub expiries : p.expiries ≤ MOST_EXPIRIES
+  pub reported : IsScoreboard p.reported
 
 -- nothing has gone out, and the timeout has this least value
 abbrev pub first_resend : ℕ → Resend
@@ -57,11 +62,12 @@ first_resend least = record {
   resent = 0;
   small = 0;
   recover = 0;
+  reported = [];
 }
 
 -- nothing is outstanding or waits any longer
 abbrev pub stopped : Resend → Resend
-stopped p = record p { mark = None; once = false; timed = None; interval = p.timeout.rto; owes_probe = false; overridden = false; small = 0; recover = 0 }
+stopped p = record p { mark = None; once = false; timed = None; interval = p.timeout.rto; owes_probe = false; overridden = false; small = 0; recover = 0; reported = [] }
 
 -- What goes out.
 
@@ -73,9 +79,13 @@ once_more count = min (2 ^ 64 - 1) (count + 1)
 abbrev pub mark_past : ℕ → ℕ → Option ℕ
 mark_past end outstanding = if nat_lt end outstanding then Some end else None
 
--- what was outstanding went out again, up to this distance past SND.UNA: what comes back tells no round trip (RFC 6298 section 3). A mark for one segment is gone.
+-- a mark for one segment is gone once that went out, but where reports tell what else is lost
+abbrev pub is_alone : Resend → Bool
+is_alone p = p.once && (length p.reported == 0)
+
+-- what was outstanding went out again, up to this distance past SND.UNA: what comes back tells no round trip (RFC 6298 section 3)
 abbrev pub resend_again : Resend → ℕ → ℕ → Resend
-resend_again p end outstanding = record p { mark = if p.once then None else mark_past end outstanding; once = false; timed = None; resent = once_more p.resent }
+resend_again p end outstanding = record p { mark = if is_alone p then None else mark_past end outstanding; once = false; timed = None; resent = once_more p.resent }
 
 -- our SYN went out again: after an expiry as one that may be lost, else in answer to the peer's
 abbrev pub resend_syn_again : Resend → Resend
@@ -99,9 +109,9 @@ resend_probed p = record p { owes_probe = false; timed = None; resent = once_mor
 abbrev pub recover_noted : Resend → Bool → ℕ → ℕ
 recover_noted p repairs outstanding = if repairs then outstanding else p.recover
 
--- the retransmission timer: all that is outstanding goes out again, from SND.UNA on, and the timeout backs off (RFC 6298 sections 5.4 and 5.5)
+-- the retransmission timer: all that is outstanding goes out again, from SND.UNA on, and the timeout backs off (RFC 6298 sections 5.4 and 5.5); what was reported is forgotten, since the peer may have let it go (RFC 2018 section 8)
 abbrev pub resend_expired : Resend → Bool → ℕ → Resend
-resend_expired p repairs outstanding = record p { mark = mark_past 0 outstanding; once = false; timeout = after_expiry p.timeout; expiries = suc p.expiries; recover = recover_noted p repairs outstanding }
+resend_expired p repairs outstanding = record p { mark = mark_past 0 outstanding; once = false; timeout = after_expiry p.timeout; expiries = suc p.expiries; recover = recover_noted p repairs outstanding; reported = [] }
 
 -- the probe timer: a probe is due, and the next wait is twice as long, a minute at most (RFC 9293 section 3.8.6.1)
 abbrev pub resend_probes : Resend → Resend
@@ -109,13 +119,13 @@ resend_probes p = record p { owes_probe = true; interval = min MOST_INTERVAL (2 
 
 -- Acknowledgements.
 
--- so many numbers are acknowledged, and so many are outstanding still: the mark stays at its number, or moves with SND.UNA; and so do the end of the last small segment and that of a recovery
+-- so many numbers are acknowledged, and so many are outstanding still: the mark stays at its number, or moves with SND.UNA; and so do the end of the last small segment, that of a recovery, and what is reported
 abbrev pub mark_left : Option ℕ → ℕ → ℕ → Option ℕ
 mark_left None gained outstanding = None
 mark_left (Some distance) gained outstanding = mark_past (distance - gained) outstanding
 
 abbrev pub mark_moved : Resend → ℕ → ℕ → Resend
-mark_moved p gained outstanding = record p { mark = mark_left p.mark gained outstanding; small = p.small - gained; recover = p.recover - gained }
+mark_moved p gained outstanding = record p { mark = mark_left p.mark gained outstanding; small = p.small - gained; recover = p.recover - gained; reported = passed gained p.reported }
 
 -- the segment at SND.UNA goes out again, that alone (RFC 5681 section 3.2, RFC 6582 section 3.2, step 3)
 abbrev pub resend_first : Resend → ℕ → Resend
@@ -127,7 +137,11 @@ resend_lost p repairs outstanding = record (resend_first p outstanding) { recove
 
 -- nothing is outstanding
 abbrev pub unmarked : Resend → Resend
-unmarked p = record p { mark = None; small = 0; recover = 0 }
+unmarked p = record p { mark = None; small = 0; recover = 0; reported = [] }
+
+-- a recovery by reports is over: nothing goes out again by its mark
+abbrev pub resend_ends : Resend → Resend
+resend_ends p = record p { mark = None; once = false }
 
 -- SND.UNA is at the end of what is measured, or past it
 abbrev pub is_timed_by : Timed → ℕ → Bool

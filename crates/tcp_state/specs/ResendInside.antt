@@ -16,4 +16,5 @@ resend_view p = record {
   resent = p.resent;
   small = p.small;
   recover = p.recover;
+  reported = p.reported;
 }

@@ -4,7 +4,6 @@ use Rattle.clock.specs.declared.moment.Moment.{Moment}
 use Rattle.clock.specs.Moments.{after, has_come, sooner}
 use Rattle.retransmit.specs.Deadlines.{next_of}
 use Rattle.congestion.specs.Control.{repairs}
-use Rattle.congestion.specs.Window.{allowed}
 use Rattle.congestion.specs.Events.{after_event}
 use Rattle.congestion.specs.Events.Event.{Expiry}
 use Rattle.tcp_state.specs.declared.calls.Refusal.TheVariants.{ETIMEDOUT}
@@ -15,6 +14,7 @@ use Rattle.tcp_state.specs.declared.timing.TheConstants.{DELAYED_ACK_WAIT, OVERR
 use Rattle.tcp_state.specs.Resend.{resend_expired, resend_probes}
 use Rattle.tcp_halves.specs.Stream.{outstanding}
 use Rattle.tcp_halves.specs.Windows.{waits_for_more}
+use Rattle.tcp_state.specs.Selective.{allowance}
 use Rattle.tcp_state.specs.New.{waits_no_longer, sends_new, sends_fin}
 use Rattle.tcp_state.specs.View.{View, is_opening, is_syn_received, is_closed, awaits_fin_ack, ends_at, is_at_end, after_stop, after_reset}
 use Rattle.tcp_state.specs.Alive.{alive_at, is_silent, after_silence}
@@ -39,7 +39,7 @@ awaits_second v = v.delays_ack && not v.owes_ack
 
 -- new octets wait for more (section 3.8.6.2.1)
 abbrev pub awaits_more : View → Bool
-awaits_more v = not (is_opening v.state) && waits_for_more v.sending (allowed v.congestion) (waits_no_longer v)
+awaits_more v = not (is_opening v.state) && waits_for_more v.sending (allowance v) (waits_no_longer v)
 
 -- it goes on where it runs, and else begins
 abbrev pub running : Option Moment → Moment → ℕ → Option Moment

@@ -2,7 +2,17 @@
 
 ghost use Rattle.std.specs.Prelude.{◌≡◌, ◌≤◌, ◌-◌, [], length, min, true, false, ◌&&◌, ◌||◌, not, if◌then◌else◌, IsTrue, ◌==◌};
 ghost use Rattle.tcp_state.specs.View.{is_opening, is_syn_sent, is_syn_received, is_closed, awaits_fin_ack, after_reset};
-ghost use Rattle.tcp_state.specs.Arrival.{after_segment, scales_with, after_first_syn, after_syn_ack, owing_ack, after_establishment, after_ack, is_read_on, after_window, after_text, after_acknowledging_segment, after_acceptable_segment, ends_by_syn, is_acceptable_to, fin_acknowledged, after_new_ack, after_fin, reset_error, after_rst_in_syn_sent, after_rst, is_acting_reset, ends_by_reset, is_right_syn_ack, is_simultaneous_syn, after_simultaneous_syn, fate, after_segment_at, after_heard, is_lost, is_read, brings_more, after_lost, repeats_fin, is_rejected, ends_opening, is_of_fin, may_delay, answers_probe, octets_outstanding, is_duplicate, counts_duplicates, before, is_moved, resend_heard, congestion_event_of, resend_signalled, congestion_after, timed_by, begins_wait};
+ghost use Rattle.tcp_state.specs.Arrival.{after_segment, scales_with, after_first_syn, after_syn_ack, owing_ack, after_establishment, after_ack, is_read_on, after_window, after_text, after_acknowledging_segment, after_acceptable_segment, ends_by_syn, is_acceptable_to, fin_acknowledged, after_new_ack, after_fin, reset_error, after_rst_in_syn_sent, after_rst, is_acting_reset, ends_by_reset, is_right_syn_ack, is_simultaneous_syn, after_simultaneous_syn, fate, after_segment_at, after_heard, is_lost, is_read, brings_more, after_lost, repeats_fin, is_rejected, ends_opening, is_of_fin, may_delay, answers_probe, octets_outstanding, is_duplicate, counts_duplicates, before, is_moved, resend_heard, signal_of, report_event, resend_signalled, timed_by, begins_wait};
+ghost use Rattle.congestion.specs.Events.{after_event};
+ghost use Rattle.congestion.specs.Events.Event.{NewAck, PartialAck, Duplicate};
+ghost use Rattle.congestion.specs.Control.{is_selective};
+ghost use Rattle.congestion.specs.Window.{is_recovering};
+ghost use Rattle.tcp_halves.specs.Stream.{after_octets};
+ghost use Rattle.tcp_state.specs.Reporting.{noted};
+ghost use Rattle.tcp_state.specs.Resend.{resend_first, resend_ends};
+ghost use Rattle.tcp_state.specs.Selective.{selects};
+ghost use Rattle.tcp_state.specs.Congestion.{after_signal};
+ghost use Rattle.tcp_state.specs.Congestion.Signal.{Counts};
 ghost use Rattle.tcp_state.specs.declared.state.State.{State};
 ghost use Rattle.tcp_segment.specs.Wire.{past};
 ghost use Rattle.tcp_halves.specs.declared.buffers.TheConstants.{CAPACITY};
@@ -13,7 +23,7 @@ use crate::state::State;
 use clock::Moment;
 use congestion::Cwnd;
 use retransmit::Timers;
-use tcp_segment::{Seq, TcpView};
+use tcp_segment::{Blocks, Seq, TcpView};
 
 /// What the clock and the congestion window have to know of a connection before a segment and of the segment.
 #[derive(Clone, Copy)]
@@ -30,6 +40,10 @@ pub(crate) struct Before {
     answers_probe: bool,
     /// Whether the segment is a duplicate ACK that counts.
     is_duplicate: bool,
+    /// Whether it counts as one where it reports what nothing reported before.
+    pub(crate) counts_reports: bool,
+    /// What it reports.
+    pub(crate) blocks: Blocks,
     /// How many octets were held.
     held: u32,
 }
@@ -62,6 +76,8 @@ impl Connection {
             repeats_fin: self.repeats_fin(segment),
             answers_probe: self.answers_probe(segment),
             is_duplicate: self.is_duplicate(segment) && self.counts_duplicates(),
+            counts_reports: self.counts_reports(),
+            blocks: self.blocks_told(segment),
             held: self.sender.held_len() as u32,
         }
     }
@@ -80,12 +96,14 @@ impl Connection {
     }
 
     /// Whether a duplicate ACK counts: where losses are repaired, not below the end of the last recovery or of what was outstanding at an expiry
-    /// (RFC 6582 section 3.2, steps 2 and 4), nor while the peer's closed window is probed.
+    /// (RFC 6582 section 3.2, steps 2 and 4), nor while the peer's closed window is probed, nor where reports count instead.
     fn counts_duplicates(&self) -> bool
         ensures { result ≡ counts_duplicates self.now }
     {
         !self.congestion.repairs()
-            || (self.congestion.is_recovering() || self.resend.recover() == 0) && !self.probes()
+            || (self.congestion.is_recovering() || self.resend.recover() == 0)
+                && !self.probes()
+                && !self.selects()
     }
 
     /// How many octets are outstanding, past the opening: our FIN, behind all that are held, is none.
@@ -113,7 +131,8 @@ impl Connection {
     {
         let moved = before.una != self.sender.una();
         self.note_progress(before, moved, now);
-        self.note_signal(before, moved);
+        let reports_more = self.note_reports(before);
+        self.note_signal(before, moved, reports_more);
         if before.starts_wait(self.state, self.owes_reset) {
             self.since = now;
         }
@@ -134,12 +153,12 @@ impl Connection {
         }
     }
 
-    /// The congestion window takes what a segment is to it; by the third duplicate ACK the segment at SND.UNA goes out again (fast retransmit, RFC 5681 section 3.2), and by a partial ACK, too.
-    fn note_signal(&mut self, before: Before, moved: bool)
+    /// The congestion window takes what a segment is to it; by the third duplicate ACK the segment at SND.UNA goes out again (fast retransmit, RFC 5681 section 3.2), by a partial ACK, too, and by reports that tell its loss.
+    fn note_signal(&mut self, before: Before, moved: bool, reports_more: bool)
         requires { moved ≡ is_moved before self.old }
         ensures { self.new ≡ record self.old {
-          resend = resend_signalled self.old.resend (congestion_event_of before self.old) self.old.congestion (outstanding self.old.sending);
-          congestion = congestion_after before self.old;
+          resend = resend_signalled self.old.resend (signal_of before self.old reports_more) self.old.congestion (outstanding self.old.sending);
+          congestion = after_signal self.old.congestion (signal_of before self.old reports_more) self.old.sending.smss self.old.resend.syn_resent;
         } }
     {
         if self.state == State::Closed {
@@ -147,11 +166,40 @@ impl Connection {
         }
         if moved {
             self.note_acknowledged(before);
-        } else if before.is_duplicate && self.congestion.duplicate(self.sender.outstanding()) {
-            let outstanding = self.sender.outstanding();
+        } else if before.is_duplicate {
+            self.note_duplicate();
+        } else if reports_more {
+            self.note_report();
+        }
+    }
+
+    /// A duplicate ACK counts: the third tells the loss of the segment at SND.UNA.
+    fn note_duplicate(&mut self)
+        ensures { self.new ≡ record self.old {
+          resend = resend_signalled self.old.resend (Counts (Duplicate (outstanding self.old.sending))) self.old.congestion (outstanding self.old.sending);
+          congestion = after_event self.old.congestion (Duplicate (outstanding self.old.sending));
+        } }
+    {
+        let outstanding = self.sender.outstanding();
+        if self.congestion.duplicate(outstanding) {
             self.resend
                 .mark_lost(self.congestion.repairs(), outstanding);
         }
+    }
+
+    /// A report counts: it tells the loss of the segment at SND.UNA, or is one before that.
+    fn note_report(&mut self)
+        ensures { self.new ≡ record self.old {
+          resend = resend_signalled self.old.resend (Counts (report_event self.old)) self.old.congestion (outstanding self.old.sending);
+          congestion = after_event self.old.congestion (report_event self.old);
+        } }
+    {
+        if !self.tells_loss() {
+            return self.note_duplicate();
+        }
+        let outstanding = self.sender.outstanding();
+        self.congestion.lost(outstanding);
+        self.resend.mark_lost(true, outstanding);
     }
 
     /// The congestion window begins where our SYN is acknowledged, and else takes the octets that are.
@@ -159,8 +207,8 @@ impl Connection {
         requires moved { is_moved before self.old ≡ true }
         requires open { is_closed self.old.state ≡ false }
         ensures { self.new ≡ record self.old {
-          resend = resend_signalled self.old.resend (congestion_event_of before self.old) self.old.congestion (outstanding self.old.sending);
-          congestion = congestion_after before self.old;
+          resend = resend_signalled self.old.resend (signal_of before self.old false) self.old.congestion (outstanding self.old.sending);
+          congestion = after_signal self.old.congestion (signal_of before self.old false) self.old.sending.smss self.old.resend.syn_resent;
         } }
     {
         if before.state.is_opening() {
@@ -169,12 +217,40 @@ impl Connection {
             return;
         }
         let octets = before.held.saturating_sub(self.sender.held_len() as u32);
-        let outstanding = self.sender.outstanding();
-        if self.congestion.goes_on() && self.resend.recover() > 0 {
-            self.congestion.partly_acked(octets);
-            self.resend.mark_first(outstanding);
+        if self.is_partial() {
+            self.note_partial(octets);
         } else {
-            self.congestion.acked(octets, outstanding);
+            self.note_whole(octets);
+        }
+    }
+
+    /// An ACK of so many new octets came in a recovery that goes on.
+    fn note_partial(&mut self, octets: u32)
+        ensures { self.new ≡ (if selects self.old then self.old else record self.old { resend = resend_first self.old.resend (outstanding self.old.sending); congestion = after_event self.old.congestion (PartialAck octets) }) }
+    {
+        if !self.selects() {
+            self.congestion.partly_acked(octets);
+            self.resend.mark_first(self.sender.outstanding());
+        }
+    }
+
+    /// An ACK of so many new octets came that ends the recovery, if one runs.
+    fn note_whole(&mut self, octets: u32)
+        ensures { self.new ≡ record self.old {
+          resend = resend_signalled self.old.resend (Counts (NewAck octets (outstanding self.old.sending))) self.old.congestion (outstanding self.old.sending);
+          congestion = after_event self.old.congestion (NewAck octets (outstanding self.old.sending));
+        } }
+    {
+        self.end_repair();
+        self.congestion.acked(octets, self.sender.outstanding());
+    }
+
+    /// A recovery is over, if one runs; where reports ruled it, nothing goes out again by its mark.
+    fn end_repair(&mut self)
+        ensures { self.new ≡ record self.old { resend = if is_selective self.old.congestion.control && is_recovering self.old.congestion then resend_ends self.old.resend else self.old.resend } }
+    {
+        if self.congestion.control().is_selective() && self.congestion.is_recovering() {
+            self.resend.end_repair();
         }
     }
 
@@ -237,7 +313,7 @@ impl Connection {
     }
 
     /// Whether a segment is read to its octets: acceptable, with an acknowledgement of what was sent, and without RST and SYN.
-    fn is_read(&self, segment: &TcpView<'_>) -> bool
+    pub(crate) fn is_read(&self, segment: &TcpView<'_>) -> bool
         ensures { result ≡ is_read self.now segment.now }
     {
         let flags = segment.flags();
@@ -534,7 +610,14 @@ impl Connection {
             self.owes_ack = true;
         }
         self.delays_ack = true;
-        let number = segment.number();
+        self.keep(segment.number(), octets);
+    }
+
+    /// Takes octets with this number, those ahead of a gap to be kept and reported.
+    fn keep(&mut self, number: Seq, octets: &[u8])
+        requires { is_opening self.old.state ≡ false }
+        ensures { self.new ≡ record self.old { receiving = after_octets self.old.receiving number.0 octets.now; reporting = noted self.old.reporting self.old.receiving.rnext number.0 } }
+    {
         self.reporting.note(self.receiver.rnext(), number);
         self.receiver.take(number, octets);
     }

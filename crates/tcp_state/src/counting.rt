@@ -1,13 +1,14 @@
 //! Laws of what a connection counts from, of what it takes each event for, and of what the clock leaves.
 
-ghost use Rattle.std.specs.Prelude.{◌≡◌, ◌≢◌, ◌+◌, ◌-◌, ◌*◌, ◌^◌, ◌<◌, ◌≤◌, ◌&&◌, nat_lt, ◌⊎◌, ◌↔◌, ℕ, min, max, true, false, if◌then◌else◌, length, Some, None, is_some, []};
+ghost use Rattle.std.specs.Prelude.{◌≡◌, ◌≢◌, ◌+◌, ◌-◌, ◌*◌, ◌^◌, ◌<◌, ◌≤◌, ◌&&◌, ◌||◌, nat_lt, ◌⊎◌, ◌↔◌, ℕ, min, max, true, false, if◌then◌else◌, length, Some, None, is_some, []};
 ghost use Rattle.ipv4.specs.declared.addr.Endpoint.{Endpoint};
 ghost use Rattle.tcp_segment.specs.Options.{last_mss};
 ghost use Rattle.tcp_segment.specs.Segment.{Segment, smss_of, span_of};
 ghost use Rattle.tcp_segment.specs.Wire.{past};
 ghost use Rattle.clock.specs.declared.moment.Moment.{Moment};
 ghost use Rattle.clock.specs.Moments.{after, has_come};
-ghost use Rattle.congestion.specs.Window.{initial_window, goes_on, after_new_ack, after_partial_ack, after_duplicate, after_expiry};
+ghost use Rattle.congestion.specs.Window.{initial_window, goes_on, after_new_ack, after_partial_ack, after_duplicate, after_loss, after_expiry};
+ghost use Rattle.tcp_state.specs.Selective.{selects};
 ghost use Rattle.retransmit.specs.Timeout.{estimate_after, after_sample};
 ghost use Rattle.tcp_halves.specs.Numbers.{is_before};
 ghost use Rattle.tcp_halves.specs.Halves.{Room};
@@ -19,7 +20,7 @@ ghost use Rattle.tcp_state.specs.declared.state.State.{State};
 ghost use Rattle.tcp_state.specs.View.{View, IsSound, is_opening, is_syn_received, is_closed, opened_actively};
 ghost use Rattle.tcp_state.specs.Alive.{IsPatient};
 ghost use Rattle.tcp_state.specs.Timing.{KeepsTime};
-ghost use Rattle.tcp_state.specs.Arrival.{opened_passively, is_duplicate, counts_duplicates};
+ghost use Rattle.tcp_state.specs.Arrival.{opened_passively, is_duplicate, counts_duplicates, is_counted_duplicate, is_report, reports_loss, is_rejected, after_heard};
 ghost use Rattle.tcp_state.specs.Due.{first_due, octets_of};
 ghost use Rattle.tcp_state.specs.Edges.{Event, after_event, fate_by, moment_of, state_after};
 ghost use Rattle.tcp_state.specs.Said.{segment_of};
@@ -60,7 +61,7 @@ pub fn sizes_are_the_peers()
 {}
 
 /// What an event is to the congestion window (RFC 5681 sections 2, 3.1 and 3.2, RFC 6582 section 3.2). Where our SYN is acknowledged, the window begins; later an acknowledgement that moves SND.UNA counts for as many
-/// octets as it acknowledges, so without our FIN, and is a partial one where a recovery goes on whose end it doesn't reach; a duplicate one, where it moves nothing and counts; and an expiry of the retransmission timer. No
+/// octets as it acknowledges, so without our FIN, and is a partial one where a recovery goes on whose end it doesn't reach, and reports don't rule; a duplicate one, where it moves nothing and counts, or a report that counts; and an expiry of the retransmission timer. No
 /// other event moves the window, nor one that ends the connection.
 pub fn the_congestion_window_counts_octets()
     ensures begins { (v : View) (s : Segment) (now : Moment) → is_opening v.state ≡ true → (after_event v (Event.Hears s now)).sending.una ≢ v.sending.una → is_closed (after_event v (Event.Hears s now)).state ≡ false
@@ -69,13 +70,17 @@ pub fn the_congestion_window_counts_octets()
         → (goes_on v.congestion && nat_lt 0 (after_event v (Event.Hears s now)).resend.recover) ≡ false
         → (after_event v (Event.Hears s now)).congestion ≡ after_new_ack v.congestion (min (past (after_event v (Event.Hears s now)).sending.una v.sending.una) (length v.sending.held)) (outstanding (after_event v (Event.Hears s now)).sending) }
     ensures partly { (v : View) (s : Segment) (now : Moment) → is_opening v.state ≡ false → (after_event v (Event.Hears s now)).sending.una ≢ v.sending.una → is_closed (after_event v (Event.Hears s now)).state ≡ false
-        → (goes_on v.congestion && nat_lt 0 (after_event v (Event.Hears s now)).resend.recover) ≡ true
+        → (goes_on v.congestion && nat_lt 0 (after_event v (Event.Hears s now)).resend.recover) ≡ true → selects v ≡ false
         → (after_event v (Event.Hears s now)).congestion ≡ after_partial_ack v.congestion (min (past (after_event v (Event.Hears s now)).sending.una v.sending.una) (length v.sending.held)) }
+    ensures ruled { (v : View) (s : Segment) (now : Moment) → is_opening v.state ≡ false → (after_event v (Event.Hears s now)).sending.una ≢ v.sending.una → is_closed (after_event v (Event.Hears s now)).state ≡ false
+        → (goes_on v.congestion && nat_lt 0 (after_event v (Event.Hears s now)).resend.recover) ≡ true → selects v ≡ true → (after_event v (Event.Hears s now)).congestion ≡ v.congestion }
+    ensures reported { (v : View) (s : Segment) (now : Moment) → is_closed (after_event v (Event.Hears s now)).state ≡ false → is_report v s ≡ true → is_counted_duplicate v s ≡ false → (is_closed v.state || is_rejected v s) ≡ false
+        → (after_event v (Event.Hears s now)).congestion ≡ (let flight = outstanding (after_heard v s).sending in if reports_loss v s then after_loss v.congestion flight else after_duplicate v.congestion flight) }
     ensures duplicate { (v : View) (s : Segment) (now : Moment) → IsSound v → IsDuplicate v s → counts_duplicates v ≡ true → (after_event v (Event.Hears s now)).congestion ≡ after_duplicate v.congestion (past v.sending.nxt v.sending.una) }
     ensures expired { (v : View) (now : Moment) → has_come v.timers.retransmission now ≡ true → is_closed (after_event v (Event.Ticks now)).state ≡ false
         → (after_event v (Event.Ticks now)).congestion ≡ after_expiry v.congestion (past v.sending.nxt v.sending.una) }
     ensures others { (v : View) (e : Event) → ((after_event v e).congestion ≡ v.congestion)
-        ⊎ (((s : Segment) × (now : Moment) × (e ≡ Event.Hears s now) × (is_closed (after_event v e).state ≡ false) × (((after_event v e).sending.una ≢ v.sending.una) ⊎ (IsDuplicate v s × (counts_duplicates v ≡ true))))
+        ⊎ (((s : Segment) × (now : Moment) × (e ≡ Event.Hears s now) × (is_closed (after_event v e).state ≡ false) × (((after_event v e).sending.una ≢ v.sending.una) ⊎ ((IsDuplicate v s × (counts_duplicates v ≡ true)) ⊎ (is_report v s ≡ true))))
         ⊎ ((now : Moment) × (e ≡ Event.Ticks now) × (has_come v.timers.retransmission now ≡ true))) }
     ensures same { (v : View) (s : Segment) → IsSound v → (is_duplicate v s ≡ true) ↔ IsDuplicate v s }
 {}

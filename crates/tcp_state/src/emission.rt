@@ -8,7 +8,7 @@ ghost use Rattle.tcp_halves.specs.Windows.{after_advertisement};
 ghost use Rattle.tcp_segment.specs.declared.TheConstants.{MSS};
 ghost use Rattle.tcp_state.specs.New.{takes_last, passes_full, waits_no_longer, sends_new, takes_fin, sends_fin};
 ghost use Rattle.tcp_state.specs.Timing.{probes};
-ghost use Rattle.tcp_state.specs.Due.{MayGoOut, IsHeld, first_due, ack_due, again, goes_again, again_from, new_octets, fin_alone, new_due, probe_stretch, numbers_of, end_of, flags_of, flags_of_stretch, ack_number, number_of, octets_of, window_of, head_of, segment_octets, emitted_len, after_emitted, after_going_out, after_syn_ack_paid, after_speaking, after_asking, after_numbers, after_resent, after_first_sent, after_new_octets, small_with, brings_new_octets, after_stretch, after_probe, after_syn_out};
+ghost use Rattle.tcp_state.specs.Due.{MayGoOut, IsHeld, first_due, ack_due, again, again_at, is_missing, goes_by_reports, goes_by_windows, goes_again, again_from, new_octets, fin_alone, new_due, probe_stretch, numbers_of, end_of, flags_of, flags_of_stretch, ack_number, number_of, octets_of, window_of, head_of, segment_octets, emitted_len, after_emitted, after_going_out, after_syn_ack_paid, after_speaking, after_asking, after_numbers, after_resent, after_first_sent, after_new_octets, small_with, brings_new_octets, after_stretch, after_probe, after_syn_out};
 
 use crate::connection::Connection;
 use crate::state::State;
@@ -110,18 +110,62 @@ impl Connection {
         ensures first { result ≡ again_from self.now self.now.resend.mark }
         ensures may { IfSome result (MayGoOut self.now) }
     {
-        let mark = self.resend.mark()?;
-        self.goes_again(mark).then_some(Due::Text(self.again(mark)))
+        let place = self.again_at(self.resend.mark()?);
+        if self.goes_again(place) {
+            Some(Due::Text(self.again(place)))
+        } else {
+            None
+        }
+    }
+
+    /// The first place from the resend mark on that is not reported, as a distance past SND.UNA.
+    fn again_at(&self, mark: u32) -> u32
+        ensures { result ≡ again_at self.now mark }
+    {
+        self.resend.reported().first_gap(mark)
     }
 
     /// Whether what stands at a distance past SND.UNA goes out again.
-    fn goes_again(&self, mark: u32) -> bool
-        ensures { result ≡ goes_again self.now mark }
+    fn goes_again(&self, place: u32) -> bool
+        ensures value { result ≡ goes_again self.now place }
+        ensures within { result ≡ true → place < outstanding self.now.sending }
     {
-        mark == 0 || mark < self.sender.open_window(self.congestion.window())
+        if place >= self.sender.outstanding() {
+            return false;
+        }
+        if self.repairs_gaps() && !self.resend.once() {
+            self.goes_by_reports(place)
+        } else {
+            self.goes_by_windows(place)
+        }
     }
 
-    /// What is outstanding from a distance past SND.UNA on, as much as one segment has room for.
+    /// Whether it does within the windows of the peer and the network.
+    fn goes_by_windows(&self, place: u32) -> bool
+        ensures { result ≡ goes_by_windows self.now place }
+    {
+        place == 0 || place < self.sender.open_window(self.congestion.window())
+    }
+
+    /// Whether it does since reports tell that it is missing, and the network takes a segment more (RFC 6675 section 5).
+    fn goes_by_reports(&self, place: u32) -> bool
+        ensures { result ≡ goes_by_reports self.now place }
+    {
+        self.is_missing(place)
+            && place < self.sender.window()
+            && self.pipe() + self.sender.smss() as u64 <= u64::from(self.congestion.window())
+    }
+
+    /// Whether a place that isn't reported is lost, or nothing new may go out and one behind it is reported (RFC 6675 section 4, `NextSeg`, rules 1 and 3).
+    fn is_missing(&self, place: u32) -> bool
+        ensures { result ≡ is_missing self.now place }
+    {
+        place < self.loss_end()
+            || place < self.resend.reported().reported_end()
+                && !(self.sends_new() || self.sends_fin())
+    }
+
+    /// What is outstanding from a distance past SND.UNA on, up to what is reported, as much as one segment has room for.
     fn again(&self, mark: u32) -> Stretch
         requires opened { is_opening self.now.state ≡ false }
         requires within { mark < outstanding self.now.sending }
@@ -130,10 +174,11 @@ impl Connection {
     {
         let (held, outstanding) = (self.sender.held_len(), self.sender.outstanding() as usize);
         let offset = mark as usize;
-        let count = held
+        let most = held
             .min(outstanding)
             .saturating_sub(offset)
             .min(self.sender.smss());
+        let count = self.resend.reported().gap_len(mark, most);
         Stretch {
             offset,
             count,
@@ -163,7 +208,7 @@ impl Connection {
     pub(crate) fn waits_no_longer(&self) -> bool
         ensures { result ≡ waits_no_longer self.now }
     {
-        self.is_undelayed && self.sender.takes_enough(self.congestion.allowed())
+        self.is_undelayed && self.sender.takes_enough(self.allowance())
             || self.passes_full()
             || self.resend.is_overridden()
     }
@@ -173,7 +218,7 @@ impl Connection {
         ensures { result ≡ passes_full self.now }
     {
         self.minshall
-            && self.sender.takes_enough(self.congestion.allowed())
+            && self.sender.takes_enough(self.allowance())
             && (self.resend.small() == 0 || self.takes_last())
     }
 
@@ -181,14 +226,14 @@ impl Connection {
     fn takes_last(&self) -> bool
         ensures { result ≡ takes_last self.now }
     {
-        self.state.awaits_fin_ack() && self.sender.takes_all(self.congestion.allowed())
+        self.state.awaits_fin_ack() && self.sender.takes_all(self.allowance())
     }
 
     /// Whether new octets go out.
     pub(crate) fn sends_new(&self) -> bool
         ensures { result ≡ sends_new self.now }
     {
-        let allowed = self.congestion.allowed();
+        let allowed = self.allowance();
         self.sender.sendable(allowed) > 0
             && self
                 .sender
@@ -203,7 +248,7 @@ impl Connection {
         ensures held { IsHeld self.now result }
     {
         let offset = self.sender.outstanding() as usize;
-        let count = self.sender.next_count(self.congestion.allowed());
+        let count = self.sender.next_count(self.allowance());
         Stretch {
             offset,
             count,
@@ -218,7 +263,7 @@ impl Connection {
         self.minshall
             && self.state.awaits_fin_ack()
             && end == self.sender.held_len()
-            && end < self.sender.open_window(self.congestion.allowed()) as usize
+            && end < self.sender.open_window(self.allowance()) as usize
     }
 
     /// Whether the FIN of a closed side goes out alone, behind all octets.

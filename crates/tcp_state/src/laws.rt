@@ -31,9 +31,12 @@ ghost use Rattle.tcp_state.specs.declared.emission.Stretch.{Stretch};
 ghost use Rattle.tcp_state.specs.New.{passes_full, takes_fin};
 ghost use Rattle.tcp_state.specs.Alive.{is_silent};
 ghost use Rattle.tcp_state.specs.Timing.{KeepsTime, probes, awaits_more, expires, wants_out, after_tick, deadline};
-ghost use Rattle.congestion.specs.Window.{allowed, goes_on, most_growth, is_recovering, third_is_next};
+ghost use Rattle.congestion.specs.Window.{goes_on, most_growth, is_recovering, third_is_next};
+ghost use Rattle.stream_buf.specs.Scoreboard.{is_reported};
+ghost use Rattle.tcp_state.specs.Selective.{repairs_gaps, pipe, allowance};
 ghost use Rattle.tcp_state.specs.Congestion.{KeepsCongestion, after_signal};
-ghost use Rattle.tcp_state.specs.Arrival.{opened_passively, fate, is_acceptable_to, is_receiving, is_read, is_counted_duplicate, after_ack, after_heard, after_segment_at};
+ghost use Rattle.tcp_state.specs.Resend.{is_alone};
+ghost use Rattle.tcp_state.specs.Arrival.{opened_passively, fate, is_acceptable_to, is_receiving, is_read, is_counted_duplicate, reports_loss, after_ack, after_heard, after_segment_at};
 ghost use Rattle.tcp_state.specs.Due.{MayGoOut, first_due, number_of, end_of, flags_of, octets_of, window_of, sends_again, again, rest_of, IsSmall, after_emitted};
 ghost use Rattle.tcp_state.specs.Unreachable.{IsRefused};
 ghost use Rattle.tcp_state.specs.Simultaneous.{crossed, AnswersSyn, CanBeMade, HasOpened, KnowsWindow};
@@ -277,7 +280,7 @@ pub fn new_numbers_keep_the_window()
     ensures window { (v : View) (stretch : Stretch) → IsSound v → first_due v ≡ Some (Due.Text stretch) → outstanding v.sending ≤ stretch.offset
         → (stretch.offset ≡ outstanding v.sending) × (end_of stretch ≤ v.sending.window) }
     ensures congestion { (v : View) (stretch : Stretch) → IsSound v → first_due v ≡ Some (Due.Text stretch) → outstanding v.sending ≤ stretch.offset
-        → 0 < stretch.count → end_of stretch ≤ allowed v.congestion }
+        → 0 < stretch.count → end_of stretch ≤ allowance v }
 {}
 
 /// The congestion window is one that events lead to, and counts in segments of the size that the peer takes: when a connection opens, and after each event. So it is never less than such a segment
@@ -301,22 +304,22 @@ pub fn one_segment_raises_the_window_by_one()
         → is_recovering (after_segment_at v s now).congestion ≡ false → (after_segment_at v s now).congestion.cwnd ≤ v.congestion.cwnd + most_growth v.congestion }
 {}
 
-/// The third duplicate ACK in a row, and but for partial ACKs no other segment, sends the segment at SND.UNA again, and that alone (RFC 5681 section 3.2).
+/// The third duplicate ACK in a row, and but for partial ACKs and reports of a loss no other segment, sends the segment at SND.UNA again, and that alone (RFC 5681 section 3.2).
 pub fn the_third_duplicate_resends()
     ensures third { (v : View) (s : Segment) (now : Moment) → IsSound v → is_closed v.state ≡ false → is_counted_duplicate v s ≡ true → third_is_next v.congestion ≡ true
         → (first_due (after_segment_at v s now) ≡ Some (Due.Text (again (after_segment_at v s now) 0))) × ((after_segment_at v s now).resend.once ≡ true) }
-    ensures others { (v : View) (s : Segment) (now : Moment) → IsSound v → v.resend.mark ≡ None → is_opening v.state ≡ false → goes_on v.congestion ≡ false → is_counted_duplicate v s && third_is_next v.congestion ≡ false
+    ensures others { (v : View) (s : Segment) (now : Moment) → IsSound v → v.resend.mark ≡ None → is_opening v.state ≡ false → goes_on v.congestion ≡ false → is_counted_duplicate v s && third_is_next v.congestion ≡ false → reports_loss v s ≡ false
         → (after_segment_at v s now).resend.mark ≡ None }
-    ensures alone { (v : View) (stretch : Stretch) (now : Moment) → v.resend.once ≡ true → nat_lt stretch.offset (outstanding v.sending) ≡ true
+    ensures alone { (v : View) (stretch : Stretch) (now : Moment) → is_alone v.resend ≡ true → nat_lt stretch.offset (outstanding v.sending) ≡ true
         → (after_emitted v (Due.Text stretch) now).resend.mark ≡ None }
 {}
 
 /// The resend mark keeps its number (RFC 6298 section 5.4): an acknowledgement that moves SND.UNA brings it as much nearer to that, or to it, and takes it away only where nothing is outstanding past it.
-/// The third duplicate ACK alone puts it back, and a partial one.
+/// The third duplicate ACK alone puts it back, a partial one, and a report of a loss.
 pub fn the_mark_keeps_its_number()
-    ensures stays { (v : View) (s : Segment) (now : Moment) (distance left : ℕ) → IsSound v → is_opening v.state ≡ false → goes_on v.congestion ≡ false → (is_counted_duplicate v s && third_is_next v.congestion) ≡ false → v.resend.mark ≡ Some distance
+    ensures stays { (v : View) (s : Segment) (now : Moment) (distance left : ℕ) → IsSound v → is_opening v.state ≡ false → goes_on v.congestion ≡ false → (is_counted_duplicate v s && third_is_next v.congestion) ≡ false → reports_loss v s ≡ false → v.resend.mark ≡ Some distance
         → is_closed (after_segment_at v s now).state ≡ false → (after_segment_at v s now).resend.mark ≡ Some left → left ≡ distance - past (after_segment_at v s now).sending.una v.sending.una }
-    ensures goes { (v : View) (s : Segment) (now : Moment) (distance : ℕ) → IsSound v → is_opening v.state ≡ false → goes_on v.congestion ≡ false → (is_counted_duplicate v s && third_is_next v.congestion) ≡ false → v.resend.mark ≡ Some distance
+    ensures goes { (v : View) (s : Segment) (now : Moment) (distance : ℕ) → IsSound v → is_opening v.state ≡ false → goes_on v.congestion ≡ false → (is_counted_duplicate v s && third_is_next v.congestion) ≡ false → reports_loss v s ≡ false → v.resend.mark ≡ Some distance
         → is_closed (after_segment_at v s now).state ≡ false → (after_segment_at v s now).resend.mark ≡ None → outstanding (after_segment_at v s now).sending ≤ distance - past (after_segment_at v s now).sending.una v.sending.una }
 {}
 
@@ -381,11 +384,11 @@ pub fn simultaneous_syns_are_answered()
 /// window and the congestion window, or at SND.UNA (RFC 5681 section 3.1); the resend mark then moves on to its end, and is gone where that is SND.NXT.
 pub fn what_goes_out_again_went_out_before()
     ensures ends { (v : View) (stretch : Stretch) → IsSound v → first_due v ≡ Some (Due.Text stretch) → stretch.offset < outstanding v.sending
-        → (stretch.count ≤ v.sending.smss) × (end_of stretch ≤ outstanding v.sending) × ((end_of stretch ≡ outstanding v.sending) ⊎ (stretch.count ≡ v.sending.smss)) }
+        → (stretch.count ≤ v.sending.smss) × (end_of stretch ≤ outstanding v.sending) × ((end_of stretch ≡ outstanding v.sending) ⊎ ((stretch.count ≡ v.sending.smss) ⊎ (is_reported v.resend.reported (stretch.offset + stretch.count) ≡ true))) }
     ensures stays { (v : View) (stretch : Stretch) (now : Moment) → IsSound v → first_due v ≡ Some (Due.Text stretch) → stretch.offset < outstanding v.sending
         → (after_event v (Event.Emits now)).sending.nxt ≡ v.sending.nxt }
     ensures within { (v : View) (stretch : Stretch) → first_due v ≡ Some (Due.Text stretch) → stretch.offset < outstanding v.sending
-        → (stretch.offset ≡ 0) ⊎ ((stretch.offset < v.sending.window) × (stretch.offset < v.congestion.cwnd)) }
+        → (stretch.offset ≡ 0) ⊎ ((stretch.offset < v.sending.window) × ((stretch.offset < v.congestion.cwnd) ⊎ ((repairs_gaps v ≡ true) × (pipe v + v.sending.smss ≤ v.congestion.cwnd)))) }
     ensures moves_on { (v : View) (stretch : Stretch) (now : Moment) → IsSound v → v.resend.once ≡ false → first_due v ≡ Some (Due.Text stretch) → stretch.offset < outstanding v.sending
         → (after_event v (Event.Emits now)).resend.mark ≡ (if nat_lt (end_of stretch) (outstanding v.sending) then Some (end_of stretch) else None) }
 {}
@@ -404,7 +407,7 @@ pub fn small_segments_wait()
 /// window, and nothing goes out again. No connection is so at first, and only its caller's word begins or ends it. That word moves no octet and no number, and after it the override's timer runs exactly where
 /// new octets still wait.
 pub fn no_delay_sends_at_once()
-    ensures sends { (v : View) → IsSound v → v.nodelay ≡ true → v.resend.mark ≡ None → outstanding v.sending < length v.sending.held → length v.sending.held ≤ v.sending.window → length v.sending.held ≤ allowed v.congestion
+    ensures sends { (v : View) → IsSound v → v.nodelay ≡ true → v.resend.mark ≡ None → outstanding v.sending < length v.sending.held → length v.sending.held ≤ v.sending.window → length v.sending.held ≤ allowance v
         → first_due v ≡ Some (Due.Text (rest_of v)) }
     ensures opened { (room : Room) (local peer : Endpoint) (isn : ℕ) (now : Moment) → (opened_actively room local peer isn now).nodelay ≡ false }
     ensures accepted { (room : Room) (local peer : Endpoint) (isn : ℕ) (syn : Segment) (now : Moment) → (opened_passively room local peer isn syn now).nodelay ≡ false }
@@ -422,9 +425,9 @@ pub fn small_segments_wait_for_small_ones()
     ensures waits { (v : View) (stretch : Stretch) → IsSound v → first_due v ≡ Some (Due.Text stretch) → outstanding v.sending ≤ stretch.offset → 0 < stretch.count → stretch.count < v.sending.smss → v.resend.overridden ≡ false → v.nodelay ≡ false
         → ((v.resend.small ≡ 0) × ((outstanding v.sending + stretch.count ≡ length v.sending.held) ⊎ (v.sending.max_window ≤ 2 * stretch.count)))
         ⊎ ((awaits_fin_ack v.state ≡ true) × (outstanding v.sending + stretch.count ≡ length v.sending.held)) }
-    ensures sends { (v : View) → IsSound v → v.minshall ≡ true → (v.resend.small ≡ 0) ⊎ (awaits_fin_ack v.state ≡ true) → v.resend.mark ≡ None → outstanding v.sending < length v.sending.held → length v.sending.held ≤ v.sending.window → length v.sending.held ≤ allowed v.congestion
+    ensures sends { (v : View) → IsSound v → v.minshall ≡ true → (v.resend.small ≡ 0) ⊎ (awaits_fin_ack v.state ≡ true) → v.resend.mark ≡ None → outstanding v.sending < length v.sending.held → length v.sending.held ≤ v.sending.window → length v.sending.held ≤ allowance v
         → first_due v ≡ Some (Due.Text (rest_of v)) }
-    ensures last { (v : View) → IsSound v → v.minshall ≡ true → awaits_fin_ack v.state ≡ true → v.resend.mark ≡ None → outstanding v.sending < length v.sending.held → length v.sending.held - outstanding v.sending ≤ v.sending.smss → length v.sending.held < v.sending.window → length v.sending.held < allowed v.congestion
+    ensures last { (v : View) → IsSound v → v.minshall ≡ true → awaits_fin_ack v.state ≡ true → v.resend.mark ≡ None → outstanding v.sending < length v.sending.held → length v.sending.held - outstanding v.sending ≤ v.sending.smss → length v.sending.held < v.sending.window → length v.sending.held < allowance v
         → first_due v ≡ Some (Due.Text (record { offset = outstanding v.sending; count = length v.sending.held - outstanding v.sending; fin = true })) }
     ensures plain { (v : View) → v.minshall ≡ false → (passes_full v ≡ false) × ((end : ℕ) → takes_fin v end ≡ false) }
     ensures opened { (room : Room) (local peer : Endpoint) (isn : ℕ) (now : Moment) → (opened_actively room local peer isn now).minshall ≡ room.manner.minshall }

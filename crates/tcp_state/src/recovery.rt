@@ -20,7 +20,8 @@ ghost use Rattle.tcp_state.specs.Congestion.Signal.{Counts};
 ghost use Rattle.tcp_state.specs.Timing.{probes};
 ghost use Rattle.tcp_state.specs.New.{takes_fin};
 ghost use Rattle.tcp_state.specs.Due.{first_due, again, end_of};
-ghost use Rattle.tcp_state.specs.Arrival.{opened_passively, is_counted_duplicate, after_segment_at};
+ghost use Rattle.tcp_state.specs.Arrival.{opened_passively, is_counted_duplicate, reports_loss, after_segment_at};
+ghost use Rattle.tcp_state.specs.Selective.{selects, counts_pipe};
 ghost use Rattle.tcp_state.specs.Counted.{IsDuplicate};
 ghost use Rattle.tcp_state.specs.Edges.{Event, after_event, congestion_event_by};
 
@@ -42,13 +43,13 @@ pub fn the_end_of_a_recovery_is_known()
         → (after_event v (Event.Ticks now)).resend.recover ≡ outstanding v.sending }
     ensures others { (v : View) (e : Event) → IsSound v
         → ((after_event v e).resend.recover ≡ v.resend.recover - past (after_event v e).sending.una v.sending.una)
-        ⊎ (((s : Segment) × (now : Moment) × (e ≡ Event.Hears s now) × (is_counted_duplicate v s ≡ true) × (third_is_next v.congestion ≡ true))
+        ⊎ (((s : Segment) × (now : Moment) × (e ≡ Event.Hears s now) × (((is_counted_duplicate v s ≡ true) × (third_is_next v.congestion ≡ true)) ⊎ (reports_loss v s ≡ true)))
         ⊎ ((now : Moment) × (e ≡ Event.Ticks now) × (has_come v.timers.retransmission now ≡ true))) }
 {}
 
-/// A partial ACK sends the segment at SND.UNA again, and that alone, and the recovery goes on (RFC 6582 section 3.2, step 3).
+/// Where reports don't rule, a partial ACK sends the segment at SND.UNA again, and that alone, and the recovery goes on (RFC 6582 section 3.2, step 3).
 pub fn a_partial_ack_resends_one_segment()
-    ensures { (v : View) (s : Segment) (now : Moment) → IsSound v → is_opening v.state ≡ false → goes_on v.congestion ≡ true → s.acknowledgement < 2 ^ 32
+    ensures { (v : View) (s : Segment) (now : Moment) → IsSound v → is_opening v.state ≡ false → goes_on v.congestion ≡ true → selects v ≡ false → s.acknowledgement < 2 ^ 32
         → let w = after_event v (Event.Hears s now) in w.sending.una ≢ v.sending.una → is_closed w.state ≡ false → 0 < w.resend.recover
         → (first_due w ≡ Some (Due.Text (again w 0))) × (w.resend.once ≡ true) × (is_recovering w.congestion ≡ true) }
 {}
@@ -66,12 +67,12 @@ pub fn no_recovery_begins_below_the_last()
     ensures probing { (v : View) (s : Segment) (now : Moment) → IsSound v → repairs v.congestion.control ≡ true → probes v ≡ true → IsDuplicate v s → (after_segment_at v s now).congestion ≡ v.congestion }
 {}
 
-/// Limited transmit (RFC 3042 section 2): new octets go past the congestion window by a segment for each of the first two duplicate ACKs at most, in no recovery, and never past the peer's window; and at the first two duplicate ACKs that
+/// Limited transmit (RFC 3042 section 2), where reports don't count what is in the network: new octets go past the congestion window by a segment for each of the first two duplicate ACKs at most, in no recovery, and never past the peer's window; and at the first two duplicate ACKs that
 /// count a segment goes out, where as much is held and the peer's window takes it.
 pub fn limited_transmit_keeps_the_peers_window()
-    ensures within { (v : View) (stretch : Stretch) → IsSound v → first_due v ≡ Some (Due.Text stretch) → outstanding v.sending ≤ stretch.offset → 0 < stretch.count → v.congestion.cwnd < end_of stretch
+    ensures within { (v : View) (stretch : Stretch) → IsSound v → counts_pipe v ≡ false → first_due v ≡ Some (Due.Text stretch) → outstanding v.sending ≤ stretch.offset → 0 < stretch.count → v.congestion.cwnd < end_of stretch
         → (end_of stretch ≤ v.congestion.cwnd + v.congestion.duplicates * v.congestion.smss) × (v.congestion.duplicates ≤ 2) × (end_of stretch ≤ v.sending.window) × (repairs v.congestion.control ≡ true) }
-    ensures sends { (v : View) (s : Segment) (now : Moment) → IsSound v → KeepsCongestion v → is_closed v.state ≡ false → repairs v.congestion.control ≡ true → is_counted_duplicate v s ≡ true → v.congestion.duplicates < 2 → v.resend.mark ≡ None
+    ensures sends { (v : View) (s : Segment) (now : Moment) → IsSound v → KeepsCongestion v → is_closed v.state ≡ false → repairs v.congestion.control ≡ true → is_counted_duplicate v s ≡ true → reports_loss v s ≡ false → v.congestion.duplicates < 2 → v.resend.mark ≡ None
         → outstanding v.sending + v.sending.smss ≤ length v.sending.held → outstanding v.sending + v.sending.smss ≤ v.sending.window → outstanding v.sending ≤ v.congestion.cwnd + v.congestion.duplicates * v.congestion.smss
         → let w = after_segment_at v s now in first_due w ≡ Some (Due.Text (record { offset = outstanding v.sending; count = v.sending.smss; fin = takes_fin w (outstanding v.sending + v.sending.smss) })) }
 {}

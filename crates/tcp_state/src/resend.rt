@@ -1,11 +1,14 @@
 //! What goes out again, and what the clock measures of a round trip (RFC 6298, RFC 9293 sections 3.8.1 and 3.8.6.1).
 
 ghost use Rattle.std.specs.Prelude.{◌≡◌, ◌<◌, ◌&&◌, if◌then◌else◌, true, false, None, ◌||◌, nat_lt};
-ghost use Rattle.tcp_state.specs.Resend.{IsSoundResend, first_resend, stopped, mark_past, resend_again, resend_syn_again, resend_sent, resend_probed, resend_expired, resend_probes, mark_moved, recover_noted, resend_first, resend_lost, unmarked, is_timed_by, resend_acknowledged};
+ghost use Rattle.stream_buf.specs.Ranges.{range};
+ghost use Rattle.stream_buf.specs.Scoreboard.{with_report};
+ghost use Rattle.tcp_state.specs.Resend.{IsSoundResend, is_alone, resend_ends, first_resend, stopped, mark_past, resend_again, resend_syn_again, resend_sent, resend_probed, resend_expired, resend_probes, mark_moved, recover_noted, resend_first, resend_lost, unmarked, is_timed_by, resend_acknowledged};
 
 use clock::Moment;
 use retransmit::{Estimate, Rto};
 use std::marker::Model;
+use stream_buf::Scoreboard;
 use tcp_segment::Seq;
 
 /// How often the retransmission timer and the probe timer may expire without progress: the next expiry ends the connection (RFC 9293
@@ -51,6 +54,8 @@ pub(crate) struct Resend {
     small: u32,
     /// The number behind all that was outstanding when a recovery began or the timer expired, as a distance past SND.UNA; 0 where all of it is acknowledged (RFC 6582 section 3.2).
     recover: u32,
+    /// What the peer reports that it keeps ahead of a gap, by distances past SND.UNA (RFC 6675 section 3).
+    reported: Scoreboard,
 }
 
 impl Model for Resend {
@@ -85,6 +90,7 @@ impl Resend {
             resent: 0,
             small: 0,
             recover: 0,
+            reported: Scoreboard::new(),
         }
     }
 
@@ -165,6 +171,28 @@ impl Resend {
         self.recover
     }
 
+    /// Whether no more than one segment goes out again from the mark, within whatever the network takes.
+    pub(crate) fn once(&self) -> bool
+        ensures { result ≡ self.now.once }
+    {
+        self.once
+    }
+
+    /// What the peer reports that it keeps ahead of a gap.
+    pub(crate) fn reported(&self) -> &Scoreboard
+        ensures { result.now ≡ self.now.reported }
+    {
+        &self.reported
+    }
+
+    /// The peer reports the places between two distances past SND.UNA, while so many numbers are outstanding.
+    pub(crate) fn report(&mut self, start: u32, end: u32, outstanding: u32)
+        ensures after { self.new ≡ record self.old { reported = with_report self.old.reported outstanding (range start end) } }
+        ensures resend_view { IsSoundResend self.new }
+    {
+        self.reported.report(start, end, outstanding);
+    }
+
     /// Nothing is outstanding or waits any longer.
     pub(crate) fn stop(&mut self)
         ensures after { self.new ≡ stopped self.old }
@@ -178,6 +206,7 @@ impl Resend {
         self.overridden = false;
         self.small = 0;
         self.recover = 0;
+        self.reported.clear();
     }
 
     /// All of so many numbers that are outstanding go out again.
@@ -198,6 +227,7 @@ impl Resend {
         }
         self.small = self.small.saturating_sub(gained);
         self.recover = self.recover.saturating_sub(gained);
+        self.reported.pass(gained);
     }
 
     /// The segment at SND.UNA goes out again, that alone, of so many numbers that are outstanding (RFC 5681 section 3.2, RFC 6582 section
@@ -238,6 +268,23 @@ impl Resend {
         self.mark = None;
         self.small = 0;
         self.recover = 0;
+        self.reported.clear();
+    }
+
+    /// A recovery that reports rule is over: nothing goes out again by its mark.
+    pub(crate) fn end_repair(&mut self)
+        ensures after { self.new ≡ resend_ends self.old }
+        ensures resend_view { IsSoundResend self.new }
+    {
+        self.mark = None;
+        self.once = false;
+    }
+
+    /// Whether the mark is for one segment, and no reports tell what else is lost.
+    fn is_alone(&self) -> bool
+        ensures { result ≡ is_alone self.now }
+    {
+        self.once && self.reported.is_empty()
     }
 
     /// What was outstanding went out again, up to this distance past SND.UNA.
@@ -245,7 +292,7 @@ impl Resend {
         ensures after { self.new ≡ resend_again self.old end outstanding }
         ensures resend_view { IsSoundResend self.new }
     {
-        self.mark = if self.once {
+        self.mark = if self.is_alone() {
             None
         } else {
             mark_past(end, outstanding)
@@ -318,6 +365,7 @@ impl Resend {
         self.timeout.expire();
         self.expiries += 1;
         self.note_recover(repairs, outstanding);
+        self.reported.clear();
     }
 
     /// The probe timer expired.

@@ -1,6 +1,6 @@
 //! Laws of what a connection says, to its peer by segments and to its caller by errors, and of what it sends.
 
-ghost use Rattle.std.specs.Prelude.{◌≡◌, ◌↔◌, Some, is_some, min, ◌*◌, ◌≢◌, ℕ, None, ◌+◌, ◌<◌, ◌≤◌, ◌^◌, ◌⊎◌, ◌||◌, true, false, length, []};
+ghost use Rattle.std.specs.Prelude.{◌≡◌, ◌↔◌, Some, is_some, min, ◌*◌, ◌≢◌, ℕ, None, ◌+◌, ◌<◌, ◌≤◌, ◌^◌, ◌⊎◌, ◌||◌, ◌&&◌, not, true, false, length, []};
 ghost use Rattle.tcp_segment.specs.Segment.{Segment, Spells};
 ghost use Rattle.tcp_segment.specs.Wire.{wire, past};
 ghost use Rattle.clock.specs.declared.moment.Moment.{Moment};
@@ -9,13 +9,13 @@ ghost use Rattle.tcp_state.specs.declared.calls.Refusal.{Refusal};
 ghost use Rattle.tcp_state.specs.declared.state.State.{State};
 ghost use Rattle.tcp_state.specs.declared.emission.Due.{Due};
 ghost use Rattle.tcp_state.specs.declared.emission.Stretch.{Stretch};
-ghost use Rattle.congestion.specs.Window.{allowed};
+ghost use Rattle.tcp_state.specs.Selective.{repairs_gaps, pipe, allowance};
 ghost use Rattle.tcp_halves.specs.Stream.{outstanding};
 ghost use Rattle.tcp_halves.specs.Windows.{hears_next};
 ghost use Rattle.tcp_state.specs.View.{View, IsSound, is_opening, awaits_fin_ack};
 ghost use Rattle.tcp_state.specs.Most.{most_due};
 ghost use Rattle.tcp_state.specs.New.{takes_fin};
-ghost use Rattle.tcp_state.specs.Due.{MayGoOut, first_due, segment_octets, after_emitted};
+ghost use Rattle.tcp_state.specs.Due.{MayGoOut, again_at, is_missing, first_due, segment_octets, after_emitted};
 ghost use Rattle.tcp_state.specs.Arrival.{is_acceptable_to, fate};
 ghost use Rattle.tcp_state.specs.Edges.{Event, after_event, state_after};
 ghost use Rattle.tcp_state.specs.Said.{segment_of, HasFlags, IsSo, IsResetAtNext, IsResetOfSyn, IsClosedBy, MayLose, AreBothShut, IsWrongAck, MayReject};
@@ -69,23 +69,29 @@ pub fn second_syns_go_back_to_listen()
 /// for which its timer has come.
 pub fn what_is_new_goes_out()
     ensures full { (v : View) → IsSound v → v.resend.mark ≡ None → outstanding v.sending + v.sending.smss ≤ length v.sending.held → outstanding v.sending + v.sending.smss ≤ v.sending.window
-        → outstanding v.sending + v.sending.smss ≤ allowed v.congestion → first_due v ≡ Some (Due.Text (record { offset = outstanding v.sending; count = v.sending.smss; fin = takes_fin v (outstanding v.sending + v.sending.smss) })) }
-    ensures all { (v : View) → IsSound v → v.resend.mark ≡ None → v.sending.nxt ≡ v.sending.una → 0 < length v.sending.held → length v.sending.held ≤ v.sending.window → length v.sending.held ≤ allowed v.congestion
+        → outstanding v.sending + v.sending.smss ≤ allowance v → first_due v ≡ Some (Due.Text (record { offset = outstanding v.sending; count = v.sending.smss; fin = takes_fin v (outstanding v.sending + v.sending.smss) })) }
+    ensures all { (v : View) → IsSound v → v.resend.mark ≡ None → v.sending.nxt ≡ v.sending.una → 0 < length v.sending.held → length v.sending.held ≤ v.sending.window → length v.sending.held ≤ allowance v
         → first_due v ≡ Some (Due.Text (record { offset = 0; count = min (length v.sending.held) v.sending.smss; fin = takes_fin v (min (length v.sending.held) v.sending.smss) })) }
     ensures half { (v : View) → IsSound v → v.resend.mark ≡ None → v.sending.nxt ≡ v.sending.una
-        → (let n = min (length v.sending.held) (min v.sending.window (allowed v.congestion)) in 0 < n → v.sending.max_window ≤ 2 * n
+        → (let n = min (length v.sending.held) (min v.sending.window (allowance v)) in 0 < n → v.sending.max_window ≤ 2 * n
         → first_due v ≡ Some (Due.Text (record { offset = 0; count = min n v.sending.smss; fin = takes_fin v (min n v.sending.smss) }))) }
     ensures fin { (v : View) → IsSound v → v.resend.mark ≡ None → awaits_fin_ack v.state ≡ true → outstanding v.sending ≡ length v.sending.held → outstanding v.sending < v.sending.window
         → first_due v ≡ Some (Due.Text (record { offset = length v.sending.held; count = 0; fin = true })) }
     ensures probe { (v : View) → IsSound v → v.resend.mark ≡ None → v.resend.owes_probe ≡ true → v.sending.window ≡ 0 → (0 < length v.sending.held) ⊎ (awaits_fin_ack v.state ≡ true) → first_due v ≡ Some Due.Probe }
 {}
 
-/// What was lost goes out again before anything new (RFC 6298 section 5.4, RFC 5681 sections 3.1 and 3.2): from the resend mark on, where that is at SND.UNA, or below both windows. While a connection opens that is its SYN,
+/// What was lost goes out again before anything new (RFC 6298 section 5.4, RFC 5681 sections 3.1 and 3.2): from the resend mark on, or from the next place that isn't reported, where that is at SND.UNA, or below both windows; and where reports rule
+/// the recovery, what is missing, while the network takes a segment more (RFC 6675 section 5). While a connection opens that is its SYN,
 /// which is due too as long as it has not gone out.
 pub fn what_was_lost_goes_out_again()
     ensures opening { (v : View) → IsSound v → is_opening v.state ≡ true → (v.sending.nxt ≡ v.sending.una) ⊎ (is_some v.resend.mark ≡ true) → first_due v ≡ Some Due.Syn }
-    ensures later { (v : View) (mark : ℕ) → IsSound v → is_opening v.state ≡ false → v.resend.mark ≡ Some mark → (mark ≡ 0) ⊎ ((mark < v.sending.window) × (mark < v.congestion.cwnd))
-        → (stretch : Stretch) × (first_due v ≡ Some (Due.Text stretch)) × (stretch.offset ≡ mark) }
+    ensures later { (v : View) (mark : ℕ) → IsSound v → is_opening v.state ≡ false → v.resend.mark ≡ Some mark → again_at v mark < outstanding v.sending → (repairs_gaps v && not v.resend.once) ≡ false
+        → (again_at v mark ≡ 0) ⊎ ((again_at v mark < v.sending.window) × (again_at v mark < v.congestion.cwnd))
+        → (stretch : Stretch) × (first_due v ≡ Some (Due.Text stretch)) × (stretch.offset ≡ again_at v mark) }
+    ensures missing { (v : View) (mark : ℕ) → IsSound v → is_opening v.state ≡ false → v.resend.mark ≡ Some mark → again_at v mark < outstanding v.sending → repairs_gaps v ≡ true → v.resend.once ≡ false
+        → is_missing v (again_at v mark) ≡ true → again_at v mark < v.sending.window → pipe v + v.sending.smss ≤ v.congestion.cwnd
+        → (stretch : Stretch) × (first_due v ≡ Some (Due.Text stretch)) × (stretch.offset ≡ again_at v mark) }
+    ensures unreported { (v : View) (mark : ℕ) → v.resend.reported ≡ [] → again_at v mark ≡ mark }
 {}
 
 /// What is due of a connection goes out in finitely many segments: each that goes out leaves fewer that may follow it while nothing else happens to the connection.

@@ -42,7 +42,7 @@ impl Connection {
         !self.state.is_opening()
             && self
                 .sender
-                .waits_for_more(self.congestion.allowed(), self.waits_no_longer())
+                .waits_for_more(self.allowance(), self.waits_no_longer())
     }
 
     /// Whether nothing of ours waits to go out or to be acknowledged: the connection is open, and no octet is held and no FIN unacknowledged.

@@ -1,4 +1,4 @@
-//! The congestion window (RFC 5681; RFC 6582, RFC 3042, RFC 3465 and RFC 6928 where a set-up says so).
+//! The congestion window (RFC 5681; RFC 6582, RFC 6675, RFC 3042, RFC 3465 and RFC 6928 where a set-up says so).
 
 use congestion::{Control, Cwnd, Recovery};
 
@@ -11,6 +11,8 @@ enum Event {
     Duplicate(u32),
     /// The third duplicate, which says so.
     Third(u32),
+    /// Reports tell a loss.
+    Lost(u32),
 }
 
 /// Whether the event answers what it says.
@@ -34,12 +36,23 @@ fn answers(cwnd: &mut Cwnd, event: &Event) -> bool {
         }
         Event::Duplicate(flight) => !cwnd.duplicate(*flight),
         Event::Third(flight) => cwnd.duplicate(*flight),
+        Event::Lost(flight) => {
+            cwnd.lost(*flight);
+            true
+        }
     }
 }
 
 /// Ten segments at first, and a threshold that nothing reaches.
 const REPAIRS: Control = Control {
     recovery: Recovery::NewReno,
+    first_threshold: 1 << 30,
+    first_segments: 10,
+};
+
+/// The same, with selective acknowledgements.
+const SELECTIVE: Control = Control {
+    recovery: Recovery::Selective,
     first_threshold: 1 << 30,
     first_segments: 10,
 };
@@ -192,9 +205,9 @@ const BESIDE_PLAIN: [&[(Event, u32, u32, u32, u32)]; 2] = [
     ],
 ];
 
-/// Events with segments of 1,460 octets where losses are repaired alone, from a window of 14,600: each with the window, what may be in flight, and the
-/// threshold after it.
-const REPAIRED: [&[(Event, u32, u32, u32)]; 2] = [
+/// Events with segments of 1,460 octets where losses are repaired alone, with selective acknowledgements or without, from a window of 14,600: each with the
+/// window, what may be in flight, and the threshold after it.
+const REPAIRED: [&[(Event, u32, u32, u32)]; 3] = [
     // Of ten segments in flight the first and the fourth are lost, and octets always wait: what may go out does.
     &[
         // the eleventh segment goes out, and the twelfth
@@ -239,6 +252,21 @@ const REPAIRED: [&[(Event, u32, u32, u32)]; 2] = [
         (Event::Expired(1_000), 1_460, 1_460, 2_920),
         (Event::Duplicate(1_000), 1_460, 2_920, 2_920),
     ],
+    // losses that reports tell
+    &[
+        // ten segments in flight: half of them, and nothing more
+        (Event::Lost(14_600), 7_300, 7_300, 7_300),
+        // the lesser of 7,300 and 7,300 + 1,460
+        (Event::Acked(14_600, 7_300), 7_300, 7_300, 7_300),
+        // limited transmit: a segment goes out, and another
+        (Event::Duplicate(7_300), 7_300, 8_760, 7_300),
+        (Event::Duplicate(8_760), 7_300, 10_220, 7_300),
+        // without these two 7,300 are in flight; no third segment goes out past the window
+        (Event::Lost(10_220), 3_650, 3_650, 3_650),
+        // half of 3,650 is less than two segments
+        (Event::Expired(3_650), 1_460, 1_460, 2_920),
+        (Event::Lost(1_460), 2_920, 2_920, 2_920),
+    ],
 ];
 
 #[test]
@@ -267,13 +295,16 @@ fn repairs(rt: HostRuntime) {
             assert!(rt; (plain.window(), plain.allowed()) == (*alone, *alone));
         }
     }
-    for run in &REPAIRED {
-        let mut cwnd = Cwnd::new(REPAIRS, 1_460, false);
-        for (event, window, allowed, ssthresh) in *run {
-            assert!(rt; answers(&mut cwnd, event));
-            assert!(rt;
-                (cwnd.window(), cwnd.allowed(), cwnd.ssthresh()) == (*window, *allowed, *ssthresh)
-            );
+    for control in &[REPAIRS, SELECTIVE] {
+        for run in &REPAIRED {
+            let mut cwnd = Cwnd::new(*control, 1_460, false);
+            for (event, window, allowed, ssthresh) in *run {
+                assert!(rt; answers(&mut cwnd, event));
+                assert!(rt;
+                    (cwnd.window(), cwnd.allowed(), cwnd.ssthresh())
+                        == (*window, *allowed, *ssthresh)
+                );
+            }
         }
     }
 }

@@ -11,7 +11,7 @@ use Rattle.tcp_halves.specs.Halves.{Sending, Receiving, Room}
 use Rattle.tcp_halves.specs.Stream.{outstanding}
 use Rattle.tcp_halves.specs.Windows.{sendable, is_worth_sending}
 use Rattle.tcp_halves.proofs.Choices.{unowed}
-use Rattle.congestion.specs.Window.{allowed}
+use Rattle.tcp_state.specs.Selective.{allowance}
 use Rattle.tcp_state.specs.declared.calls.Refusal.{Refusal}
 use Rattle.tcp_state.specs.declared.emission.Due.{Due}
 use Rattle.tcp_state.specs.declared.emission.Due.TheVariants.{Rst, Syn, Text, Probe}
@@ -65,8 +65,8 @@ pub fin_due_first : (w : View) (n : ℕ) → n < 2 ^ 32 → w.owes_reset ≡ fal
     → first_due w ≡ Some (Text fin_alone)
 fin_due_first w n small reset opened awaits mark una nxt held room =
     let none : outstanding w.sending ≡ 0 = ap (λ m. past m w.sending.una) nxt ∙ (ap (past n) una ∙ same_numbers n small) in
-    let least : sendable w.sending (allowed w.congestion) ≡ 0 = omega (arith, ap length held) in
-    let none_new : sends_new w ≡ false = ap (λ m. nat_lt 0 m && is_worth_sending w.sending (allowed w.congestion) (waits_no_longer w)) least in
+    let least : sendable w.sending (allowance w) ≡ 0 = omega (arith, ap length held) in
+    let none_new : sends_new w ≡ false = ap (λ m. nat_lt 0 m && is_worth_sending w.sending (allowance w) (waits_no_longer w)) least in
     let fin : sends_fin w ≡ true =
     ap (λ b. b && (outstanding w.sending == length w.sending.held) && nat_lt (outstanding w.sending) w.sending.window) awaits
     ∙ (ap (λ m. (m == length w.sending.held) && nat_lt m w.sending.window) none ∙ (ap (λ xs. (0 == length xs) && nat_lt 0 w.sending.window) held ∙ lt-ltb 0 w.sending.window room)) in

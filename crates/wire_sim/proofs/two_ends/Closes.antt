@@ -1,5 +1,5 @@
 -- Why the segments of a close that come lead both ends on.
-use Rattle.std.proofs.Common.{◌≡◌, ℕ, zero, suc, ◌-◌, ◌+◌, ◌%◌, ◌^◌, ◌<◌, ◌≤◌, ◌==◌, ◌||◌, ◌&&◌, not, nat_le, nat_lt, if◌then◌else◌, Bool, true, false, List, [], ◌∷◌, length, drop, Option, Some, None, arith, refl, sym, ◌∙◌, ap, subst, inl, inr}
+use Rattle.std.proofs.Common.{◌≡◌, ℕ, zero, suc, ◌-◌, ◌+◌, ◌%◌, ◌^◌, ◌<◌, ◌≤◌, ◌==◌, ◌||◌, ◌&&◌, not, nat_le, nat_lt, if◌then◌else◌, Bool, true, false, List, [], ◌∷◌, length, drop, Option, Some, None, arith, refl, sym, ◌∙◌, ap, ap₂, subst, inl, inr}
 use Rattle.std.proofs.lemmas.Bool.{lt-ltb}
 use Rattle.std.specs.Option.{ForSome}
 use Rattle.clock.specs.declared.moment.Moment.{Moment}
@@ -21,7 +21,7 @@ use Rattle.tcp_state.specs.Said.{segment_of}
 use Rattle.tcp_state.specs.View.{View, IsSound, is_opening, is_closed, is_over, is_syn_sent, is_syn_received, awaits_fin_ack}
 use Rattle.tcp_state.specs.Due.{first_due}
 use Rattle.tcp_state.specs.Resend.{Resend, stopped, mark_left}
-use Rattle.tcp_state.proofs.Clocked.{comes_to, marks_kept, unmoved}
+use Rattle.tcp_state.proofs.Clocked.{comes_to, unmarked_after, unmoved}
 use Rattle.tcp_state.proofs.Segments.{reads}
 use Rattle.wire_sim.specs.Handshakes.{IsOut, IsAtRest, IsEnding, fin_alone}
 use Rattle.wire_sim.proofs.two_ends.Opens.{one_past, one_out, new_one, ack_due_first, ack_at_next, next_acceptable}
@@ -174,21 +174,6 @@ pub none_marked : (mark : Option ℕ) (out : ℕ) → ForSome mark (λ distance.
 none_marked None out within none = refl
 none_marked (Some distance) out within none = absurd (omega (arith, within distance refl, none))
 
-none_left : (n m : ℕ) → n ≤ m → n - m ≡ 0
-none_left n m fits = omega (arith, fits)
-
-no_duplicate : (v : View) (s : Segment) → s.flags.fin ≡ true → is_counted_duplicate v s ≡ false
-no_duplicate v s fin =
-    ap (λ b. not (is_opening v.state) && is_read v s && nat_lt 0 (octets_outstanding v) && (length s.octets == 0) && not b && (s.acknowledgement == v.sending.una) && (window_in v.sending s.window == v.sending.window) && counts_duplicates v) fin
-    ∙ last (not (is_opening v.state)) (is_read v s) (nat_lt 0 (octets_outstanding v)) (length s.octets == 0)
-  where
-    last : (a b c d : Bool) → (a && b && c && d && false && (s.acknowledgement == v.sending.una) && (window_in v.sending s.window == v.sending.window) && counts_duplicates v) ≡ false
-    last true true true true = refl
-    last true true true false = refl
-    last true true false d = refl
-    last true false c d = refl
-    last false b c d = refl
-
 -- The FIN of one end comes to the other, which waits in ESTABLISHED.
 pub first_fin : (state : State) (ours theirs : ℕ) (c v : View) (now : Moment) → IsSound c → IsEnding state ours theirs c → IsSound v → IsAtRest Established theirs ours v → 0 < receive_window v.receiving
     → (let w = after_event v (Hears (fin_of c) now) in IsAtRest CloseWait theirs (wire ours 1) w × (first_due w ≡ Some Ack)) × (fate v (fin_of c) ≡ Stays)
@@ -213,8 +198,9 @@ first_fin state ours theirs c v now solid ends sound rests room =
     let at : after_segment_at v s now ≡ w = heard_at v s now h ∙ ap (λ u. timed_by (before v s) u now) heard in
     let reset : v.owes_reset ≡ false = unowed v.owes_reset (is_closed v.state) v.released lives sound.reset in
     let state_is : y.state ≡ CloseWait = ap beyond_end rests.in_state in
-    let unmarked : v.resend.mark ≡ None = none_marked v.resend.mark (outstanding v.sending) sound.mark (ap (λ n. past n v.sending.una) rests.sent ∙ (ap (past theirs) rests.acknowledged ∙ same_numbers theirs (subst (λ n. n < 2 ^ 32) rests.acknowledged sound.una))) in
-    let mark : (resend_after (before v s) y now).mark ≡ None = marks_kept (before v s) y now (inl (ap (λ n. not (v.sending.una == n)) (window_keeps (λ t. t.una ≡ v.sending.una) v s (λ t una nxt held. una)) ∙ unmoved v)) (no_duplicate v s refl) ∙ unmarked in
+    let idle : outstanding v.sending ≡ 0 = ap (λ n. past n v.sending.una) rests.sent ∙ (ap (past theirs) rests.acknowledged ∙ same_numbers theirs (subst (λ n. n < 2 ^ 32) rests.acknowledged sound.una)) in
+    let unmarked : v.resend.mark ≡ None = none_marked v.resend.mark (outstanding v.sending) sound.mark idle in
+    let mark : (resend_after (before v s) y now).mark ≡ None = unmarked_after (before v s) y now unmarked (window_keeps (λ t. outstanding t ≡ 0) v s (λ t una nxt held. ap₂ past nxt una ∙ idle)) in
     let held : x.sending.held ≡ [] = window_keeps (λ t. t.held ≡ []) v s (λ t una nxt held. held ∙ rests.held) in
     let P : View → Type 0 = λ u. IsAtRest CloseWait theirs (wire ours 1) u × (first_due u ≡ Some Ack) in (
       subst P (sym at) (
@@ -263,11 +249,10 @@ last_fin state ours theirs c v now solid ends sound waits out room =
     let at : after_segment_at v s now ≡ w = heard_at v s now h ∙ ap (λ u. timed_by (before v s) u now) heard in
     let reset : v.owes_reset ≡ false = unowed v.owes_reset (is_closed v.state) v.released lives sound.reset in
     let state_is : y.state ≡ TimeWait = ap beyond_end beyond in
+    let all : past v.sending.nxt s.acknowledgement ≡ 0 = ap (past v.sending.nxt) ends.expects ∙ (ap (λ n. past n (wire ours 1)) sent ∙ same_numbers (wire ours 1) (omega arith)) in
     let unmarked : u.resend.mark ≡ None = ap (λ (r : Resend). r.mark) (ap (λ b. if b then stopped (after_new_ack v s.acknowledgement).resend else (after_new_ack v s.acknowledgement).resend) (ap is_closed beyond))
-    ∙ mark_gone v.resend.mark (past s.acknowledgement v.sending.una) (past v.sending.nxt s.acknowledgement) (ap (past v.sending.nxt) ends.expects ∙ (ap (λ n. past n (wire ours 1)) sent ∙ same_numbers (wire ours 1) (omega arith))) in
-    let reached : u.resend.recover ≡ 0 = ap (λ (r : Resend). r.recover) (ap (λ b. if b then stopped (after_new_ack v s.acknowledgement).resend else (after_new_ack v s.acknowledgement).resend) (ap is_closed beyond))
-    ∙ (ap (λ n. v.resend.recover - past n v.sending.una) (ends.expects ∙ sym sent) ∙ none_left v.resend.recover (outstanding v.sending) sound.recover) in
-    let mark : (resend_after (before v s) y now).mark ≡ None = marks_kept (before v s) y now (inr (inr reached)) (no_duplicate v s refl) ∙ unmarked in
+    ∙ mark_gone v.resend.mark (past s.acknowledgement v.sending.una) (past v.sending.nxt s.acknowledgement) all in
+    let mark : (resend_after (before v s) y now).mark ≡ None = unmarked_after (before v s) y now unmarked (window_keeps (λ t. outstanding t ≡ 0) u s (λ t una nxt held. ap₂ past nxt una ∙ all)) in
     let none : u.sending.held ≡ [] = none_dropped (past s.acknowledgement v.sending.una) v.sending.held waits.held in
     let held : x.sending.held ≡ [] = window_keeps (λ t. t.held ≡ []) u s (λ t una nxt held. held ∙ none) in
     let P : View → Type 0 = λ u. IsAtRest TimeWait (wire ours 1) (wire theirs 1) u × (first_due u ≡ Some Ack) in (

@@ -7,7 +7,7 @@ use Rattle.tcp_segment.specs.Wire.{past, wire}
 use Rattle.tcp_halves.specs.Halves.{Receiving}
 use Rattle.tcp_halves.specs.Stream.{outstanding, is_new_ack, is_acceptable, receive_window}
 use Rattle.tcp_halves.proofs.Choices.{either, by, both, and_false}
-use Rattle.congestion.specs.Window.{allowed}
+use Rattle.tcp_state.specs.Selective.{allowance}
 use Rattle.tcp_state.specs.declared.calls.Refusal.TheVariants.{ECONNREFUSED}
 use Rattle.tcp_state.specs.declared.connection.Fate.TheVariants.{Stays, Removed, Rejected}
 use Rattle.tcp_state.specs.declared.emission.Due.TheVariants.{Rst, Syn, Text, Probe, Ack, KeepAlive}
@@ -24,6 +24,7 @@ use Rattle.tcp_state.specs.Timing.{has_unacknowledged, probes}
 use Rattle.tcp_halves.specs.Windows.{window_in, hears_next, sendable, is_worth_sending, has_grown}
 use Rattle.tcp_state.specs.declared.emission.Due.{Due}
 use Rattle.std.specs.Option.{option_or}
+use Rattle.tcp_state.proofs.Selects.{silent_opening}
 use Rattle.tcp_state.proofs.Clocked.{comes_to, marks_kept}
 use Rattle.tcp_state.proofs.ResetErrors.{refused_in_syn_sent}
 use Rattle.tcp_state.proofs.Segments.{by_segment, by_ack, by_fin, opened_by_syn_ack}
@@ -85,8 +86,8 @@ opening_out v sound opens out =
 -- nothing holds an acknowledgement back where nothing is held
 pub ack_due_first : (w : View) → w.owes_reset ≡ false → is_opening w.state ≡ false → awaits_fin_ack w.state ≡ false → w.resend.mark ≡ None → w.sending.held ≡ [] → w.owes_ack ≡ true → first_due w ≡ Some Ack
 ack_due_first w reset opened fin mark held owes =
-    let least : sendable w.sending (allowed w.congestion) ≡ 0 = omega (arith, ap length held) in
-    let none_new : sends_new w ≡ false = ap (λ n. nat_lt 0 n && is_worth_sending w.sending (allowed w.congestion) (waits_no_longer w)) least in
+    let least : sendable w.sending (allowance w) ≡ 0 = omega (arith, ap length held) in
+    let none_new : sends_new w ≡ false = ap (λ n. nat_lt 0 n && is_worth_sending w.sending (allowance w) (waits_no_longer w)) least in
     let no_fin : sends_fin w ≡ false = ap (λ b. b && (outstanding w.sending == length w.sending.held) && nat_lt (outstanding w.sending) w.sending.window) fin in
     let none_left : has_unacknowledged w ≡ false = ap (λ n. not (n == 0) || awaits_fin_ack w.state) (ap length held) ∙ fin in
     let unprobed : (w.resend.owes_probe && probes w) ≡ false = ap (λ b. w.resend.owes_probe && (not (is_opening w.state) && (w.sending.window == 0) && b)) none_left ∙ never w.resend.owes_probe (not (is_opening w.state)) (w.sending.window == 0) in
@@ -172,7 +173,7 @@ opened_by ours theirs f v now answers sound asks out =
     let heard : after_heard v s ≡ opened_by_syn_ack v s = ap (λ b. if b then after_lost v s else after_segment v s) kept ∙ syn_ack_heard v s asks.state refl refl ack new in
     let u = opened_by_syn_ack v s in
     let at : after_segment_at v s now ≡ timed_by (before v s) u now = comes_to v s now (ap is_closed asks.state) taken ∙ ap (λ w. timed_by (before v s) w now) heard in
-    let mark : (resend_after (before v s) u now).mark ≡ None = marks_kept (before v s) u now (inr (inl opens)) (ap (λ b. not b && is_read v s && nat_lt 0 (octets_outstanding v) && (length s.octets == 0) && not s.flags.fin && (s.acknowledgement == v.sending.una) && (window_in v.sending s.window == v.sending.window) && counts_duplicates v) opens) in
+    let mark : (resend_after (before v s) u now).mark ≡ None = marks_kept (before v s) u now (inr opens) (ap (λ b. not b && is_read v s && nat_lt 0 (octets_outstanding v) && (length s.octets == 0) && not s.flags.fin && (s.acknowledgement == v.sending.una) && (window_in v.sending s.window == v.sending.window) && counts_duplicates v) opens) (silent_opening v s opens) in
     let w = timed_by (before v s) u now in
     let P : View → Type 0 = λ e. IsOpen ours theirs e × (first_due e ≡ Some Ack) in (
       subst P (sym at) (

@@ -1,4 +1,4 @@
-use Rattle.tcp_state.proofs.Signals.{begins_at_opening, counts_octets, counts_partly, counts_duplicate, counts_expiry, others_count_none, duplicates_are}
+use Rattle.tcp_state.proofs.Signals.{begins_at_opening, counts_octets, counts_partly, counts_no_part, counts_report, counts_duplicate, counts_expiry, others_count_none, duplicates_are}
 use Rattle.tcp_state.proofs.counting.the_congestion_window_counts_octets.Goals as goal
 
 pub returns : goal.returns
@@ -6,6 +6,8 @@ returns c = record {
   begins = begins_at_opening;
   acknowledged = counts_octets;
   partly = counts_partly;
+  ruled = counts_no_part;
+  reported = counts_report;
   duplicate = counts_duplicate;
   expired = counts_expiry;
   others = others_count_none;

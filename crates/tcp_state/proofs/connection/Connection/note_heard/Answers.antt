@@ -1,46 +1,44 @@
-use Rattle.std.proofs.Common.{◌≡◌, ℕ, ◌-◌, ◌==◌, ◌&&◌, ◌||◌, not, nat_lt, Bool, if◌then◌else◌, length, refl, sym, ◌∙◌, ap}
-use Rattle.congestion.specs.Window.{goes_on}
-use Rattle.congestion.specs.Events.Event.{NewAck, PartialAck, Duplicate}
+use Rattle.std.proofs.Common.{◌≡◌, ℕ, ◌&&◌, ◌||◌, not, ◌==◌, nat_lt, Bool, if◌then◌else◌, refl, sym, ◌∙◌, ap, ap₂}
+use Rattle.stream_buf.specs.Ranges.{covered}
+use Rattle.tcp_state.specs.Selective.{with_blocks}
 use Rattle.clock.specs.declared.moment.Moment.{Moment}
 use Rattle.tcp_state.specs.declared.arrival.Before.{Before}
-use Rattle.tcp_state.specs.View.{View, is_opening, is_closed}
+use Rattle.tcp_state.specs.View.{View}
 use Rattle.tcp_halves.specs.Stream.{outstanding}
 use Rattle.tcp_state.specs.Timing.{clocked}
 use Rattle.tcp_state.specs.Congestion.{Signal, after_signal}
-use Rattle.tcp_state.specs.Congestion.Signal.{Begins, Counts, Nothing}
 use Rattle.tcp_state.specs.Alive.{heard_now}
-use Rattle.tcp_state.specs.Arrival.{begins_wait, is_moved, resend_heard, resend_after, congestion_event_of, resend_signalled, congestion_after, timed_by}
+use Rattle.tcp_state.specs.Arrival.{begins_wait, is_moved, resend_heard, resend_told, reported_by, told, reports_more, signal_of, resend_after, congestion_event_of, resend_signalled, congestion_after, timed_by}
 use Rattle.tcp_state.proofs.Clocked.{heard_paced}
 use Rattle.tcp_state.proofs.Congestion.{syn_kept}
 use Rattle.tcp_state.proofs.connection.Connection.note_heard.Goals as goal
 use Rattle.tcp_state.proofs.connection.Connection.note_heard.Goals.{then-starts_wait, else-starts_wait}
 
--- what a segment tells, once its progress is noted
-abbrev signalled : Before → View → View
-signalled b w = record w {
-  resend = resend_signalled w.resend (congestion_event_of b w) w.congestion (outstanding w.sending);
-  congestion = congestion_after b w;
+-- what a segment tells, once its progress is noted, and what it reports
+abbrev signalled : Before → View → Bool → View
+signalled b w more = record w {
+  resend = resend_signalled w.resend (signal_of b w more) w.congestion (outstanding w.sending);
+  congestion = after_signal w.congestion (signal_of b w more) w.sending.smss w.resend.syn_resent;
 }
 
--- what it is to the congestion window depends on the end of a recovery alone, of all that is noted of what goes out again
+-- what it is to the congestion window depends on the end of a recovery and on what is reported alone, of all that is noted of what goes out again
 abbrev event_at : Before → View → ℕ → Signal
-event_at b w recover =
-    if is_closed w.state then Nothing
-    else if is_moved b w then (if is_opening b.state then Begins
-    else Counts (if goes_on w.congestion && nat_lt 0 recover then PartialAck (b.held - length w.sending.held) else NewAck (b.held - length w.sending.held) (outstanding w.sending)))
-    else if b.is_duplicate then Counts (Duplicate (outstanding w.sending))
-    else Nothing
+event_at b w recover = signal_of b (record w { resend = record w.resend { recover = recover; reported = reported_by b w } }) (reports_more b w)
 
 -- its progress, its signal, the wait that it begins, that the peer was heard, and then the clock
-noted : (b : Before) (v progress signal waits hears : View) (moved starts : Bool) (now : Moment) → progress ≡ record v { resend = resend_heard b v now } → signal ≡ signalled b progress
+noted : (b : Before) (v progress reported signal waits hears : View) (moved more starts : Bool) (now : Moment) → progress ≡ record v { resend = resend_heard b v now } → reported ≡ told b progress → more ≡ reports_more b progress → signal ≡ signalled b reported more
     → waits ≡ record signal { since = if starts then now else signal.since } → hears ≡ record waits { alive = heard_now waits.alive now } → moved ≡ is_moved b v
     → starts ≡ (b.repeats_fin || begins_wait b.state signal.state || (signal.owes_reset && not b.owes_reset)) → clocked moved hears now ≡ timed_by b v now
-noted b v progress signal waits hears moved starts now progressed told since heard moves begins =
+noted b v progress reported signal waits hears moved more starts now progressed told_so more_so signals since heard moves begins =
     let w = record v { resend = resend_after b v now; congestion = congestion_after b v } in
     let heard_resend = resend_heard b v now in
-    let event : congestion_event_of b (record v { resend = heard_resend }) ≡ congestion_event_of b v = ap (event_at b v) (heard_paced b v now (λ p. p.recover ≡ v.resend.recover) refl refl refl) in
-    let signal_is : signal ≡ w = told ∙ ap (signalled b) progressed
-    ∙ ap (λ g. record v { resend = resend_signalled heard_resend g v.congestion (outstanding v.sending); congestion = after_signal v.congestion g v.sending.smss heard_resend.syn_resent }) event
+    let read : View = record v { resend = resend_told b v now } in
+    let same : heard_resend.reported ≡ v.resend.reported = heard_paced b v now (λ p. p.reported ≡ v.resend.reported) refl refl refl in
+    let told_is : reported ≡ read = told_so ∙ ap (told b) progressed ∙ ap (λ rs. let x : View = record v { resend = record heard_resend { reported = with_blocks rs v.sending b.blocks } } in x) same in
+    let more_is : more ≡ reports_more b v = more_so ∙ ap (reports_more b) progressed ∙ ap (λ rs. b.counts_reports && nat_lt (covered rs) (covered (with_blocks rs v.sending b.blocks))) same in
+    let event : signal_of b read (reports_more b v) ≡ congestion_event_of b v = ap (event_at b v) (heard_paced b v now (λ p. p.recover ≡ v.resend.recover) refl refl refl) in
+    let signal_is : signal ≡ w = signals ∙ ap₂ (signalled b) told_is more_is
+    ∙ ap (λ g. record v { resend = resend_signalled (resend_told b v now) g v.congestion (outstanding v.sending); congestion = after_signal v.congestion g v.sending.smss heard_resend.syn_resent }) event
     ∙ ap (λ resent. record w { congestion = after_signal v.congestion (congestion_event_of b v) v.sending.smss resent }) (syn_kept b v now) in
     let starts_is = begins ∙ ap (λ (x : View). b.repeats_fin || begins_wait b.state x.state || (x.owes_reset && not b.owes_reset)) signal_is in
     let waits_is = since ∙ ap (λ (x : View). record x { since = if starts then now else x.since }) signal_is ∙ ap (λ t. record w { since = if t then now else v.since }) starts_is in
@@ -59,5 +57,5 @@ returns c =
     let starts = c.starts_wait.ensures
     ∙ ap (λ (x : View). c.args.before.repeats_fin || begins_wait c.args.before.state x.state || (x.owes_reset && not c.args.before.owes_reset)) c.self-2.view_is in
     c.update_timers.ensures
-    ∙ noted c.args.before c.args.self.now c.note_progress.new.self signal c.if-starts_wait.self c.note_peer.new.self c.ne-moved.result c.starts_wait.result c.args.now
-    c.note_progress.ensures c.note_signal.ensures since c.note_peer.ensures moved starts
+    ∙ noted c.args.before c.args.self.now c.note_progress.new.self c.note_reports-reports_more.new.self signal c.if-starts_wait.self c.note_peer.new.self c.ne-moved.result c.note_reports-reports_more.result c.starts_wait.result c.args.now
+    c.note_progress.ensures c.note_reports-reports_more.ensures.after c.note_reports-reports_more.ensures.more c.note_signal.ensures since c.note_peer.ensures moved starts

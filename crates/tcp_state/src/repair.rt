@@ -1,0 +1,50 @@
+//! Laws of what goes out by what the peer reports that it keeps ahead of a gap (RFC 2018, RFC 6675): each is the contract of a function that does nothing.
+
+ghost use Rattle.std.specs.Prelude.{◌≡◌, ℕ, ◌+◌, ◌<◌, ◌≤◌, ◌==◌, ◌&&◌, ◌||◌, true, false, [], Some};
+ghost use Rattle.ipv4.specs.declared.addr.Endpoint.{Endpoint};
+ghost use Rattle.clock.specs.declared.moment.Moment.{Moment};
+ghost use Rattle.clock.specs.Moments.{has_come};
+ghost use Rattle.stream_buf.specs.Scoreboard.{is_reported, is_lost};
+ghost use Rattle.congestion.specs.Window.{is_recovering};
+ghost use Rattle.tcp_segment.specs.Segment.{Segment};
+ghost use Rattle.tcp_halves.specs.Halves.{Room};
+ghost use Rattle.tcp_halves.specs.Stream.{outstanding};
+ghost use Rattle.tcp_state.specs.declared.emission.Due.{Due};
+ghost use Rattle.tcp_state.specs.declared.emission.Stretch.{Stretch};
+ghost use Rattle.tcp_state.specs.View.{View, IsSound, is_opening, is_closed, opened_actively};
+ghost use Rattle.tcp_state.specs.Timing.{KeepsTime};
+ghost use Rattle.tcp_state.specs.Selective.{selects, repairs_gaps, counts_pipe, pipe, allowance};
+ghost use Rattle.tcp_state.specs.Due.{first_due, again, is_missing, numbers_of};
+ghost use Rattle.tcp_state.specs.Arrival.{opened_passively, is_counted_duplicate, is_rejected, reports_loss, after_heard};
+ghost use Rattle.tcp_state.specs.Edges.{Event, after_event};
+
+/// What is reported is not sent again before an expiry (RFC 2018 section 5.1): no octet of a segment that goes out again is reported. An expiry forgets what was, for the peer may have let it go (section 8).
+pub fn what_is_reported_is_not_sent_again()
+    ensures resent { (v : View) (stretch : Stretch) (place : ℕ) → IsSound v → first_due v ≡ Some (Due.Text stretch) → stretch.offset < outstanding v.sending → stretch.offset ≤ place → place < stretch.offset + stretch.count
+        → is_reported v.resend.reported place ≡ false }
+    ensures expiry { (v : View) (now : Moment) → IsSound v → KeepsTime v → has_come v.timers.retransmission now ≡ true → is_closed (after_event v (Event.Ticks now)).state ≡ false → (after_event v (Event.Ticks now)).resend.reported ≡ [] }
+{}
+
+/// Reports are taken where both sides' SYNs say so, and nowhere else (RFC 2018 section 2): without them nothing is ever reported, so that what goes out again stands at the resend mark, and the congestion window alone says how much may be outstanding.
+pub fn nothing_is_reported_unasked()
+    ensures opened { (room : Room) (local peer : Endpoint) (isn : ℕ) (now : Moment) → (opened_actively room local peer isn now).resend.reported ≡ [] }
+    ensures accepted { (room : Room) (local peer : Endpoint) (isn : ℕ) (syn : Segment) (now : Moment) → (opened_passively room local peer isn syn now).resend.reported ≡ [] }
+    ensures stays { (v : View) (e : Event) → selects v ≡ false → v.resend.reported ≡ [] → (after_event v e).resend.reported ≡ [] }
+{}
+
+/// A report that tells the loss of what is at SND.UNA begins a recovery up to all that is outstanding, and sends that first segment again, whatever is in the network (RFC 6675 section 5, steps 4.1 and 4.3).
+pub fn reports_tell_losses()
+    ensures { (v : View) (s : Segment) (now : Moment) → IsSound v → reports_loss v s ≡ true → is_counted_duplicate v s ≡ false → (is_closed v.state || is_rejected v s) ≡ false → is_closed (after_event v (Event.Hears s now)).state ≡ false
+        → let w = after_event v (Event.Hears s now) in (w.resend.recover ≡ outstanding w.sending) × (w.resend.once ≡ true) × (is_recovering w.congestion ≡ true) }
+{}
+
+/// In a recovery that reports rule, what goes out again is missing, but for the first segment, and the network has room for a segment beside what is in it; and so it has for new octets, in that recovery and outside of one (RFC 6675 section 5, step C). What is
+/// lost is missing: it isn't reported, and three ranges are past it, or more octets than two segments have (section 4, `IsLost`).
+pub fn the_network_has_room_for_it()
+    ensures again { (v : View) (stretch : Stretch) → repairs_gaps v ≡ true → v.resend.once ≡ false → first_due v ≡ Some (Due.Text stretch) → stretch.offset < outstanding v.sending
+        → (is_missing v stretch.offset ≡ true) × (pipe v + v.sending.smss ≤ v.congestion.cwnd) }
+    ensures new { (v : View) (stretch : Stretch) → IsSound v → counts_pipe v ≡ true → first_due v ≡ Some (Due.Text stretch) → outstanding v.sending ≤ stretch.offset → 0 < stretch.count → pipe v + numbers_of stretch ≤ v.congestion.cwnd }
+    ensures lost { (v : View) (place : ℕ) → IsSound v → is_reported v.resend.reported place ≡ false → is_lost v.sending.smss v.resend.reported place ≡ true → is_missing v place ≡ true }
+    ensures unreported { (v : View) → v.resend.reported ≡ [] → is_recovering v.congestion ≡ false → pipe v ≡ outstanding v.sending }
+    ensures window { (v : View) → v.resend.reported ≡ [] → is_recovering v.congestion ≡ false → counts_pipe v ≡ true → allowance v ≡ v.congestion.cwnd }
+{}
