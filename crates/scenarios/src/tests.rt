@@ -28,6 +28,7 @@ mod reports;
 mod resets;
 mod scale;
 mod segments;
+mod selective;
 mod simultaneous;
 mod stations;
 mod world;
