@@ -76,9 +76,8 @@ extern "C" {
 
 /* How losses are repaired (`recovery` of struct host_config). Plain is RFC 5681 section 3.2 alone: of several segments that a window loses, one comes
  * again at once, and the others by timeouts. NewReno brings one again in each round trip (RFC 6582), sends on at the first two duplicate acknowledgements
- * (RFC 3042), and has the window grow by the octets that are acknowledged (RFC 3465). Selective is that, and where the peer takes them, acknowledgements
- * report which octets came ahead of a gap (RFC 2018), for who receives much: what a peer reports isn't used yet, and Linux sends fewer duplicate
- * acknowledgements to who takes reports. */
+ * (RFC 3042), and has the window grow by the octets that are acknowledged (RFC 3465). Selective is as NewReno where the peer takes no selective
+ * acknowledgements; else acknowledgements report what is kept ahead of a gap (RFC 2018), and what the peer reports rules what goes out again (RFC 6675). */
 #define HOST_RECOVERY_PLAIN 0
 #define HOST_RECOVERY_NEW_RENO 1
 #define HOST_RECOVERY_SELECTIVE 2
@@ -168,7 +167,7 @@ struct host_route {
  * Of the three members behind `recovery` 0 is the usual, and another number that is out of its range counts as the nearest in it. A host that meets a
  * real network wants
  *
- *     .recovery = HOST_RECOVERY_NEW_RENO, .first_segments = 10, .least_timeout = 200, .first_threshold = 1 << 30
+ *     .recovery = HOST_RECOVERY_SELECTIVE, .first_segments = 10, .least_timeout = 200, .first_threshold = 1 << 30
  *
  * A later header may have more members behind these. By its size a program of today is understood by a later library, and a later program by this one
  * where it leaves them 0. */

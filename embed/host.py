@@ -44,8 +44,9 @@ class Kind(enum.IntEnum):
 
 
 class Recovery(enum.IntEnum):
-    """How losses are repaired: PLAIN is RFC 5681 section 3.2 alone, NEW_RENO that with RFC 6582, 3042 and 3465, and SELECTIVE those with
-    selective acknowledgements, where the peer takes them (RFC 2018), for who receives much: what a peer reports isn't used yet."""
+    """How losses are repaired: PLAIN is RFC 5681 section 3.2 alone, NEW_RENO that with RFC 6582, 3042 and 3465. SELECTIVE is as NEW_RENO where the
+    peer takes no selective acknowledgements; else acknowledgements report what is kept ahead of a gap (RFC 2018), and what the peer reports rules
+    what goes out again (RFC 6675)."""
 
     PLAIN = 0
     NEW_RENO = 1
@@ -298,8 +299,8 @@ class Host:
     `recovery` says how losses are repaired. `first_segments` are those of the first congestion window, 1 to 10 (RFC 6928), else two to four;
     `least_timeout` is the least retransmission timeout, 200 to 1,000 milliseconds (RFC 6298 section 2.4), else 1,000; `first_threshold` is the first
     slow start threshold, 65,535 to 1,073,741,824 octets (RFC 5681 section 3.1), else 65,535. Of these 0 is the usual, and another number that is
-    out of its range counts as the nearest in it. A host that meets a real network wants `recovery=Recovery.NEW_RENO, first_segments=10,
-    least_timeout=200, first_threshold=1 << 30`.
+    out of its range counts as the nearest in it. A host that meets a real network wants `recovery=Recovery.SELECTIVE,
+    first_segments=10, least_timeout=200, first_threshold=1 << 30`.
 
     A host is freed by `free`, at the end of a `with`, or when nothing names it any more.
     """

@@ -20,8 +20,8 @@ static const char help[] =
     "  --mac MAC                  its MAC (02:00 and the four octets of the address)\n"
     "  --no-scale                 no window scale option: a connection holds 65,535 octets each way, and not 1,048,576\n"
     "  --recovery WORD            how losses are repaired: `plain`, by RFC 5681 alone, with timeouts of a second at least; `newreno`, with ten segments\n"
-    "                             and no slow start threshold at first, and timeouts of 200 ms at least; or `selective`, so and with reports of\n"
-    "                             what came ahead of a gap, for who receives much (newreno)\n"
+    "                             and no slow start threshold at first, and timeouts of 200 ms at least; or `selective`, as `newreno` where the\n"
+    "                             peer takes no selective acknowledgements, else by what is reported of octets kept ahead of a gap (selective)\n"
     "\n"
     "What it does, in place of the services:\n"
     "  --connect ADDR PORT        connects there: standard input goes to the peer, what comes of it to standard output\n"
@@ -300,7 +300,7 @@ static void complete(struct options *options)
 void options_read(struct options *options, int argc, char **argv)
 {
     int which;
-    *options = (struct options){.idle = 300000, .patience = 60000, .recovery = HOST_RECOVERY_NEW_RENO};
+    *options = (struct options){.idle = 300000, .patience = 60000, .recovery = HOST_RECOVERY_SELECTIVE};
     opterr = 0;
     while ((which = getopt_long(argc, argv, "+:", words, NULL)) != -1) {
         if (which == '?' || which == ':') {

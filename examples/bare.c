@@ -293,7 +293,7 @@ static int datagram(void)
 static int both_made(void)
 {
     const struct host_route link = {HOST_ADDR(10, 0, 0, 0), 0, 24};
-    struct host_config config = {.size = sizeof config, .routes = &link, .count = 1, .no_window_scale = 1, .recovery = HOST_RECOVERY_NEW_RENO,
+    struct host_config config = {.size = sizeof config, .routes = &link, .count = 1, .no_window_scale = 1, .recovery = HOST_RECOVERY_SELECTIVE,
                                  .first_segments = 10, .least_timeout = 200, .first_threshold = UINT32_C(1) << 30};
     const uint8_t mac[6] = {2, 0, 0, 0, 0, 1};
 

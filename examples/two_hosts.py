@@ -10,7 +10,7 @@ from host import Host, Recovery
 dice, frames, now = random.Random(1), 0, 0
 octets = dice.randbytes(200_000)
 link = {"10.0.0.0/24": None}
-real = {"recovery": Recovery.NEW_RENO, "first_segments": 10, "least_timeout": 200, "first_threshold": 1 << 30}
+real = {"recovery": Recovery.SELECTIVE, "first_segments": 10, "least_timeout": 200, "first_threshold": 1 << 30}
 with Host("02:00:00:00:00:01", "10.0.0.1", link, **real) as a, Host("02:00:00:00:00:02", "10.0.0.2", link, **real) as b:
     listener = b.socket()
     b.bind(listener, ("0.0.0.0", 80))

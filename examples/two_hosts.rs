@@ -160,7 +160,7 @@ fn main() -> Result<(), Error> {
     }];
     // What a host wants that meets a real network.
     let real = |config: Config<'_>| {
-        let config = config.with_recovery(Recovery::NewReno).with_first_segments(10).with_least_timeout(200).with_threshold(1 << 30);
+        let config = config.with_recovery(Recovery::Selective).with_first_segments(10).with_least_timeout(200).with_threshold(1 << 30);
         Host::new(&config)
     };
     let mut network = Network {

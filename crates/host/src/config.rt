@@ -83,8 +83,8 @@ impl Config {
     }
 
     /// The same set-up of a host whose connections repair losses so: by `Recovery::NewReno` with what RFC 6582, 3042 and 3465 have beside RFC 5681 section
-    /// 3.2; by `Recovery::Selective` with that and, where the peer takes them, selective acknowledgements (RFC 2018); or by `Recovery::Plain` with that
-    /// section alone, as one that `new` makes.
+    /// 3.2; by `Recovery::Selective` so where the peer takes no selective acknowledgements, else by what is reported of octets that are kept ahead of a gap
+    /// (RFC 2018, RFC 6675); or by `Recovery::Plain` with that section alone, as one that `new` makes.
     pub fn with_recovery(self, recovery: Recovery) -> Config
         ensures { result ≡ record self { manner = record self.manner { control = record self.manner.control { recovery = recovery } } } }
     {

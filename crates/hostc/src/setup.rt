@@ -46,8 +46,8 @@ pub extern "C" fn host_new(
 }
 
 /// `host_new` by the octets of a `struct host_config`, and its routes: it uses the window scale option where the config's own is 0, its small segments
-/// wait for small ones only where that option is 1 (RFC 9293 appendix A.3), and losses are repaired by NewReno where that one is (RFC 6582, 3042, 3465), or
-/// with selective acknowledgements too where it is 2 (RFC 2018).
+/// wait for small ones only where that option is 1 (RFC 9293 appendix A.3), and losses are repaired by NewReno where that one is (RFC 6582, 3042, 3465), or,
+/// where it is 2, by selective acknowledgements where the peer takes them (RFC 2018, RFC 6675).
 /// The first window in segments (RFC 6928), the least timeout in milliseconds (RFC 6298 section 2.4) and the first slow start threshold in octets (RFC
 /// 5681 section 3.1) are numbers, where 0 is the usual one.
 ///

@@ -83,7 +83,8 @@ pub enum Recovery {
     Plain = 0,
     /// By that with RFC 6582, 3042 and 3465.
     NewReno = 1,
-    /// By those, with selective acknowledgements where the peer takes them (RFC 2018), for who receives much: what a peer reports isn't used yet.
+    /// As `NewReno` where the peer takes no selective acknowledgements; else acknowledgements report what is kept ahead of a gap (RFC 2018), and what
+    /// the peer reports rules what goes out again (RFC 6675).
     Selective = 2,
 }
 
@@ -128,7 +129,7 @@ impl<'a> Config<'a> {
         Config { minshall, ..self }
     }
 
-    /// How its connections repair losses: a host that meets a real network wants `Recovery::NewReno`, else it is `Recovery::Plain`.
+    /// How its connections repair losses: a host that meets a real network wants `Recovery::Selective`, else it is `Recovery::Plain`.
     pub fn with_recovery(self, recovery: Recovery) -> Config<'a> {
         Config { recovery, ..self }
     }
