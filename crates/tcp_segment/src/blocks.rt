@@ -112,6 +112,7 @@ impl Blocks {
 
     /// What the words of their octets come to, in one's complement: a number of 32 bits counts as its two words.
     #[cold]
+    #[inline(never)]
     pub(crate) fn words(&self) -> u64
         ensures value { (more : ℕ) → ones_complement (result + more) ≡ ones_complement (word_sum (block_octets self.now) + more) }
         ensures bound { result < 2 ^ 36 }
