@@ -6,6 +6,7 @@ ghost use Rattle.tcp_state.specs.View.{is_opening, is_syn_sent, most_outstanding
 ghost use Rattle.tcp_halves.specs.Stream.{outstanding};
 ghost use Rattle.tcp_halves.specs.Windows.{after_advertisement};
 ghost use Rattle.tcp_segment.specs.declared.TheConstants.{MSS};
+ghost use Rattle.tcp_state.specs.Selective.{allowance};
 ghost use Rattle.tcp_state.specs.New.{takes_last, passes_full, waits_no_longer, sends_new, takes_fin, sends_fin};
 ghost use Rattle.tcp_state.specs.Timing.{probes};
 ghost use Rattle.tcp_state.specs.Due.{MayGoOut, IsHeld, first_due, ack_due, again, again_at, is_missing, goes_by_reports, goes_by_windows, goes_again, again_from, new_octets, fin_alone, new_due, probe_stretch, numbers_of, end_of, flags_of, flags_of_stretch, ack_number, number_of, octets_of, window_of, head_of, segment_octets, emitted_len, after_emitted, after_going_out, after_syn_ack_paid, after_speaking, after_asking, after_numbers, after_resent, after_first_sent, after_new_octets, small_with, brings_new_octets, after_stretch, after_probe, after_syn_out};
@@ -162,7 +163,7 @@ impl Connection {
     {
         place < self.loss_end()
             || place < self.resend.reported().reported_end()
-                && !(self.sends_new() || self.sends_fin())
+                && !(self.sends_new(self.allowance()) || self.sends_fin())
     }
 
     /// What is outstanding from a distance past SND.UNA on, up to what is reported, as much as one segment has room for.
@@ -192,8 +193,9 @@ impl Connection {
         ensures first { result ≡ new_due self.now }
         ensures may { IfSome result (MayGoOut self.now) }
     {
-        if self.sends_new() {
-            return Some(Due::Text(self.new_octets()));
+        let allowed = self.allowance();
+        if self.sends_new(allowed) {
+            return Some(Due::Text(self.new_octets(allowed)));
         }
         if self.sends_fin() {
             return Some(Due::Text(self.fin_alone()));
@@ -205,65 +207,70 @@ impl Connection {
     }
 
     /// Whether new octets wait for no more: they did so as long as they may, or small segments don't wait for what is outstanding.
-    pub(crate) fn waits_no_longer(&self) -> bool
+    pub(crate) fn waits_no_longer(&self, allowed: u32) -> bool
+        requires { allowed ≡ allowance self.now }
         ensures { result ≡ waits_no_longer self.now }
     {
-        self.is_undelayed && self.sender.takes_enough(self.allowance())
-            || self.passes_full()
+        self.is_undelayed && self.sender.takes_enough(allowed)
+            || self.passes_full(allowed)
             || self.resend.is_overridden()
     }
 
     /// Whether a segment that isn't full waits for a small one only, and none is outstanding, or it has the last octets of a closed side.
-    fn passes_full(&self) -> bool
+    fn passes_full(&self, allowed: u32) -> bool
+        requires { allowed ≡ allowance self.now }
         ensures { result ≡ passes_full self.now }
     {
         self.minshall
-            && self.sender.takes_enough(self.allowance())
-            && (self.resend.small() == 0 || self.takes_last())
+            && self.sender.takes_enough(allowed)
+            && (self.resend.small() == 0 || self.takes_last(allowed))
     }
 
     /// Whether our side is closed, and both windows take all that has not gone out.
-    fn takes_last(&self) -> bool
+    fn takes_last(&self, allowed: u32) -> bool
+        requires { allowed ≡ allowance self.now }
         ensures { result ≡ takes_last self.now }
     {
-        self.state.awaits_fin_ack() && self.sender.takes_all(self.allowance())
+        self.state.awaits_fin_ack() && self.sender.takes_all(allowed)
     }
 
     /// Whether new octets go out.
-    pub(crate) fn sends_new(&self) -> bool
+    pub(crate) fn sends_new(&self, allowed: u32) -> bool
+        requires { allowed ≡ allowance self.now }
         ensures { result ≡ sends_new self.now }
     {
-        let allowed = self.allowance();
         self.sender.sendable(allowed) > 0
             && self
                 .sender
-                .is_worth_sending(allowed, self.waits_no_longer())
+                .is_worth_sending(allowed, self.waits_no_longer(allowed))
     }
 
     /// The new octets of the next segment.
-    fn new_octets(&self) -> Stretch
+    fn new_octets(&self, allowed: u32) -> Stretch
         requires opened { is_opening self.now.state ≡ false }
+        requires allowed { allowed ≡ allowance self.now }
         requires some { sends_new self.now ≡ true }
         ensures value { result ≡ new_octets self.now }
         ensures held { IsHeld self.now result }
     {
         let offset = self.sender.outstanding() as usize;
-        let count = self.sender.next_count(self.allowance());
+        let count = self.sender.next_count(allowed);
         Stretch {
             offset,
             count,
-            fin: self.takes_fin(offset + count),
+            fin: self.takes_fin(offset + count, allowed),
         }
     }
 
     /// Whether the FIN of a closed side goes with octets up to this distance past SND.UNA: with the last that are held.
-    fn takes_fin(&self, end: usize) -> bool
+    fn takes_fin(&self, end: usize, allowed: u32) -> bool
+        requires { allowed ≡ allowance self.now }
         ensures { result ≡ takes_fin self.now end }
     {
         self.minshall
             && self.state.awaits_fin_ack()
             && end == self.sender.held_len()
-            && end < self.sender.open_window(self.allowance()) as usize
+            && end < self.sender.open_window(allowed) as usize
     }
 
     /// Whether the FIN of a closed side goes out alone, behind all octets.

@@ -1,6 +1,6 @@
 //! What the peer reports that it keeps ahead of a gap, and what that tells of what is in the network (RFC 2018, RFC 6675).
 
-ghost use Rattle.std.specs.Prelude.{◌≡◌, ◌≤◌, ◌<◌, ◌+◌, ◌^◌, ◌==◌, ◌&&◌, not, length};
+ghost use Rattle.std.specs.Prelude.{◌≡◌, ◌≤◌, ◌<◌, ◌+◌, ◌^◌, ◌==◌, ◌&&◌, not, length, true};
 ghost use Rattle.stream_buf.specs.Scoreboard.{with_report};
 ghost use Rattle.congestion.specs.Window.{is_recovering};
 ghost use Rattle.tcp_halves.specs.Stream.{outstanding};
@@ -69,12 +69,22 @@ impl Connection {
         ensures { result ≡ allowance self.now }
     {
         if !self.counts_pipe() {
-            return self.congestion.allowed();
+            self.congestion.allowed()
+        } else if self.is_whole() {
+            self.congestion.window()
+        } else {
+            self.allowance_by_pipe()
         }
+    }
+
+    /// The same where octets are reported or a recovery runs: what is in the network has to be counted.
+    #[cold]
+    #[inline(never)]
+    fn allowance_by_pipe(&self) -> u32
+        requires { counts_pipe self.now ≡ true }
+        ensures { result ≡ allowance self.now }
+    {
         let window = self.congestion.window();
-        if self.is_whole() {
-            return window;
-        }
         u64::from(window + self.sender.outstanding()).saturating_sub(self.pipe()) as u32
     }
 

@@ -39,10 +39,12 @@ impl Connection {
     pub(crate) fn awaits_more(&self) -> bool
         ensures { result ≡ awaits_more self.now }
     {
-        !self.state.is_opening()
-            && self
-                .sender
-                .waits_for_more(self.allowance(), self.waits_no_longer())
+        if self.state.is_opening() {
+            return false;
+        }
+        let allowed = self.allowance();
+        self.sender
+            .waits_for_more(allowed, self.waits_no_longer(allowed))
     }
 
     /// Whether nothing of ours waits to go out or to be acknowledged: the connection is open, and no octet is held and no FIN unacknowledged.
@@ -120,7 +122,7 @@ impl Connection {
     {
         self.sender.outstanding() == 0
             && (self.state.is_opening()
-                || self.sends_new()
+                || self.sends_new(self.allowance())
                 || self.sends_fin()
                 || (self.resend.owes_probe() && self.probes()))
     }
