@@ -26,7 +26,7 @@ use retransmit::Timers;
 use tcp_segment::{Blocks, Seq, TcpView};
 
 /// What the clock and the congestion window have to know of a connection before a segment and of the segment.
-#[derive(Clone, Copy)]
+#[derive(Drop)]
 pub(crate) struct Before {
     /// The state that the connection was in.
     state: State,
@@ -60,7 +60,7 @@ impl Connection {
         let before = self.before(segment);
         let fate = self.hear(segment);
         if fate != Fate::Rejected {
-            self.note_heard(before, now);
+            self.note_heard(&before, now);
         }
         fate
     }
@@ -126,8 +126,8 @@ impl Connection {
     }
 
     /// A segment was heard at this moment.
-    fn note_heard(&mut self, before: Before, now: Moment)
-        ensures { self.new ≡ timed_by before self.old now }
+    fn note_heard(&mut self, before: &Before, now: Moment)
+        ensures { self.new ≡ timed_by before.now self.old now }
     {
         let moved = before.una != self.sender.una();
         self.note_progress(before, moved, now);
@@ -141,9 +141,9 @@ impl Connection {
     }
 
     /// A segment that moved SND.UNA is progress, and so is one that answers a probe.
-    fn note_progress(&mut self, before: Before, moved: bool, now: Moment)
-        requires { moved ≡ is_moved before self.old }
-        ensures { self.new ≡ record self.old { resend = resend_heard before self.old now } }
+    fn note_progress(&mut self, before: &Before, moved: bool, now: Moment)
+        requires { moved ≡ is_moved before.now self.old }
+        ensures { self.new ≡ record self.old { resend = resend_heard before.now self.old now } }
     {
         if moved {
             self.resend
@@ -154,11 +154,11 @@ impl Connection {
     }
 
     /// The congestion window takes what a segment is to it; by the third duplicate ACK the segment at SND.UNA goes out again (fast retransmit, RFC 5681 section 3.2), by a partial ACK, too, and by reports that tell its loss.
-    fn note_signal(&mut self, before: Before, moved: bool, reports_more: bool)
-        requires { moved ≡ is_moved before self.old }
+    fn note_signal(&mut self, before: &Before, moved: bool, reports_more: bool)
+        requires { moved ≡ is_moved before.now self.old }
         ensures { self.new ≡ record self.old {
-          resend = resend_signalled self.old.resend (signal_of before self.old reports_more) self.old.congestion (outstanding self.old.sending);
-          congestion = after_signal self.old.congestion (signal_of before self.old reports_more) self.old.sending.smss self.old.resend.syn_resent;
+          resend = resend_signalled self.old.resend (signal_of before.now self.old reports_more) self.old.congestion (outstanding self.old.sending);
+          congestion = after_signal self.old.congestion (signal_of before.now self.old reports_more) self.old.sending.smss self.old.resend.syn_resent;
         } }
     {
         if self.state == State::Closed {
@@ -203,12 +203,12 @@ impl Connection {
     }
 
     /// The congestion window begins where our SYN is acknowledged, and else takes the octets that are.
-    fn note_acknowledged(&mut self, before: Before)
-        requires moved { is_moved before self.old ≡ true }
+    fn note_acknowledged(&mut self, before: &Before)
+        requires moved { is_moved before.now self.old ≡ true }
         requires open { is_closed self.old.state ≡ false }
         ensures { self.new ≡ record self.old {
-          resend = resend_signalled self.old.resend (signal_of before self.old false) self.old.congestion (outstanding self.old.sending);
-          congestion = after_signal self.old.congestion (signal_of before self.old false) self.old.sending.smss self.old.resend.syn_resent;
+          resend = resend_signalled self.old.resend (signal_of before.now self.old false) self.old.congestion (outstanding self.old.sending);
+          congestion = after_signal self.old.congestion (signal_of before.now self.old false) self.old.sending.smss self.old.resend.syn_resent;
         } }
     {
         if before.state.is_opening() {
@@ -681,8 +681,8 @@ impl Connection {
 
 impl Before {
     /// Whether a wait is counted from the segment that led to a state.
-    fn starts_wait(self, state: State, owes_reset: bool) -> bool
-        ensures { result ≡ (self.repeats_fin || begins_wait self.state state || (owes_reset && not self.owes_reset)) }
+    fn starts_wait(&self, state: State, owes_reset: bool) -> bool
+        ensures { result ≡ (self.now.repeats_fin || begins_wait self.now.state state || (owes_reset && not self.now.owes_reset)) }
     {
         self.repeats_fin || self.state.begins_wait(state) || owes_reset && !self.owes_reset
     }

@@ -117,9 +117,9 @@ impl Connection {
     }
 
     /// What a segment reports joins what was reported. The answer is whether it counts, and tells of what nothing reported before.
-    pub(crate) fn note_reports(&mut self, before: Before) -> bool
-        ensures more { result ≡ reports_more before self.old }
-        ensures after { self.new ≡ told before self.old }
+    pub(crate) fn note_reports(&mut self, before: &Before) -> bool
+        ensures more { result ≡ reports_more before.now self.old }
+        ensures after { self.new ≡ told before.now self.old }
     {
         if before.blocks.is_empty() {
             return false;

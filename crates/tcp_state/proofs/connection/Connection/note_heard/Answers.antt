@@ -52,10 +52,10 @@ returns c =
       | then-starts_wait w ↦ w.self-is ∙ (ap (λ (x : View). record x { since = c.args.now }) c.self-2.view_is ∙ ap (λ t. record signal { since = if t then c.args.now else signal.since }) (sym w.if-starts_wait.true))
       | else-starts_wait w ↦ w.self-is ∙ ap (λ t. record signal { since = if t then c.args.now else signal.since }) (sym w.if-starts_wait.false)
     ] in
-    let moved : c.ne-moved.result ≡ is_moved c.args.before c.args.self.now =
-    c.ne-moved.ensures ∙ ap (λ n. not (c.args.before.una.0 == n)) (c.una.ensures ∙ ap (λ (x : View). x.sending.una) c.self.view_is) in
+    let moved : c.ne-moved.result ≡ is_moved c.args.before.now c.args.self.now =
+    c.ne-moved.ensures ∙ ap (λ n. not (c.args.before.now.una.0 == n)) (c.una.ensures ∙ ap (λ (x : View). x.sending.una) c.self.view_is) in
     let starts = c.starts_wait.ensures
-    ∙ ap (λ (x : View). c.args.before.repeats_fin || begins_wait c.args.before.state x.state || (x.owes_reset && not c.args.before.owes_reset)) c.self-2.view_is in
+    ∙ ap (λ (x : View). c.args.before.now.repeats_fin || begins_wait c.args.before.now.state x.state || (x.owes_reset && not c.args.before.now.owes_reset)) c.self-2.view_is in
     c.update_timers.ensures
-    ∙ noted c.args.before c.args.self.now c.note_progress.new.self c.note_reports-reports_more.new.self signal c.if-starts_wait.self c.note_peer.new.self c.ne-moved.result c.note_reports-reports_more.result c.starts_wait.result c.args.now
+    ∙ noted c.args.before.now c.args.self.now c.note_progress.new.self c.note_reports-reports_more.new.self signal c.if-starts_wait.self c.note_peer.new.self c.ne-moved.result c.note_reports-reports_more.result c.starts_wait.result c.args.now
     c.note_progress.ensures c.note_reports-reports_more.ensures.after c.note_reports-reports_more.ensures.more c.note_signal.ensures since c.note_peer.ensures moved starts

@@ -44,13 +44,13 @@ all_join v w b items i is all joined =
     joined.0 ∙ ap (λ r. let x : View = record v { resend = record v.resend { reported = r } } in x) (sym done ∙ joined.1 ∙ ap (with_blocks v.resend.reported v.sending) is)
 
 pub returns-clause-after : goal.returns-clause-after
-returns-clause-after c = all_join c.args.self.now c.loop-block.self c.args.before c.as_slice-block-items.result.now c.loop-block.block-index c.as_slice-block-items.ensures.value c.loop-block-test.false c.loop-block.invariant
+returns-clause-after c = all_join c.args.self.now c.loop-block.self c.args.before.now c.as_slice-block-items.result.now c.loop-block.block-index c.as_slice-block-items.ensures.value c.loop-block-test.false c.loop-block.invariant
 
 pub returns-clause-more : goal.returns-clause-more
 returns-clause-more c =
-    let after : c.loop-block.self ≡ told c.args.before c.args.self.now =
-    all_join c.args.self.now c.loop-block.self c.args.before c.as_slice-block-items.result.now c.loop-block.block-index c.as_slice-block-items.ensures.value c.loop-block-test.false c.loop-block.invariant in
-    let grows = nat_lt (covered c.args.self.now.resend.reported) (covered (reported_by c.args.before c.args.self.now)) in
+    let after : c.loop-block.self ≡ told c.args.before.now c.args.self.now =
+    all_join c.args.self.now c.loop-block.self c.args.before.now c.as_slice-block-items.result.now c.loop-block.block-index c.as_slice-block-items.ensures.value c.loop-block-test.false c.loop-block.invariant in
+    let grows = nat_lt (covered c.args.self.now.resend.reported) (covered (reported_by c.args.before.now c.args.self.now)) in
     elim c.if-before.branch [
       | then-before w ↦ w.result-is
           ∙ ap₂ nat_lt (c.covered-known.ensures.value ∙ ap covered (c.reported.ensures ∙ ap (λ (v : View). v.resend.reported) c.self.view_is))
