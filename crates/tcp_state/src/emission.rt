@@ -149,6 +149,8 @@ impl Connection {
     }
 
     /// Whether it does since reports tell that it is missing, and the network takes a segment more (RFC 6675 section 5).
+    #[cold]
+    #[inline(never)]
     fn goes_by_reports(&self, place: u32) -> bool
         ensures { result ≡ goes_by_reports self.now place }
     {

@@ -132,6 +132,8 @@ impl Connection {
     }
 
     /// A block joins what was reported.
+    #[cold]
+    #[inline(never)]
     fn note_block(&mut self, block: Block)
         ensures { self.new ≡ record self.old { resend = record self.old.resend { reported = with_report self.old.resend.reported (outstanding self.old.sending) (place_of self.old.sending block) } } }
     {
