@@ -19,14 +19,14 @@ use Rattle.tcp_halves.specs.Stream.{outstanding, after_sent}
 use Rattle.tcp_state.specs.View.{View, is_opening, is_syn_received, is_closed}
 use Rattle.tcp_state.specs.Resend.{Resend, mark_past, resend_probed, resend_acknowledged, resend_first, resend_lost, resend_ends}
 use Rattle.tcp_state.specs.Timing.{KeepsTime, probes, retransmits, awaits_more, running, retransmission_timer, probe_timer, delayed_ack_timer, override_timer, interval_of, awaits_first, unheard_since, clocked, retransmission_expired, probe_expired, after_expiry, delayed_ack_expired, override_expired, after_timers, after_expiries}
-use Rattle.tcp_state.specs.Arrival.{after_heard, is_rejected, begins_wait, answers_probe, is_counted_duplicate, blocks_told, before, since_after, is_moved, resend_heard, resend_told, told, reports_more, resend_after, congestion_event_of, is_partial, acknowledged_signal, tells_loss, report_event, resend_signalled, congestion_after, timed_by, after_segment_at}
+use Rattle.tcp_state.specs.Arrival.{after_heard, is_rejected, begins_wait, answers_probe, is_counted_duplicate, blocks_told, before, since_after, is_moved, resend_heard, resend_told, told, reports_more, resend_after, congestion_event_of, is_partial, behind_ack, told_behind, whole_signal, acknowledged_signal, tells_loss, report_event, resend_counted, resend_signalled, congestion_after, timed_by, after_segment_at}
 use Rattle.tcp_state.specs.Due.{probe_stretch, end_of, after_syn_ack_paid, after_resent, after_first_sent, after_numbers, after_new_octets, after_new_text, brings_new_octets, after_syn_again, after_syn_out, after_stretch, after_probe, after_going_out, after_emitted}
 use Rattle.tcp_state.specs.Edges.{after_first}
 use Rattle.tcp_state.specs.Congestion.{Signal, after_signal}
-use Rattle.tcp_state.specs.Congestion.Signal.{Begins, Counts, Nothing}
+use Rattle.tcp_state.specs.Congestion.Signal.{Begins, Counts, Both, Nothing}
 use Rattle.congestion.specs.Control.{repairs, is_selective}
 use Rattle.congestion.specs.Window.{Window, third_is_next, is_recovering}
-use Rattle.congestion.specs.Events.{Event}
+use Rattle.congestion.specs.Events.{Event, after_event}
 use Rattle.congestion.specs.Events.Event.{NewAck, PartialAck, Duplicate, Loss}
 use Rattle.stream_buf.specs.Ranges.{covered}
 use Rattle.tcp_state.specs.Selective.{selects, with_blocks, loss_end}
@@ -213,49 +213,68 @@ heard_paced b w now P moved answered same =
     either Resend P (is_moved b w) (resend_acknowledged w.resend w.sending.una (is_opening b.state) now) _ (λ moves. moved)
     (λ stays. either Resend P b.answers_probe (record w.resend { expiries = 0 }) w.resend (λ answers. answered) (λ other. same))
 
--- what a segment is to the congestion window: nothing, the beginning, an ACK, a partial one, a duplicate one, or a report that counts
+-- what a segment is to the congestion window: nothing, the beginning, an ACK, a partial one, a duplicate one, a report that counts, or such a report behind an ACK
 pub signalled : (b : Before) (w : View) (P : Signal → Type 0) → P Nothing → P Begins → (is_moved b w ≡ true → is_opening b.state ≡ false → is_partial w ≡ false → P (Counts (NewAck (b.held - length w.sending.held) (outstanding w.sending))))
     → (is_moved b w ≡ true → is_opening b.state ≡ false → is_partial w ≡ true → P (Counts (PartialAck (b.held - length w.sending.held))))
-    → (is_moved b w ≡ false → b.is_duplicate ≡ true → P (Counts (Duplicate (outstanding w.sending)))) → (is_moved b w ≡ false → reports_more b w ≡ true → P (Counts (report_event (told b w)))) → P (congestion_event_of b w)
-signalled b w P nothing begins acks parts repeats tells =
-    let acked = acknowledged_signal w (b.held - length w.sending.held) in
+    → (is_moved b w ≡ false → b.is_duplicate ≡ true → P (Counts (Duplicate (outstanding w.sending)))) → (is_moved b w ≡ false → reports_more b w ≡ true → P (Counts (report_event (told b w))))
+    → (is_moved b w ≡ true → is_opening b.state ≡ false → reports_more b w ≡ true → (let n = b.held - length w.sending.held in P (Both (NewAck n (outstanding w.sending)) (report_event (behind_ack (told b w) n))))) → P (congestion_event_of b w)
+signalled b w P nothing begins acks parts repeats tells both_count =
+    let n = b.held - length w.sending.held in
+    let acked = acknowledged_signal (told b w) n (reports_more b w) in
     either Signal P (is_closed w.state) Nothing _ (λ closed. nothing)
     (λ lives. either Signal P (is_moved b w) (if is_opening b.state then Begins else acked) _
     (λ moves. either Signal P (is_opening b.state) Begins acked (λ opens. begins)
-    (λ opened. either Signal P (is_partial w) _ (Counts (NewAck (b.held - length w.sending.held) (outstanding w.sending)))
-    (λ goes. either Signal P (selects w) Nothing (Counts (PartialAck (b.held - length w.sending.held))) (λ rules. nothing) (λ none. parts moves opened goes)) (acks moves opened)))
+    (λ opened. either Signal P (is_partial w) _ (whole_signal (told b w) n (reports_more b w))
+    (λ goes. either Signal P (selects w) Nothing (Counts (PartialAck n)) (λ rules. nothing) (λ none. parts moves opened goes))
+    (λ whole. either Signal P (reports_more b w) (Both (NewAck n (outstanding w.sending)) (report_event (behind_ack (told b w) n))) (Counts (NewAck n (outstanding w.sending))) (both_count moves opened) (λ alone. acks moves opened whole))))
     (λ stays. either Signal P b.is_duplicate (Counts (Duplicate (outstanding w.sending))) _ (λ same. repeats stays same)
     (λ other. either Signal P (reports_more b w) (Counts (report_event (told b w))) Nothing (λ more. tells stays more) (λ none. nothing))))
 
+-- a report finds the window behind the ACK that it comes with, if it does
+pub told_moved : (b : Before) (w : View) → is_moved b w ≡ true → told_behind b w ≡ behind_ack (told b w) (b.held - length w.sending.held)
+told_moved b w moves = ap (λ t. if t then behind_ack (told b w) (b.held - length w.sending.held) else told b w) moves
+
+pub told_still : (b : Before) (w : View) → is_moved b w ≡ false → told_behind b w ≡ told b w
+told_still b w stays = ap (λ t. if t then behind_ack (told b w) (b.held - length w.sending.held) else told b w) stays
+
 -- the third duplicate ACK, or a report that tells a loss
 abbrev pub LosesBy : Before → View → Type 0
-LosesBy b w = ((b.is_duplicate ≡ true) × (third_is_next w.congestion ≡ true)) ⊎ ((reports_more b w ≡ true) × (tells_loss (told b w) ≡ true))
+LosesBy b w = ((is_moved b w ≡ false) × (b.is_duplicate ≡ true) × (third_is_next w.congestion ≡ true)) ⊎ ((reports_more b w ≡ true) × (tells_loss (told_behind b w) ≡ true))
 
 -- what it makes of the retransmission state: the segment at SND.UNA goes out again as lost or as the next of a recovery, or doesn't; and a recovery that reports rule ends
 pub by_signal : (b : Before) (w : View) (p : Resend) (P : Resend → Type 0) → P p → (is_moved b w ≡ true → is_opening b.state ≡ false → P (resend_ends p)) → (is_moved b w ≡ true → is_opening b.state ≡ false → is_partial w ≡ true → P (resend_first p (outstanding w.sending)))
-    → ((r : Bool) → is_moved b w ≡ false → LosesBy b w → P (resend_lost p r (outstanding w.sending))) → P (resend_signalled p (congestion_event_of b w) w.congestion (outstanding w.sending))
+    → ((r : Bool) → LosesBy b w → P (resend_lost p r (outstanding w.sending))) → P (resend_signalled p (congestion_event_of b w) w.congestion (outstanding w.sending))
 by_signal b w p P same ends next lost =
     signalled b w (λ g. P (resend_signalled p g w.congestion (outstanding w.sending))) same same
     (λ moves opened whole. either Resend P (is_selective w.congestion.control && is_recovering w.congestion) (resend_ends p) p (λ rules. ends moves opened) (λ other. same)) next
-    (λ stays twice. either Resend P (third_is_next w.congestion) (resend_lost p (repairs w.congestion.control) (outstanding w.sending)) p (λ third. lost (repairs w.congestion.control) stays (inl (twice, third))) (λ other. same))
+    (λ stays twice. either Resend P (third_is_next w.congestion) (resend_lost p (repairs w.congestion.control) (outstanding w.sending)) p (λ third. lost (repairs w.congestion.control) (inl (stays, twice, third))) (λ other. same))
     (λ stays more. either Event (λ e. P (resend_signalled p (Counts e) w.congestion (outstanding w.sending))) (tells_loss (told b w)) (Loss (outstanding w.sending)) (Duplicate (outstanding w.sending))
-    (λ loss. lost true stays (inr (more, loss)))
+    (λ loss. lost true (inr (more, ap tells_loss (told_still b w stays) ∙ loss)))
     (λ early. either Resend P (third_is_next w.congestion) (resend_lost p (repairs w.congestion.control) (outstanding w.sending)) p (λ third. clash (tells_loss (told b w)) (or_left (third_is_next w.congestion) (nat_lt 0 (loss_end (told b w))) third) early) (λ other. same)))
+    (λ moves opened more.
+    let ack = NewAck (b.held - length w.sending.held) (outstanding w.sending) in
+    let rules = is_selective w.congestion.control && is_recovering w.congestion in
+    let acked = behind_ack (told b w) (b.held - length w.sending.held) in
+    either Event (λ e. P (resend_counted (if rules then resend_ends p else p) e (after_event w.congestion ack) (outstanding w.sending))) (tells_loss acked) (Loss (outstanding w.sending)) (Duplicate (outstanding w.sending))
+    (λ loss. let lost_so : P (resend_lost p true (outstanding w.sending)) = lost true (inr (more, ap tells_loss (told_moved b w moves) ∙ loss)) in
+    either Resend (λ q. P (resend_lost q true (outstanding w.sending))) rules (resend_ends p) p (λ ended. lost_so) (λ other. lost_so))
+    (λ early. either Resend P rules (resend_ends p) p (λ ended. ends moves opened) (λ other. same)))
 
 -- what holds of the retransmission state that is left with the clock
 pub after_paced : (b : Before) (w : View) (now : Moment) (P : Resend → Type 0) → P (resend_told b w now) → P (resend_ends (resend_told b w now)) → ((r : Bool) → P (resend_lost (resend_told b w now) r (outstanding w.sending)))
     → P (resend_first (resend_told b w now) (outstanding w.sending)) → P (resend_after b w now)
-after_paced b w now P same ends lost next = by_signal b w (resend_told b w now) P same (λ moves opened. ends) (λ moves opened goes. next) (λ r stays why. lost r)
+after_paced b w now P same ends lost next = by_signal b w (resend_told b w now) P same (λ moves opened. ends) (λ moves opened goes. next) (λ r why. lost r)
 
--- the end of a recovery stays at its number where SND.UNA moves
-pub recover_kept : (b : Before) (w : View) (now : Moment) → is_moved b w ≡ true → (resend_after b w now).recover ≡ w.resend.recover
-recover_kept b w now moves =
+-- the end of a recovery stays at its number where SND.UNA moves, and no report counts
+pub recover_kept : (b : Before) (w : View) (now : Moment) → is_moved b w ≡ true → reports_more b w ≡ false → (resend_after b w now).recover ≡ w.resend.recover
+recover_kept b w now moves quiet =
     let P : Resend → Type 0 = λ p. p.recover ≡ w.resend.recover in
     let heard = heard_paced b w now P refl refl refl in
-    by_signal b w (resend_told b w now) P heard (λ still_moves opened. heard) (λ still_moves opened goes. heard) (λ r stays why. clash (is_moved b w) moves stays)
+    by_signal b w (resend_told b w now) P heard (λ still_moves opened. heard) (λ still_moves opened goes. heard)
+    (λ r why. elim why [ inl twice ↦ clash (is_moved b w) moves twice.0 | inr tells ↦ clash (reports_more b w) tells.0 quiet ])
 
 -- what is reported once more, or nothing, is as it was
-reports_none : (b : Before) (w : View) → b.blocks ≡ [] → reports_more b w ≡ false
+pub reports_none : (b : Before) (w : View) → b.blocks ≡ [] → reports_more b w ≡ false
 reports_none b w silent = ap (λ bs. b.counts_reports && nat_lt (covered w.resend.reported) (covered (with_blocks w.resend.reported w.sending bs))) silent ∙ ap (λ t. b.counts_reports && t) (le-ltb (covered w.resend.reported) (covered w.resend.reported) (omega arith)) ∙ and_false b.counts_reports
 
 told_none : (b : Before) (w : View) (now : Moment) → b.blocks ≡ [] → resend_told b w now ≡ resend_heard b w now
@@ -267,7 +286,7 @@ told_none b w now silent =
 pub event_none : (b : Before) (w : View) → is_moved b w ≡ false → b.is_duplicate ≡ false → b.blocks ≡ [] → congestion_event_of b w ≡ Nothing
 event_none b w same first silent =
     either Signal (λ e. e ≡ Nothing) (is_closed w.state) Nothing _ (λ closed. refl)
-    (λ lives. ap (λ t. if t then (if is_opening b.state then Begins else acknowledged_signal w (b.held - length w.sending.held)) else if b.is_duplicate then Counts (Duplicate (outstanding w.sending)) else if reports_more b w then Counts (report_event (told b w)) else Nothing) same
+    (λ lives. ap (λ t. if t then (if is_opening b.state then Begins else acknowledged_signal (told b w) (b.held - length w.sending.held) (reports_more b w)) else if b.is_duplicate then Counts (Duplicate (outstanding w.sending)) else if reports_more b w then Counts (report_event (told b w)) else Nothing) same
     ∙ ap (λ t. if t then Counts (Duplicate (outstanding w.sending)) else if reports_more b w then Counts (report_event (told b w)) else Nothing) first
     ∙ ap (λ t. if t then Counts (report_event (told b w)) else Nothing) (reports_none b w silent))
 
@@ -282,8 +301,8 @@ resend_unlost b w now none first silent =
       | inr opening ↦ clash (is_opening b.state) opening opened
     ] in
     by_signal b w (resend_told b w now) (λ p. p ≡ resend_told b w now) refl (λ moves opened. acts_not _ moves opened) (λ moves opened goes. acts_not _ moves opened)
-    (λ r stays why. elim why [
-      | inl twice ↦ clash b.is_duplicate twice.0 first
+    (λ r why. elim why [
+      | inl twice ↦ clash b.is_duplicate twice.1 first
       | inr more ↦ clash (reports_more b w) more.0 (reports_none b w silent)
     ])
     ∙ told_none b w now silent
@@ -343,4 +362,4 @@ pub unmarked_after : (b : Before) (w : View) (now : Moment) → w.resend.mark �
 unmarked_after b w now none idle =
     let gone : mark_past 0 (outstanding w.sending) ≡ None = ap (mark_past 0) idle in
     let P : Resend → Type 0 = λ p. p.mark ≡ None in
-    by_signal b w (resend_told b w now) P (heard_paced b w now P none none none) (λ moves opened. refl) (λ moves opened goes. gone) (λ r stays why. gone)
+    by_signal b w (resend_told b w now) P (heard_paced b w now P none none none) (λ moves opened. refl) (λ moves opened goes. gone) (λ r why. gone)

@@ -1,4 +1,4 @@
--- Why each event of a connection moves its congestion window as one event of that window, or leaves it.
+-- Why each event of a connection moves its congestion window as one event of that window, or two, or leaves it.
 use Rattle.std.proofs.Common.{◌≡◌, ℕ, ◌+◌, ◌-◌, ◌^◌, ◌<◌, ◌≤◌, ◌==◌, ◌&&◌, ◌||◌, not, nat_lt, nat_le, if◌then◌else◌, Bool, true, false, length, take, Option, Some, None, is_some, inl, inr, arith, refl, sym, ◌∙◌, ap, subst}
 use Rattle.std.proofs.lemmas.Bool.{leb-true, ltb-true}
 use Rattle.std.proofs.lemmas.Bool.Decides.{eqb_tells}
@@ -9,9 +9,9 @@ use Rattle.clock.specs.declared.moment.Moment.{Moment}
 use Rattle.clock.specs.Moments.{has_come}
 use Rattle.retransmit.specs.Deadlines.{next_of}
 use Rattle.congestion.specs.Control.{repairs}
-use Rattle.congestion.specs.Window.{Window, is_recovering, goes_on, most_growth}
-use Rattle.congestion.specs.Events.{Event as WindowEvent}
-use Rattle.congestion.specs.Events.Event.{Expiry, Duplicate, Loss}
+use Rattle.congestion.specs.Window.{Window, is_recovering, goes_on, most_growth, after_new_ack}
+use Rattle.congestion.specs.Events.{Event as WindowEvent, after_event as after_window_event}
+use Rattle.congestion.specs.Events.Event.{NewAck, Expiry, Duplicate, Loss}
 use Rattle.tcp_state.specs.declared.arrival.Before.{Before}
 use Rattle.tcp_state.specs.declared.calls.Refusal.TheVariants.{ECONNREFUSED, ETIMEDOUT}
 use Rattle.tcp_state.specs.declared.emission.Due.{Due}
@@ -23,11 +23,11 @@ use Rattle.tcp_halves.specs.Stream.{outstanding, is_new_ack}
 use Rattle.tcp_halves.specs.Windows.{updates_window}
 use Rattle.tcp_state.specs.View.{View, IsSound, is_opening, is_syn_sent, is_syn_received, is_closed, is_write_closed, is_at_end, after_stop, after_reset, opened_actively}
 use Rattle.tcp_state.specs.Congestion.{Signal, after_signal, KeepsCongestion}
-use Rattle.tcp_state.specs.Congestion.Signal.{Begins, Counts, Nothing}
+use Rattle.tcp_state.specs.Congestion.Signal.{Begins, Counts, Both, Nothing}
 use Rattle.tcp_state.specs.Timing.{clocked, gives_up, retransmission_expired, probe_expired, after_expiry, after_timers, after_tick}
 use Rattle.tcp_state.specs.Alive.{alive_after, after_silence}
 use Rattle.tcp_state.specs.Calls.{send_count, beyond_shutdown, shutdown_refusal, after_shutdown, aborted_at, after_release, is_removed_by_close, is_aborted_by_close}
-use Rattle.tcp_state.specs.Arrival.{opened_passively, is_receiving, beyond_fin, after_ack, after_window, after_text, after_fin, after_heard, is_rejected, before, is_moved, resend_heard, resend_after, congestion_event_of, acknowledged_signal, is_partial, reports_more, told, tells_loss, report_event, congestion_after, timed_by, after_segment_at}
+use Rattle.tcp_state.specs.Arrival.{opened_passively, is_receiving, beyond_fin, after_ack, after_window, after_text, after_fin, after_heard, is_rejected, before, is_moved, resend_heard, resend_after, congestion_event_of, whole_signal, acknowledged_signal, is_partial, reports_more, told, behind_ack, tells_loss, report_event, congestion_after, timed_by, after_segment_at}
 use Rattle.tcp_state.specs.Due.{after_syn_ack_paid, after_syn_out, after_going_out, first_due}
 use Rattle.tcp_state.specs.Unreachable.{is_unreachable}
 use Rattle.tcp_state.specs.Hop.{unheard_until}
@@ -171,6 +171,11 @@ signal_sound b w size sound =
     signalled b w (λ g. IsWindow (after_signal w.congestion g w.sending.smss w.resend.syn_resent)) sound (first_sound w.congestion.control w.sending.smss w.resend.syn_resent size)
     (λ moves opened whole. new_ack_sound w.congestion (b.held - length w.sending.held) (outstanding w.sending) sound) (λ moves opened goes. partial_ack_sound w.congestion (b.held - length w.sending.held) sound) (λ stays twice. duplicate_sound w.congestion (outstanding w.sending) (few w) sound)
     (λ stays more. either WindowEvent (λ e. IsWindow (after_signal w.congestion (Counts e) w.sending.smss w.resend.syn_resent)) (tells_loss (told b w)) (Loss (outstanding w.sending)) (Duplicate (outstanding w.sending)) (λ loss. loss_sound w.congestion (outstanding w.sending) (few w) sound) (λ early. duplicate_sound w.congestion (outstanding w.sending) (few w) sound))
+    (λ moves opened more.
+    let n = b.held - length w.sending.held in
+    let acked = after_new_ack w.congestion n (outstanding w.sending) in
+    let acked_sound : IsWindow acked = new_ack_sound w.congestion n (outstanding w.sending) sound in
+    either WindowEvent (λ e. IsWindow (after_window_event acked e)) (tells_loss (behind_ack (told b w) n)) (Loss (outstanding w.sending)) (Duplicate (outstanding w.sending)) (λ loss. loss_sound acked (outstanding w.sending) (few w) acked_sound) (λ early. duplicate_sound acked (outstanding w.sending) (few w) acked_sound))
 
 -- it counts in segments of the peer's size, once it has begun
 signal_segment : (v : View) (s : Segment) → v.sending.una < 2 ^ 32 → is_closed v.state ≡ false → KeepsCongestion v
@@ -186,8 +191,8 @@ signal_segment v s fits lives keeps begun =
     by (is_opening v.state ≡ false) (is_opening v.state) (λ opening. clash (is_moved b w) (ap not (k.opens fits opening begun)) still) (λ opened. opened) in
     either Signal P (is_closed w.state) Nothing _ (λ closed. clash (is_idle w.state) (or_right (is_opening w.state) (is_closed w.state) closed) begun)
     (λ on. either Signal P (is_moved b w) _ _
-    (λ moved. either Signal P (is_opening b.state) Begins (acknowledged_signal w (b.held - length w.sending.held)) (λ opens. refl)
-    (λ opened. either Signal P (is_partial w) _ _ (λ goes. either Signal P (selects w) Nothing _ (λ rules. kept opened) (λ none. kept opened)) (λ whole. kept opened)))
+    (λ moved. either Signal P (is_opening b.state) Begins (acknowledged_signal (told b w) (b.held - length w.sending.held) (reports_more b w)) (λ opens. refl)
+    (λ opened. either Signal P (is_partial w) _ _ (λ goes. either Signal P (selects w) Nothing _ (λ rules. kept opened) (λ none. kept opened)) (λ whole. whole_kept b w (kept opened))))
     (λ still. let twice_kept : P (Counts (Duplicate (outstanding w.sending))) = duplicate_segment w.congestion (outstanding w.sending) ∙ kept (still_open still) in
     either Signal P b.is_duplicate (Counts (Duplicate (outstanding w.sending))) _
     (λ twice. twice_kept) (λ other. either Signal P (reports_more b w) (Counts (report_event (told b w))) Nothing
@@ -197,9 +202,19 @@ signal_segment v s fits lives keeps begun =
     neither true b e f = cc
     neither false b e f = f
 
+    whole_kept : (b : Before) (w : View) → w.congestion.smss ≡ w.sending.smss → (let c = after_signal w.congestion (whole_signal (told b w) (b.held - length w.sending.held) (reports_more b w)) w.sending.smss w.resend.syn_resent in c.smss) ≡ w.sending.smss
+    whole_kept b w kept =
+        let n = b.held - length w.sending.held in
+        let ack = NewAck n (outstanding w.sending) in
+        let P : Signal → Type 0 = λ g. (let c = after_signal w.congestion g w.sending.smss w.resend.syn_resent in c.smss) ≡ w.sending.smss in
+        either Signal P (reports_more b w) (Both ack (report_event (behind_ack (told b w) n))) (Counts ack)
+        (λ more. either WindowEvent (λ e. P (Both ack e)) (tells_loss (behind_ack (told b w) n)) (Loss (outstanding w.sending)) (Duplicate (outstanding w.sending)) (λ loss. kept)
+        (λ early. duplicate_segment (after_new_ack w.congestion n (outstanding w.sending)) (outstanding w.sending) ∙ kept))
+        (λ alone. kept)
+
 -- Every event.
 
--- an event of a connection is this one of its window, and the window is kept
+-- an event of a connection is this to its window, and the window is kept
 record Moves (v : View) (signal : Signal) (w : View) : Type 0 where
   pub window : w.congestion ≡ after_signal v.congestion signal w.sending.smss w.resend.syn_resent
   pub keeps : IsSound v → KeepsCongestion v → KeepsCongestion w
@@ -354,10 +369,14 @@ signal_adds b w c same sound opened runs =
     let none : P Nothing = λ ends. omega arith in
     either Signal P (is_closed w.state) Nothing _ (λ closed. none)
     (λ lives. either Signal P (is_moved b w) _ _
-    (λ moved. either Signal P (is_opening b.state) Begins (acknowledged_signal w (b.held - length w.sending.held)) (λ opens. clash (is_opening b.state) opens opened)
+    (λ moved. either Signal P (is_opening b.state) Begins (acknowledged_signal (told b w) (b.held - length w.sending.held) (reports_more b w)) (λ opens. clash (is_opening b.state) opens opened)
     (λ past_opening. either Signal P (is_partial w) _ _
     (λ goes. clash (is_recovering c) (ap is_recovering (sym same) ∙ and_right (repairs w.congestion.control) (is_recovering w.congestion) (and_left (goes_on w.congestion) (nat_lt 0 w.resend.recover) goes)) runs)
-    (λ whole ends. new_ack_adds c (b.held - length w.sending.held) (outstanding w.sending) sound runs)))
+    (λ whole. let n = b.held - length w.sending.held in
+    let ack = NewAck n (outstanding w.sending) in
+    let acked : (after_new_ack c n (outstanding w.sending)).cwnd ≤ c.cwnd + most_growth c = new_ack_adds c n (outstanding w.sending) sound runs in
+    either Signal P (reports_more b w) (Both ack (report_event (behind_ack (told b w) n))) (Counts ack)
+    (λ more. either WindowEvent (λ e. P (Both ack e)) (tells_loss (behind_ack (told b w) n)) (Loss (outstanding w.sending)) (Duplicate (outstanding w.sending)) (λ loss ends. cc) (λ early ends. acked)) (λ alone ends. acked))))
     (λ unmoved. let twice_adds : P (Counts (Duplicate (outstanding w.sending))) = λ ends. duplicate_adds c (outstanding w.sending) sound runs ends in
     either Signal P b.is_duplicate (Counts (Duplicate (outstanding w.sending))) _ (λ twice. twice_adds)
     (λ other. either Signal P (reports_more b w) (Counts (report_event (told b w))) Nothing

@@ -7,7 +7,7 @@ use Rattle.tcp_segment.specs.Segment.{Segment}
 use Rattle.tcp_segment.specs.Wire.{past}
 use Rattle.clock.specs.declared.moment.Moment.{Moment}
 use Rattle.congestion.specs.Window.{third_is_next, goes_on}
-use Rattle.congestion.specs.Events.Event.{Duplicate, Loss}
+use Rattle.congestion.specs.Events.Event.{NewAck, Duplicate, Loss}
 use Rattle.tcp_state.specs.declared.arrival.Before.{Before}
 use Rattle.tcp_state.specs.declared.emission.Due.TheVariants.{Rst, Syn, Text}
 use Rattle.tcp_state.specs.declared.emission.Stretch.{Stretch}
@@ -20,15 +20,15 @@ use Rattle.tcp_halves.specs.Windows.{window_in, updates_window}
 use Rattle.tcp_state.specs.Resend.{Resend, stopped, is_alone, mark_past, mark_left, resend_lost, resend_ends}
 use Rattle.tcp_state.specs.View.{View, IsSound, is_opening, is_syn_sent, is_syn_received, is_closed}
 use Rattle.tcp_state.specs.Congestion.{Signal}
-use Rattle.tcp_state.specs.Congestion.Signal.{Begins, Counts, Nothing}
+use Rattle.tcp_state.specs.Congestion.Signal.{Begins, Counts, Both, Nothing}
 use Rattle.stream_buf.specs.Ranges.{AreApart}
 use Rattle.tcp_state.specs.Selective.{with_blocks, repairs_gaps, loss_end}
 use Rattle.tcp_state.proofs.Places.{at_una_goes}
 use Rattle.tcp_state.proofs.Selects.{silent_unselected, counted_selects_none, ends_none}
-use Rattle.tcp_state.specs.Arrival.{owing_ack, after_establishment, is_receiving, beyond_fin, is_of_fin, fin_acknowledged, after_new_ack, after_ack, is_read, after_window, after_text, counts_fin, after_fin, is_lost, after_lost, after_segment, after_heard, octets_outstanding, is_duplicate, before, is_moved, resend_after, congestion_event_of, resend_told, reports_more, told, tells_loss, report_event, reports_loss, timed_by, after_segment_at, acknowledged_signal, counts_duplicates, is_counted_duplicate, resend_signalled}
+use Rattle.tcp_state.specs.Arrival.{owing_ack, after_establishment, is_receiving, beyond_fin, is_of_fin, fin_acknowledged, after_new_ack, after_ack, is_read, after_window, after_text, counts_fin, after_fin, is_lost, after_lost, after_segment, after_heard, octets_outstanding, is_duplicate, before, is_moved, resend_after, congestion_event_of, resend_told, reports_more, told, told_behind, behind_ack, tells_loss, report_event, reports_loss, timed_by, after_segment_at, acknowledged_signal, counts_duplicates, is_counted_duplicate, resend_signalled}
 use Rattle.tcp_state.specs.Due.{end_of, after_resent, after_first_sent, after_numbers, after_new_text, brings_new_octets, after_emitted, ack_due, again, again_from, new_due, first_due}
-use Rattle.tcp_state.proofs.Clocked.{comes_to, unmoved, heard_paced, signalled}
-use Rattle.tcp_halves.proofs.Choices.{either, clash, and_left, and_right, and_false, both, not_true, unowed}
+use Rattle.tcp_state.proofs.Clocked.{comes_to, unmoved, heard_paced, signalled, told_moved, told_still}
+use Rattle.tcp_halves.proofs.Choices.{either, clash, and_left, and_right, and_false, not_true, unowed}
 use Rattle.tcp_state.proofs.Segments.{IsRead, by_fin, by_ack, by_hearing, by_clock, read_tells, reads, not_rejected}
 use Rattle.tcp_state.proofs.Congestion.{window_kept}
 
@@ -120,11 +120,11 @@ loses v s now lives is third =
     let b = before v s in
     let w = after_window v s in
     let other : Signal = if reports_more b w then Counts (report_event (told b w)) else Nothing in
-    let signal : Signal = if is_moved b w then (if is_opening b.state then Begins else acknowledged_signal w (b.held - length w.sending.held)) else if b.is_duplicate then Counts (Duplicate (outstanding w.sending)) else other in
+    let signal : Signal = if is_moved b w then (if is_opening b.state then Begins else acknowledged_signal (told b w) (b.held - length w.sending.held) (reports_more b w)) else if b.is_duplicate then Counts (Duplicate (outstanding w.sending)) else other in
     let still : is_moved b w ≡ false = ap (λ n. not (v.sending.una == n)) (numbers_stay v s).0 ∙ unmoved v in
     let event : congestion_event_of b w ≡ Counts (Duplicate (outstanding w.sending)) =
     ap (λ t. if t then Nothing else signal) lives
-    ∙ ap (λ t. if t then (if is_opening b.state then Begins else acknowledged_signal w (b.held - length w.sending.held)) else if b.is_duplicate then Counts (Duplicate (outstanding w.sending)) else other) still
+    ∙ ap (λ t. if t then (if is_opening b.state then Begins else acknowledged_signal (told b w) (b.held - length w.sending.held) (reports_more b w)) else if b.is_duplicate then Counts (Duplicate (outstanding w.sending)) else other) still
     ∙ ap (λ t. if t then Counts (Duplicate (outstanding w.sending)) else other) is in
     let resend = resend_told b w now in
     ap (λ g. resend_signalled resend g w.congestion (outstanding w.sending)) event ∙ ap (λ t. if t then resend_lost resend (repairs w.congestion.control) (outstanding w.sending) else resend) third
@@ -184,7 +184,7 @@ heard_marks_none v s opened none =
     })
 
 -- a third duplicate ACK, and where a recovery goes on a partial one, put a segment out again, and nothing else
-pub others_unlost : (b : Before) (w : View) (now : Moment) → goes_on w.congestion ≡ false → (b.is_duplicate && third_is_next w.congestion) ≡ false → ((not (is_moved b w) && reports_more b w) && tells_loss (told b w)) ≡ false
+pub others_unlost : (b : Before) (w : View) (now : Moment) → goes_on w.congestion ≡ false → (b.is_duplicate && third_is_next w.congestion) ≡ false → (reports_more b w && tells_loss (told_behind b w)) ≡ false
     → resend_after b w now ≡ resend_told b w now
 others_unlost b w now stands other unreported =
     let resend = resend_told b w now in
@@ -193,9 +193,14 @@ others_unlost b w now stands other unreported =
     (λ moves opened goes. clash (goes_on w.congestion) (and_left (goes_on w.congestion) (nat_lt 0 w.resend.recover) goes) stands)
     (λ stays twice. ap (λ t. if t then resend_lost resend (repairs w.congestion.control) (outstanding w.sending) else resend) (second_false b.is_duplicate (third_is_next w.congestion) twice other))
     (λ stays more.
-    let early : tells_loss (told b w) ≡ false = second_false (not (is_moved b w) && reports_more b w) (tells_loss (told b w)) (both (not (is_moved b w)) (reports_more b w) (ap not stays) more) unreported in
+    let early : tells_loss (told b w) ≡ false = ap tells_loss (sym (told_still b w stays)) ∙ second_false (reports_more b w) (tells_loss (told_behind b w)) more unreported in
     ap (λ t. resend_signalled resend (Counts (if t then Loss (outstanding w.sending) else Duplicate (outstanding w.sending))) w.congestion (outstanding w.sending)) early
     ∙ ap (λ t. if t then resend_lost resend (repairs w.congestion.control) (outstanding w.sending) else resend) (first_false (third_is_next w.congestion) (nat_lt 0 (loss_end (told b w))) early))
+    (λ moves opened more.
+    let n = b.held - length w.sending.held in
+    let early : tells_loss (behind_ack (told b w) n) ≡ false = ap tells_loss (sym (told_moved b w moves)) ∙ second_false (reports_more b w) (tells_loss (told_behind b w)) more unreported in
+    ap (λ t. resend_signalled resend (Both (NewAck n (outstanding w.sending)) (if t then Loss (outstanding w.sending) else Duplicate (outstanding w.sending))) w.congestion (outstanding w.sending)) early
+    ∙ ap (λ t. if t then resend_ends resend else resend) (ends_none w.congestion stands))
   where
     first_false : (x y : Bool) → (x || y) ≡ false → x ≡ false
     first_false true y e = cc

@@ -10,7 +10,7 @@ use Rattle.clock.specs.Moments.{has_come}
 use Rattle.retransmit.specs.Deadlines.{next_of}
 use Rattle.congestion.specs.Control.{repairs}
 use Rattle.congestion.specs.Window.{Window, is_recovering, goes_on, third_is_next, after_duplicate}
-use Rattle.congestion.specs.Events.Event.{NewAck, PartialAck, Duplicate}
+use Rattle.congestion.specs.Events.Event.{PartialAck, Duplicate}
 use Rattle.tcp_state.specs.declared.calls.Refusal.TheVariants.{ETIMEDOUT}
 use Rattle.tcp_state.specs.declared.emission.Due.{Due}
 use Rattle.tcp_state.specs.declared.emission.Due.TheVariants.{Rst, Syn, Text, Probe, Ack, KeepAlive}
@@ -26,7 +26,7 @@ use Rattle.tcp_state.specs.Alive.{alive_after, after_silence}
 use Rattle.tcp_state.specs.Timing.{probes, clocked, retransmission_expired, probe_expired, after_timers, after_expiries}
 use Rattle.tcp_state.specs.Congestion.{Signal, after_signal}
 use Rattle.tcp_state.specs.Congestion.Signal.{Begins, Counts, Nothing}
-use Rattle.tcp_state.specs.Arrival.{owing_ack, is_receiving, is_of_fin, beyond_fin, beyond_end, after_new_ack, after_ack, after_window, after_text, after_heard, is_rejected, is_duplicate, counts_duplicates, is_counted_duplicate, before, is_moved, resend_heard, resend_told, told, reports_more, tells_loss, report_event, is_report, reports_loss, acknowledged_signal, congestion_event_of, resend_signalled, resend_after, timed_by, after_segment_at}
+use Rattle.tcp_state.specs.Arrival.{owing_ack, is_receiving, is_of_fin, beyond_fin, beyond_end, after_new_ack, after_ack, after_window, after_text, after_heard, is_rejected, is_duplicate, counts_duplicates, is_counted_duplicate, before, is_moved, resend_heard, resend_told, told, told_behind, whole_signal, reports_more, tells_loss, report_event, is_report, reports_loss, acknowledged_signal, congestion_event_of, resend_signalled, resend_after, timed_by, after_segment_at}
 use Rattle.tcp_state.specs.Counted.{IsDuplicate}
 use Rattle.tcp_state.specs.Due.{ack_due, again, again_from, new_due, first_due, probe_stretch, end_of, after_resent, after_first_sent, after_numbers, after_new_octets, after_new_text, brings_new_octets, after_syn_ack_paid, after_syn_out, after_emitted}
 use Rattle.tcp_state.specs.Edges.{Event, Hears, Ticks, Emits, after_first, after_event}
@@ -43,7 +43,7 @@ use Rattle.tcp_state.proofs.Duplicates.{window_stays, repeats, comes_alone, una_
 use Rattle.tcp_state.proofs.Events.{by_event}
 use Rattle.tcp_state.proofs.Losses.{past_opening}
 use Rattle.tcp_state.proofs.Segments.{by_fin, by_ack, by_hearing, by_clock}
-use Rattle.tcp_state.proofs.Signals.{duplicates_are, heard_is, heard_selects, moved_hears, is_moved_by, counts_partly, counts_no_part, counts_duplicate, goes_on as ticks_on, others_count_none}
+use Rattle.tcp_state.proofs.Signals.{duplicates_are, quiet_on, heard_is, heard_selects, moved_hears, is_moved_by, counts_partly, counts_no_part, counts_duplicate, goes_on as ticks_on, others_count_none}
 use Rattle.tcp_state.proofs.StillStreams.{emissions_leave}
 
 -- Its end keeps its number.
@@ -122,13 +122,13 @@ timed_left v s now sound =
     let heard : (resend_heard b x now).recover ≡ x.resend.recover = heard_paced b x now (λ p. p.recover ≡ x.resend.recover) refl refl refl in
     let same : G (resend_told b x now) = inl (heard ∙ (heard_left v s sound).0) in
     by_signal b x (resend_told b x now) G same (λ moves opened. same) (λ moves opened goes. same)
-    (λ r stays why. inr (inl (
+    (λ r why. inr (inl (
       s,
       now,
       refl,
       elim why [
-        | inl twice ↦ inl (twice.0, ap third_is_next (sym (window_kept v s)) ∙ twice.1)
-        | inr more ↦ inr (both (not (is_moved b x) && reports_more b x) (tells_loss (told b x)) (both (not (is_moved b x)) (reports_more b x) (ap not stays) more.0) more.1)
+        | inl twice ↦ inl (twice.1, ap third_is_next (sym (window_kept v s)) ∙ twice.2)
+        | inr more ↦ inr (both (reports_more b x) (tells_loss (told_behind b x)) more.0 more.1)
       ],
     )))
 
@@ -286,7 +286,8 @@ none_below v s now on runs some =
     (λ lives. signalled b x (λ g. is_recovering (after_signal x.congestion g x.sending.smss x.resend.syn_resent) ≡ false) kept refl (λ moves opened whole. refl)
     (λ moves opened goes. clash (is_recovering x.congestion) (and_right (repairs x.congestion.control) (is_recovering x.congestion) (and_left (goes_on x.congestion) (nat_lt 0 x.resend.recover) goes)) kept)
     (λ stays twice. clash (counts_duplicates v) (and_right (is_duplicate v s) (counts_duplicates v) twice) uncounted)
-    (λ stays reports. clash (v.resend.recover == 0) (more_counts v s x reports).all more))
+    (λ stays reports. clash (v.resend.recover == 0) (more_counts v s x reports).all more)
+    (λ moves opened reports. clash (v.resend.recover == 0) (more_counts v s x reports).all more))
 
 pub none_by_probes : (v : View) (s : Segment) (now : Moment) → IsSound v → repairs v.congestion.control ≡ true → probes v ≡ true → IsDuplicate v s → (after_segment_at v s now).congestion ≡ v.congestion
 none_by_probes v s now sound on asks twice =
@@ -325,11 +326,11 @@ noted_at_third v s now sound on is third =
 
 -- A partial ACK.
 
--- past the opening, a reset is owed as before, and SND.UNA is a number of 32 bits
-record Goes (v w : View) : Type 0 where
-  reset : w.owes_reset ≡ v.owes_reset
-  opened : is_opening w.state ≡ false
-  una : w.sending.una < 2 ^ 32
+-- past the opening, a reset is owed as before, and SND.UNA is a number of 32 bits where this one is
+pub record Goes (v : View) (ack : ℕ) (w : View) : Type 0 where
+  pub reset : w.owes_reset ≡ v.owes_reset
+  pub opened : is_opening w.state ≡ false
+  pub una : ack < 2 ^ 32 → w.sending.una < 2 ^ 32
 
 beyond_opened : (t : State) → is_opening t ≡ false → is_opening (beyond_fin t) ≡ false
 beyond_opened SynSent e = cc
@@ -348,24 +349,25 @@ ended_opened FinWait2 e = refl
 ended_opened _ e = e
 
 -- what a segment that closes nothing leaves of a connection past the opening
-goes_after : (v : View) (s : Segment) → IsSound v → is_opening v.state ≡ false → s.acknowledgement < 2 ^ 32 → is_closed (after_heard v s).state ≡ false → Goes v (after_heard v s)
-goes_after v s sound opened fits =
-    let P : View → Type 0 = λ w. is_closed w.state ≡ false → Goes v w in
+pub goes_after : (v : View) (s : Segment) → IsSound v → is_opening v.state ≡ false → is_closed (after_heard v s).state ≡ false → Goes v s.acknowledgement (after_heard v s)
+goes_after v s sound opened =
+    let G : View → Type 0 = Goes v s.acknowledgement in
+    let P : View → Type 0 = λ w. is_closed w.state ≡ false → G w in
     let waits_not = past_opening v.state opened in
-    let here : Goes v v = record { reset = refl; opened = opened; una = sound.una } in
-    let owing : Goes v (owing_ack v) = record { reset = refl; opened = opened; una = sound.una } in
+    let here : G v = record { reset = refl; opened = opened; una = λ fits. sound.una } in
+    let owing : G (owing_ack v) = record { reset = refl; opened = opened; una = λ fits. sound.una } in
     let told = after_window (after_ack v s.acknowledgement) s in
-    let acked : Goes v (after_ack v s.acknowledgement) = by_ack (Goes v) v s.acknowledgement (record {
+    let acked : G (after_ack v s.acknowledgement) = by_ack G v s.acknowledgement (record {
       old = here;
       beyond = owing;
       opens = λ received new. clash (is_syn_received v.state) received waits_not.1;
-      octets = λ new. record { reset = refl; opened = opened; una = fits };
-      fin = λ new fin. record { reset = refl; opened = beyond_opened v.state opened; una = fits };
+      octets = λ new. record { reset = refl; opened = opened; una = λ fits. fits };
+      fin = λ new fin. record { reset = refl; opened = beyond_opened v.state opened; una = λ fits. fits };
     }) in
-    let heard : Goes v told = either Sending (λ t. Goes v (record (after_ack v s.acknowledgement) { sending = t })) (updates_window (after_ack v s.acknowledgement).sending s.number s.acknowledgement) _ (after_ack v s.acknowledgement).sending
+    let heard : G told = either Sending (λ t. G (record (after_ack v s.acknowledgement) { sending = t })) (updates_window (after_ack v s.acknowledgement).sending s.number s.acknowledgement) _ (after_ack v s.acknowledgement).sending
     (λ newer. record { reset = acked.reset; opened = acked.opened; una = acked.una }) (λ older. record { reset = acked.reset; opened = acked.opened; una = acked.una }) in
     let read = after_text told s in
-    let text : Goes v read = either View (Goes v) ((length s.octets == 0) || not (is_receiving told.state)) told _ (λ none. heard) (λ some. record { reset = heard.reset; opened = heard.opened; una = heard.una }) in
+    let text : G read = either View G ((length s.octets == 0) || not (is_receiving told.state)) told _ (λ none. heard) (λ some. record { reset = heard.reset; opened = heard.opened; una = heard.una }) in
     by_hearing P v s (λ alive. cc) (record {
       dropped = λ alive. here;
       drawn = λ alive. owing;
@@ -373,7 +375,7 @@ goes_after v s sound opened fits =
       crossed = λ waits. clash (is_syn_sent v.state) waits waits_not.0;
       opened = λ waits right. clash (is_syn_sent v.state) waits waits_not.0;
       acknowledged = λ taken alive. acked;
-      read = λ on alive. by_fin (Goes v) read s (λ counts. record { reset = text.reset; opened = ended_opened read.state text.opened; una = text.una }) (record { reset = text.reset; opened = text.opened; una = text.una }) text;
+      read = λ on alive. by_fin G read s (λ counts. record { reset = text.reset; opened = ended_opened read.state text.opened; una = text.una }) (record { reset = text.reset; opened = text.opened; una = text.una }) text;
     })
 
 pub part_resends : (v : View) (s : Segment) (now : Moment) → IsSound v → is_opening v.state ≡ false → goes_on v.congestion ≡ true → selects v ≡ false → s.acknowledgement < 2 ^ 32
@@ -388,22 +390,25 @@ part_resends v s now sound opened on plain fits moved alive some =
     let at : w ≡ u = heard_is v s now hears in
     let lives : is_closed x.state ≡ false = sym (ap (λ (y : View). is_closed y.state) at) ∙ alive in
     let moves : is_moved b x ≡ true = is_moved_by v s (λ same. moved (ap (λ (y : View). y.sending.una) at ∙ same)) in
-    let recover : w.resend.recover ≡ x.resend.recover = ap (λ (y : View). y.resend.recover) at ∙ recover_kept b x now moves in
+    let quiet = quiet_on v s on in
+    let recover : w.resend.recover ≡ x.resend.recover = ap (λ (y : View). y.resend.recover) at ∙ recover_kept b x now moves quiet in
     let n = length v.sending.held - length x.sending.held in
     let part : (goes_on x.congestion && nat_lt 0 x.resend.recover) ≡ true =
     both (goes_on x.congestion) (nat_lt 0 x.resend.recover) (ap goes_on (window_kept v s) ∙ on) (lt-ltb 0 x.resend.recover (omega (arith, some, recover))) in
     let other : Signal = if b.is_duplicate then Counts (Duplicate (outstanding x.sending)) else if reports_more b x then Counts (report_event (told b x)) else Nothing in
-    let acks : Signal = if is_opening b.state then Begins else acknowledged_signal x n in
+    let whole : Signal = whole_signal (told b x) n (reports_more b x) in
+    let acks : Signal = if is_opening b.state then Begins else acknowledged_signal (told b x) n (reports_more b x) in
     let event : congestion_event_of b x ≡ Counts (PartialAck n) =
     ap (λ t. if t then Nothing else if is_moved b x then acks else other) lives
     ∙ ap (λ t. if t then acks else other) moves
-    ∙ ap (λ t. if t then Begins else acknowledged_signal x n) opened
-    ∙ ap₂ (λ t r. if t then (if r then Nothing else Counts (PartialAck n)) else Counts (NewAck n (outstanding x.sending))) part (heard_selects v s (past_opening v.state opened).0 ∙ plain) in
+    ∙ ap (λ t. if t then Begins else acknowledged_signal (told b x) n (reports_more b x)) opened
+    ∙ ap₂ (λ t r. if t then (if r then Nothing else Counts (PartialAck n)) else whole) part (heard_selects v s (past_opening v.state opened).0 ∙ plain) in
     let resend : resend_after b x now ≡ resend_first (resend_told b x now) (outstanding x.sending) = ap (λ g. resend_signalled (resend_told b x now) g x.congestion (outstanding x.sending)) event in
-    let k = goes_after v s sound opened fits lives in
+    let k = goes_after v s sound opened lives in
+    let una = k.una fits in
     let left = (heard_left v s sound).0 in
     let nxt = (heard_left v s sound).1 in
-    let flies : 0 < outstanding x.sending = omega (arith, some, recover, left, nxt, sound.recover, sound.una, sound.nxt, k.una) in
+    let flies : 0 < outstanding x.sending = omega (arith, some, recover, left, nxt, sound.recover, sound.una, sound.nxt, una) in
     let mark : u.resend.mark ≡ Some 0 = ap (λ (p : Resend). p.mark) resend ∙ ap (λ t. if t then Some 0 else None) (lt-ltb 0 (outstanding x.sending) flies) in
     let owes : u.owes_reset ≡ false = k.reset ∙ unowed v.owes_reset (is_closed v.state) v.released (neither (is_closed v.state) (is_rejected v s) hears).0 sound.reset in
     let once : u.resend.once ≡ true = ap (λ (p : Resend). p.once) resend in

@@ -1,40 +1,51 @@
 -- Why what is reported is not sent again, and what reports let go out.
-use Rattle.std.proofs.Common.{◌≡◌, ℕ, ◌+◌, ◌-◌, ◌<◌, ◌≤◌, ◌==◌, ◌&&◌, ◌||◌, not, nat_lt, nat_le, min, true, false, if◌then◌else◌, List, [], ◌∷◌, length, Some, arith, refl, sym, ◌∙◌, ap, ap₂, subst}
-use Rattle.std.specs.Option.{unwrap_or}
-use Rattle.std.proofs.lemmas.Bool.{leb-true, eqb-true}
+use Rattle.std.proofs.Common.{◌≡◌, ℕ, ◌+◌, ◌-◌, ◌<◌, ◌≤◌, ◌==◌, ◌&&◌, ◌||◌, not, nat_lt, nat_le, min, true, false, if◌then◌else◌, List, [], ◌∷◌, length, Some, arith, refl, sym, ◌∙◌, ap, ap₂, subst, ◌⊎◌, inl, inr, Bool, None, is_some}
+use Rattle.std.specs.Option.{unwrap_or, option_or}
+use Rattle.std.proofs.lemmas.Bool.{leb-true, eqb-true, ltb-true, lt-ltb}
+use Rattle.std.proofs.lemmas.Bool.Decides.{leb_tells}
 use Rattle.stream_buf.specs.declared.ranges.Range.{Range}
-use Rattle.stream_buf.specs.Scoreboard.{is_reported, is_lost, unreported, lost_end, reported_end, passed}
+use Rattle.stream_buf.specs.Ranges.{AreApart, covered, with_range}
+use Rattle.stream_buf.specs.declared.receive.TheConstants.{MOST_RANGES}
+use Rattle.stream_buf.specs.Scoreboard.{with_report, is_taken, is_reported, is_lost, unreported, lost_end, reported_end, passed}
 use Rattle.stream_buf.proofs.Reports.{gap_unreported, len_unreported, lost_before}
-use Rattle.congestion.specs.Window.{is_recovering, allowed, after_duplicate, after_loss}
-use Rattle.congestion.specs.Events.Event.{Duplicate, Loss}
+use Rattle.congestion.specs.Control.{repairs, is_selective}
+use Rattle.congestion.specs.Window.{Window, is_recovering, goes_on, third_is_next, allowed, after_duplicate, after_third}
+use Rattle.congestion.specs.Events.{Event as WindowEvent, after_event as after_window_event}
+use Rattle.congestion.specs.Events.Event.{NewAck, PartialAck, Duplicate, Loss}
 use Rattle.clock.specs.declared.moment.Moment.{Moment}
+use Rattle.tcp_segment.specs.declared.blocks.Block.{Block}
 use Rattle.tcp_segment.specs.Segment.{Segment}
 use Rattle.tcp_segment.specs.Wire.{past}
+use Rattle.tcp_halves.specs.Halves.{Sending}
 use Rattle.tcp_halves.specs.Stream.{outstanding}
-use Rattle.tcp_halves.proofs.Choices.{either, and_left, and_right, or_left, not_true}
-use Rattle.tcp_state.specs.declared.emission.Due.TheVariants.{Text}
+use Rattle.tcp_halves.proofs.Choices.{either, by, clash, both, and_left, and_right, and_false, or_left, not_true, unowed}
+use Rattle.tcp_state.specs.declared.arrival.Before.{Before}
+use Rattle.tcp_state.specs.declared.emission.Due.TheVariants.{Rst, Syn, Text}
 use Rattle.tcp_state.specs.declared.emission.Stretch.{Stretch}
-use Rattle.tcp_state.specs.Resend.{Resend, stopped, resend_lost}
+use Rattle.tcp_state.specs.Resend.{Resend, stopped, resend_lost, resend_ends}
 use Rattle.tcp_state.specs.View.{View, IsSound, is_opening, is_closed}
-use Rattle.tcp_state.specs.Congestion.{Signal}
-use Rattle.tcp_state.specs.Congestion.Signal.{Begins, Counts, Nothing}
+use Rattle.tcp_state.specs.Congestion.{Signal, after_signal}
+use Rattle.tcp_state.specs.Congestion.Signal.{Begins, Counts, Both, Nothing}
 use Rattle.tcp_state.specs.New.{sends_new, sends_fin}
-use Rattle.tcp_state.specs.Selective.{selects, repairs_gaps, counts_pipe, loss_end, pipe, allowance, with_blocks}
-use Rattle.tcp_state.specs.Due.{first_due, again, again_at, is_missing, goes_by_reports, goes_by_windows, goes_again, new_octets, fin_alone, end_of, numbers_of}
-use Rattle.tcp_state.specs.Arrival.{is_receiving, beyond_fin, after_new_ack, after_ack, after_window, after_text, after_heard, before, is_moved, is_rejected, is_counted_duplicate, reports_more, told, tells_loss, report_event, is_report, reports_loss, acknowledged_signal, congestion_event_of, resend_signalled, resend_told, resend_after, timed_by}
+use Rattle.tcp_state.specs.Selective.{selects, repairs_gaps, counts_pipe, loss_end, pipe, allowance, place_of, with_blocks}
+use Rattle.tcp_state.specs.Due.{first_due, ack_due, new_due, again_from, again, again_at, is_missing, goes_by_reports, goes_by_windows, goes_again, new_octets, fin_alone, end_of, numbers_of}
+use Rattle.tcp_state.specs.Arrival.{is_receiving, beyond_fin, after_new_ack, after_ack, after_window, after_text, after_heard, before, is_moved, is_rejected, is_counted_duplicate, counts_reports, reported_by, reports_more, told, told_behind, behind_ack, is_partial, tells_loss, report_event, whole_signal, is_report, reports_loss, acknowledged_signal, congestion_event_of, resend_signalled, resend_told, resend_after, timed_by}
 use Rattle.tcp_state.specs.Edges.{Event, Hears, after_event}
 use Rattle.tcp_state.proofs.Segments.{by_ack, by_fin, by_hearing}
 use Rattle.clock.specs.Moments.{has_come}
 use Rattle.tcp_state.specs.Alive.{after_silence}
-use Rattle.tcp_state.specs.Timing.{KeepsTime, clocked, retransmission_expired, probe_expired, after_timers, after_tick}
-use Rattle.tcp_state.proofs.Clocked.{by_others, after_paced}
+use Rattle.tcp_state.specs.Timing.{KeepsTime, probes, clocked, retransmission_expired, probe_expired, after_timers, after_tick}
+use Rattle.tcp_state.proofs.Clocked.{by_others, after_paced, told_moved, told_still}
+use Rattle.tcp_state.proofs.Congestion.{window_kept}
+use Rattle.tcp_state.proofs.Places.{at_una_goes}
+use Rattle.tcp_state.proofs.Scores.{blocks_score, heard_scores}
 use Rattle.tcp_state.proofs.Expiries.{goes_again_all}
-use Rattle.tcp_state.proofs.Recovering.{first_left}
+use Rattle.tcp_state.proofs.Recovering.{first_left, goes_after}
 use Rattle.tcp_state.proofs.Emissions.{by_due}
 use Rattle.tcp_state.proofs.Events.{by_event}
 use Rattle.tcp_state.proofs.NewNumbers.{keeps_window, keeps_cwnd}
-use Rattle.tcp_state.proofs.Selects.{silent_unselected}
-use Rattle.tcp_state.proofs.Signals.{counts_report, heard_is}
+use Rattle.tcp_state.proofs.Selects.{silent_unselected, more_counts, more_opened}
+use Rattle.tcp_state.proofs.Signals.{event_is, window_by, heard_is}
 
 -- No octet that goes out again is reported.
 
@@ -127,32 +138,151 @@ expiry_forgets v now sound keeps comes lives = (goes_again_all v now sound keeps
 
 -- A report that tells a loss.
 
+-- what joins what is reported is outstanding
+none_joins : (reported : List Range) (s : Sending) (blocks : List Block) → outstanding s ≡ 0 → with_blocks reported s blocks ≡ reported
+none_joins reported s [] none = refl
+none_joins reported s (block ∷ rest) none = ap (λ rs. with_blocks rs s rest) (untaken (place_of s block)) ∙ none_joins reported s rest none
+  where
+    untaken : (new : Range) → with_report reported (outstanding s) new ≡ reported
+    untaken new =
+        let starts = nat_lt 0 new.start in
+        let some = nat_lt new.start new.end in
+        let ends = nat_le new.end (outstanding s) in
+        either (List Range) (λ rs. rs ≡ reported) (is_taken reported (outstanding s) new) (with_range reported new) reported
+        (λ taken.
+        let within = and_left (starts && some && ends) (nat_le (length (with_range reported new)) MOST_RANGES) taken in
+        let few = leb-true new.end (outstanding s) (and_right (starts && some) ends within) in
+        let long = ltb-true new.start new.end (and_right starts some (and_left (starts && some) ends within)) in
+        absurd (omega (arith, none, few, long)))
+        (λ left. refl)
+
+more_flies : (b : Before) (x : View) → reports_more b x ≡ true → 0 < outstanding x.sending
+more_flies b x more = elim (leb_tells 1 (outstanding x.sending)) [
+  | inl some ↦ some.1
+  | inr none ↦
+      let zero : outstanding x.sending ≡ 0 = omega (arith, none.1) in
+      let grown = ltb-true (covered x.resend.reported) (covered (reported_by b x)) (and_right b.counts_reports (nat_lt (covered x.resend.reported) (covered (reported_by b x))) more) in
+      let same : covered (reported_by b x) ≡ covered x.resend.reported = ap (λ (rs : List Range). covered rs) (none_joins x.resend.reported x.sending b.blocks zero) in
+      absurd (omega (arith, grown, same))
+]
+
+-- it is a loss to the window, alone or behind an ACK of new octets
+abbrev LossEvent : View → Segment → Signal → Type 0
+LossEvent v s g =
+    let x = after_heard v s in
+    (g ≡ Counts (Loss (outstanding x.sending))) ⊎ (g ≡ Both (NewAck (length v.sending.held - length x.sending.held) (outstanding x.sending)) (Loss (outstanding x.sending)))
+
+loss_event : (v : View) (s : Segment) → reports_loss v s ≡ true → is_counted_duplicate v s ≡ false → is_closed (after_heard v s).state ≡ false → LossEvent v s (congestion_event_of (before v s) (after_heard v s))
+loss_event v s is other lives =
+    let b = before v s in
+    let x = after_heard v s in
+    let n = length v.sending.held - length x.sending.held in
+    let flight = outstanding x.sending in
+    let more = and_left (is_report v s) (tells_loss (told_behind b x)) is in
+    let loss = and_right (is_report v s) (tells_loss (told_behind b x)) is in
+    let tells : Signal = if reports_more b x then Counts (report_event (told b x)) else Nothing in
+    let repeats : Signal = if is_counted_duplicate v s then Counts (Duplicate flight) else tells in
+    let acks : Signal = acknowledged_signal (told b x) n (reports_more b x) in
+    let acked : Signal = if is_opening v.state then Begins else acks in
+    let part : is_partial x ≡ false = ap (λ c. goes_on c && nat_lt 0 x.resend.recover) (window_kept v s)
+    ∙ ap (λ t. repairs v.congestion.control && t && nat_lt 0 x.resend.recover) (more_counts v s x more).runs ∙ ap (λ t. t && nat_lt 0 x.resend.recover) (and_false (repairs v.congestion.control)) in
+    let comes : congestion_event_of b x ≡ (if is_moved b x then acked else repeats) = ap (λ t. if t then Nothing else if is_moved b x then acked else repeats) lives in
+    by (LossEvent v s (congestion_event_of b x)) (is_moved b x)
+    (λ moves. inr (
+    comes
+    ∙ ap (λ t. if t then acked else repeats) moves
+    ∙ ap (λ t. if t then Begins else acks) (more_opened v s x more)
+    ∙ ap (λ t. if t then (if selects x then Nothing else Counts (PartialAck n)) else whole_signal (told b x) n (reports_more b x)) part
+    ∙ ap (whole_signal (told b x) n) more
+    ∙ ap (λ t. Both (NewAck n flight) (if t then Loss flight else Duplicate flight)) (ap tells_loss (sym (told_moved b x moves)) ∙ loss)))
+    (λ stays. inl (
+    comes
+    ∙ ap (λ t. if t then acked else repeats) stays
+    ∙ ap (λ t. if t then Counts (Duplicate flight) else tells) other
+    ∙ ap (λ t. if t then Counts (report_event (told b x)) else Nothing) more
+    ∙ ap (λ t. Counts (if t then Loss flight else Duplicate flight)) (ap tells_loss (sym (told_still b x stays)) ∙ loss)))
+
 pub loss_resends : (v : View) (s : Segment) (now : Moment) → IsSound v → reports_loss v s ≡ true → is_counted_duplicate v s ≡ false → (is_closed v.state || is_rejected v s) ≡ false → is_closed (after_event v (Hears s now)).state ≡ false
-    → let w = after_event v (Hears s now) in (w.resend.recover ≡ outstanding w.sending) × (w.resend.once ≡ true) × (is_recovering w.congestion ≡ true)
+    → let w = after_event v (Hears s now) in (first_due w ≡ Some (Text (again w 0))) × (w.resend.recover ≡ outstanding w.sending) × (w.resend.once ≡ true) × (is_recovering w.congestion ≡ true)
 loss_resends v s now sound is other hears alive =
     let b = before v s in
     let x = after_heard v s in
     let w = after_event v (Hears s now) in
+    let u = timed_by b x now in
     let flight = outstanding x.sending in
-    let at = heard_is v s now hears in
-    let reports = and_left (is_report v s) (tells_loss (told b x)) is in
-    let still : is_moved b x ≡ false = not_true (is_moved b x) (and_left (not (is_moved b x)) (reports_more b x) reports) in
-    let more = and_right (not (is_moved b x)) (reports_more b x) reports in
-    let tells : Signal = if reports_more b x then Counts (report_event (told b x)) else Nothing in
-    let repeats : Signal = if is_counted_duplicate v s then Counts (Duplicate flight) else tells in
-    let acked : Signal = if is_opening v.state then Begins else acknowledged_signal x (length v.sending.held - length x.sending.held) in
-    let event : congestion_event_of b x ≡ Counts (Loss flight) =
-    ap (λ t. if t then Nothing else if is_moved b x then acked else repeats) (sym (ap (λ (y : View). is_closed y.state) at) ∙ alive)
-    ∙ ap (λ t. if t then acked else repeats) still
-    ∙ ap (λ t. if t then Counts (Duplicate flight) else tells) other
-    ∙ ap (λ t. if t then Counts (report_event (told b x)) else Nothing) more
-    ∙ ap (λ t. Counts (if t then Loss flight else Duplicate flight)) (and_right (is_report v s) (tells_loss (told b x)) is) in
-    let resend : resend_after b x now ≡ resend_lost (resend_told b x now) true flight = ap (λ g. resend_signalled (resend_told b x now) g x.congestion flight) event in
-    let window : w.congestion ≡ after_loss v.congestion flight = counts_report v s now alive reports other hears ∙ ap (λ t. if t then after_loss v.congestion flight else after_duplicate v.congestion flight) is in (
+    let at : w ≡ u = heard_is v s now hears in
+    let lives : is_closed x.state ≡ false = sym (ap (λ (y : View). is_closed y.state) at) ∙ alive in
+    let more = and_left (is_report v s) (tells_loss (told_behind b x)) is in
+    let flies = more_flies b x more in
+    let event = loss_event v s is other lives in
+    let p = resend_told b x now in
+    let resend : resend_after b x now ≡ resend_lost p true flight = elim event [
+      | inl alone ↦ ap (λ g. resend_signalled p g x.congestion flight) alone
+      | inr behind ↦ ap (λ g. resend_signalled p g x.congestion flight) behind
+          ∙ either Resend (λ q. resend_lost q true flight ≡ resend_lost p true flight) (is_selective x.congestion.control && is_recovering x.congestion) (resend_ends p) p (λ ends. refl) (λ stays. refl)
+    ] in
+    let recovers : is_recovering w.congestion ≡ true = elim event [
+      | inl alone ↦ ap is_recovering (window_by v (Hears s now) (Counts (Loss flight)) (event_is v s now hears ∙ alone))
+      | inr behind ↦ ap is_recovering (window_by v (Hears s now) (Both (NewAck (length v.sending.held - length x.sending.held) flight) (Loss flight)) (event_is v s now hears ∙ behind))
+    ] in
+    let k = goes_after v s sound (more_opened v s x more) lives in
+    let mark : u.resend.mark ≡ Some 0 = ap (λ (p : Resend). p.mark) resend ∙ ap (λ t. if t then Some 0 else None) (lt-ltb 0 flight flies) in
+    let owes : u.owes_reset ≡ false = k.reset ∙ unowed v.owes_reset (is_closed v.state) v.released (neither (is_closed v.state) (is_rejected v s) hears) sound.reset in
+    let once : u.resend.once ≡ true = ap (λ (p : Resend). p.once) resend in
+    let scores = blocks_score x.resend.reported x.sending b.blocks (heard_scores v s sound) in
+    let due : first_due u ≡ Some (Text (again u 0)) =
+    ap (λ t. if t then Some Rst else if is_opening u.state then (if (outstanding u.sending == 0) || is_some u.resend.mark then Some Syn else ack_due u) else option_or (again_from u u.resend.mark) (new_due u)) owes
+    ∙ ap (λ t. if t then (if (outstanding u.sending == 0) || is_some u.resend.mark then Some Syn else ack_due u) else option_or (again_from u u.resend.mark) (new_due u)) k.opened
+    ∙ ap (λ m. option_or (again_from u m) (new_due u)) mark
+    ∙ ap (λ o. option_or o (new_due u)) (at_una_goes u (subst (AreApart 1) (sym (ap (λ (p : Resend). p.reported) resend)) scores.apart) (ap (λ b. repairs_gaps u && not b) once ∙ and_false (repairs_gaps u)) flies) in (
+      subst (λ y. first_due y ≡ Some (Text (again y 0))) (sym at) due,
       ap (λ (y : View). y.resend.recover) at ∙ ap (λ (p : Resend). p.recover) resend ∙ sym (ap (λ (y : View). outstanding y.sending) at),
-      ap (λ (y : View). y.resend.once) at ∙ ap (λ (p : Resend). p.once) resend,
-      ap is_recovering window,
+      ap (λ (y : View). y.resend.once) at ∙ once,
+      recovers,
     )
+  where
+    neither : (a b : Bool) → (a || b) ≡ false → a ≡ false
+    neither true b e = cc
+    neither false b e = refl
+
+-- One that tells none.
+
+counted : (c : Window) (flight : ℕ) → is_recovering c ≡ false → 0 < (after_duplicate c flight).duplicates
+counted c flight runs =
+    let P : Window → Type 0 = λ x. 0 < x.duplicates in
+    either Window P (is_recovering c) _ _ (λ recovers. clash (is_recovering c) recovers runs)
+    (λ goes. either Window P (third_is_next c) (after_third c flight) (record c { duplicates = c.duplicates + 1 }) (λ third. omega arith) (λ other. omega arith))
+
+report_counted : (c : Window) (w : View) → is_recovering c ≡ false → 0 < (after_window_event c (report_event w)).duplicates
+report_counted c w runs =
+    either WindowEvent (λ e. 0 < (after_window_event c e).duplicates) (tells_loss w) (Loss (outstanding w.sending)) (Duplicate (outstanding w.sending)) (λ loss. omega arith) (λ early. counted c (outstanding w.sending) runs)
+
+pub reports_are_counted : (v : View) (s : Segment) (now : Moment) → (is_closed v.state || is_rejected v s) ≡ false → is_recovering v.congestion ≡ false → v.resend.recover ≡ 0 → probes v ≡ false
+    → let w = after_event v (Hears s now) in is_closed w.state ≡ false → covered (let x = after_heard v s in x.resend.reported) < covered w.resend.reported → 0 < w.congestion.duplicates
+reports_are_counted v s now hears runs all unprobed alive grown =
+    let b = before v s in
+    let x = after_heard v s in
+    let w = after_event v (Hears s now) in
+    let n = length v.sending.held - length x.sending.held in
+    let at : w ≡ timed_by b x now = heard_is v s now hears in
+    let lives : is_closed x.state ≡ false = sym (ap (λ (y : View). is_closed y.state) at) ∙ alive in
+    let reported : w.resend.reported ≡ reported_by b x = ap (λ (y : View). y.resend.reported) at ∙ after_paced b x now (λ p. p.reported ≡ reported_by b x) refl refl (λ r. refl) refl in
+    let counts : counts_reports v ≡ true = ap₂ (λ r n. not r && (n == 0) && not (probes v)) runs all ∙ ap not unprobed in
+    let more : reports_more b x ≡ true = both (counts_reports v) (nat_lt (covered x.resend.reported) (covered (reported_by b x))) counts
+    (lt-ltb (covered x.resend.reported) (covered (reported_by b x)) (subst (λ rs. covered x.resend.reported < covered rs) reported grown)) in
+    let kept : is_recovering x.congestion ≡ false = ap is_recovering (window_kept v s) ∙ runs in
+    let Q : Signal → Type 0 = λ g. 0 < (after_signal v.congestion g w.sending.smss w.resend.syn_resent).duplicates in
+    let ack = NewAck n (outstanding x.sending) in
+    let done : Q (congestion_event_of b x) =
+    either Signal Q (is_closed x.state) Nothing _ (λ closed. clash (is_closed x.state) closed lives)
+    (λ on. either Signal Q (is_moved b x) (if is_opening v.state then Begins else acknowledged_signal (told b x) n (reports_more b x)) _
+    (λ moves. either Signal Q (is_opening v.state) Begins (acknowledged_signal (told b x) n (reports_more b x)) (λ opens. clash (is_opening v.state) opens (more_opened v s x more))
+    (λ opened. either Signal Q (is_partial x) _ (whole_signal (told b x) n (reports_more b x))
+    (λ goes. clash (is_recovering x.congestion) (and_right (repairs x.congestion.control) (is_recovering x.congestion) (and_left (goes_on x.congestion) (nat_lt 0 x.resend.recover) goes)) kept)
+    (λ whole. either Signal Q (reports_more b x) (Both ack (report_event (behind_ack (told b x) n))) (Counts ack) (λ is. report_counted (after_window_event v.congestion ack) (behind_ack (told b x) n) refl) (λ none. clash (reports_more b x) more none))))
+    (λ stays. either Signal Q (is_counted_duplicate v s) (Counts (Duplicate (outstanding x.sending))) _ (λ twice. counted v.congestion (outstanding x.sending) runs)
+    (λ other. either Signal Q (reports_more b x) (Counts (report_event (told b x))) Nothing (λ is. report_counted v.congestion (told b x) runs) (λ none. clash (reports_more b x) more none)))) in
+    subst (λ (c : Window). 0 < c.duplicates) (sym (window_by v (Hears s now) (congestion_event_of b x) (event_is v s now hears))) done
 
 -- The network has room.
 

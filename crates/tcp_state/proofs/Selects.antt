@@ -6,11 +6,12 @@ use Rattle.congestion.specs.Control.{repairs, repairs_losses, is_selective, is_s
 use Rattle.congestion.specs.Window.{Window, is_recovering, goes_on}
 use Rattle.stream_buf.specs.Ranges.{covered}
 use Rattle.tcp_segment.specs.Segment.{Segment, blocks_of}
-use Rattle.tcp_halves.proofs.Choices.{by, and_left, and_right, and_false, not_true}
+use Rattle.tcp_halves.proofs.Choices.{by, clash, and_left, and_right, and_false, not_true}
+use Rattle.tcp_state.proofs.Clocked.{reports_none}
 use Rattle.tcp_state.specs.View.{View, is_opening}
 use Rattle.tcp_state.specs.Selective.{selects}
 use Rattle.tcp_state.specs.Timing.{probes}
-use Rattle.tcp_state.specs.Arrival.{is_read, counts_duplicates, counts_reports, blocks_told, before, is_moved, after_heard, reported_by, reports_more, is_report}
+use Rattle.tcp_state.specs.Arrival.{is_read, counts_duplicates, counts_reports, blocks_told, before, after_heard, reported_by, reports_more, is_report}
 
 selective_repairs : (r : Recovery) → repairs_losses r ≡ false → is_selective_recovery r ≡ false
 selective_repairs Plain plain = refl
@@ -59,7 +60,7 @@ pub more_counts : (v : View) (s : Segment) (w : View) → reports_more (before v
 more_counts v s w more = reports_count v (and_left (counts_reports v) (nat_lt (covered w.resend.reported) (covered (reported_by (before v s) w))) more)
 
 pub report_counts : (v : View) (s : Segment) → is_report v s ≡ true → CountsReports v
-report_counts v s is = more_counts v s (after_heard v s) (and_right (not (is_moved (before v s) (after_heard v s))) (reports_more (before v s) (after_heard v s)) is)
+report_counts v s is = more_counts v s (after_heard v s) is
 
 -- reports aren't taken
 pub silent_unselected : (v : View) (s : Segment) → selects v ≡ false → blocks_told v s ≡ []
@@ -69,6 +70,12 @@ silent_unselected v s none = ap (λ b. if b && not (is_opening v.state) && is_re
 pub silent_opening : (v : View) (s : Segment) → is_opening v.state ≡ true → blocks_told v s ≡ []
 silent_opening v s opens =
     ap (λ b. if selects v && not b && is_read v s then blocks_of s else []) opens ∙ ap (λ b. if b && is_read v s then blocks_of s else []) (and_false (selects v))
+
+-- so a report that counts comes past the opening
+pub more_opened : (v : View) (s : Segment) (w : View) → reports_more (before v s) w ≡ true → is_opening v.state ≡ false
+more_opened v s w more =
+    by (is_opening v.state ≡ false) (is_opening v.state)
+    (λ opens. clash (reports_more (before v s) w) more (reports_none (before v s) w (silent_opening v s opens))) (λ opened. opened)
 
 -- the segment isn't read
 pub silent_unread : (v : View) (s : Segment) → is_read v s ≡ false → blocks_told v s ≡ []

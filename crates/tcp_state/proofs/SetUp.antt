@@ -5,7 +5,7 @@ use Rattle.clock.specs.declared.moment.Moment.{Moment}
 use Rattle.clock.specs.Moments.{has_come}
 use Rattle.congestion.specs.Control.{repairs}
 use Rattle.congestion.specs.Window.{Window, is_recovering, goes_on, third_is_next, after_third}
-use Rattle.congestion.specs.Events.{Event as WindowEvent}
+use Rattle.congestion.specs.Events.{Event as WindowEvent, after_event as after_window_event}
 use Rattle.congestion.specs.Events.Event.{NewAck, PartialAck, Expiry, Duplicate, Loss}
 use Rattle.retransmit.specs.Timeout.{Timeout, after_sample, after_lost_syn}
 use Rattle.tcp_state.specs.declared.emission.Due.{Due}
@@ -17,7 +17,7 @@ use Rattle.tcp_state.specs.View.{View, is_opening, is_closed, is_at_end}
 use Rattle.tcp_state.specs.Alive.{after_silence}
 use Rattle.tcp_state.specs.Timing.{clocked, gives_up, retransmission_expired, probe_expired, after_timers}
 use Rattle.tcp_state.specs.Congestion.{Signal, after_signal}
-use Rattle.tcp_state.specs.Congestion.Signal.{Begins, Counts, Nothing}
+use Rattle.tcp_state.specs.Congestion.Signal.{Begins, Counts, Both, Nothing}
 use Rattle.tcp_state.specs.Arrival.{after_heard, is_rejected, before, resend_heard, told, tells_loss, congestion_event_of, timed_by}
 use Rattle.tcp_state.specs.Due.{first_due}
 use Rattle.tcp_state.specs.Edges.{Event, Hears, Ticks, Emits, Sends, Receives, Shuts, SetsNoDelay, SetsKeepAlive, Closes, Aborts, Unreachable, LosesHop, after_first, after_event, congestion_event_by}
@@ -28,15 +28,19 @@ use Rattle.tcp_state.proofs.Resends.{segment_hears, goes_out}
 
 -- How losses are repaired.
 
-signal_leaves : (c : Window) (signal : Signal) (smss : ℕ) (resent : Bool) → (let x = after_signal c signal smss resent in x.control) ≡ c.control
-signal_leaves c Begins smss resent = refl
-signal_leaves c (Counts (NewAck octets flight)) smss resent = refl
-signal_leaves c (Counts (PartialAck octets)) smss resent = refl
-signal_leaves c (Counts (Expiry flight)) smss resent = refl
-signal_leaves c (Counts (Loss flight)) smss resent = refl
-signal_leaves c (Counts (Duplicate flight)) smss resent =
+event_leaves : (c : Window) (e : WindowEvent) → (let x = after_window_event c e in x.control) ≡ c.control
+event_leaves c (NewAck octets flight) = refl
+event_leaves c (PartialAck octets) = refl
+event_leaves c (Expiry flight) = refl
+event_leaves c (Loss flight) = refl
+event_leaves c (Duplicate flight) =
     let P : Window → Type 0 = λ x. x.control ≡ c.control in
     either Window P (is_recovering c) _ _ (λ recovers. refl) (λ runs. either Window P (third_is_next c) (after_third c flight) _ (λ third. refl) (λ other. refl))
+
+signal_leaves : (c : Window) (signal : Signal) (smss : ℕ) (resent : Bool) → (let x = after_signal c signal smss resent in x.control) ≡ c.control
+signal_leaves c Begins smss resent = refl
+signal_leaves c (Counts event) smss resent = event_leaves c event
+signal_leaves c (Both first behind) smss resent = event_leaves (after_window_event c first) behind ∙ event_leaves c first
 signal_leaves c Nothing smss resent = refl
 
 pub control_stays : (v : View) (e : Event) → (after_event v e).congestion.control ≡ v.congestion.control
@@ -107,7 +111,7 @@ plainly_none v (Hears s now) octets plain =
     (λ moves opened goes. clash (repairs v.congestion.control)
     (ap (λ c. repairs c.control) (sym (window_kept v s)) ∙ and_left (repairs x.congestion.control) (is_recovering x.congestion) (and_left (goes_on x.congestion) (nat_lt 0 x.resend.recover) goes)) plain)
     (λ stays twice e. cc)
-    (λ stays more. either WindowEvent (λ e. Counts e ≢ Counts (PartialAck octets)) (tells_loss (told b x)) (Loss (outstanding x.sending)) (Duplicate (outstanding x.sending)) (λ loss e. cc) (λ early e. cc)))
+    (λ stays more. either WindowEvent (λ e. Counts e ≢ Counts (PartialAck octets)) (tells_loss (told b x)) (Loss (outstanding x.sending)) (Duplicate (outstanding x.sending)) (λ loss e. cc) (λ early e. cc)) (λ moves opened more e. cc))
 plainly_none v (Ticks now) octets plain =
     let P : Signal → Type 0 = λ g. g ≢ Counts (PartialAck octets) in
     either Signal P (is_at_end v now || gives_up v now) Nothing _ (λ ends e. cc)

@@ -1,5 +1,6 @@
 -- What an event is to the congestion window, in the words of what it acknowledges.
-use Rattle.tcp_state.proofs.Clocked.{recover_kept}
+use Rattle.tcp_state.proofs.Clocked.{recover_kept, told_moved, told_still}
+use Rattle.tcp_state.proofs.Selects.{more_counts, more_opened}
 use Rattle.std.proofs.Common.{◌≡◌, ◌≢◌, ℕ, ◌+◌, ◌-◌, ◌%◌, ◌^◌, ◌<◌, ◌≤◌, ◌==◌, ◌&&◌, ◌||◌, ◌⊎◌, ◌↔◌, not, nat_lt, nat_le, min, if◌then◌else◌, Bool, true, false, List, [], ◌∷◌, length, drop, Some, inl, inr, arith, refl, sym, ◌∙◌, ap, ap₂, subst}
 use Rattle.std.proofs.lemmas.Bool.{eqb-true, eq-eqb, lt-ltb, ltb-true}
 use Rattle.std.proofs.lemmas.Bool.Decides.{eqb_tells, leb_tells}
@@ -8,9 +9,10 @@ use Rattle.tcp_segment.specs.Segment.{Segment}
 use Rattle.tcp_segment.specs.Wire.{past}
 use Rattle.clock.specs.declared.moment.Moment.{Moment}
 use Rattle.clock.specs.Moments.{has_come}
-use Rattle.congestion.specs.Control.{is_selective}
-use Rattle.congestion.specs.Window.{Window, initial_window, goes_on as recovers_on, after_new_ack, after_partial_ack, after_duplicate, after_expiry, after_loss}
+use Rattle.congestion.specs.Control.{repairs, is_selective}
+use Rattle.congestion.specs.Window.{Window, initial_window, is_recovering, goes_on as recovers_on, after_new_ack, after_partial_ack, after_duplicate, after_expiry, after_loss}
 use Rattle.tcp_state.specs.Selective.{selects}
+use Rattle.congestion.specs.Events.{after_event as after_window_event}
 use Rattle.congestion.specs.Events.Event.{NewAck, PartialAck, Expiry, Duplicate, Loss}
 use Rattle.tcp_state.specs.declared.state.State.{State}
 use Rattle.tcp_state.specs.declared.state.State.TheVariants.{SynSent, SynReceived}
@@ -21,12 +23,12 @@ use Rattle.tcp_halves.specs.Windows.{window_in, updates_window}
 use Rattle.tcp_halves.proofs.Choices.{either, by, clash, and_left, and_right, and_false, both, not_true, of_false, or_right}
 use Rattle.tcp_state.specs.View.{View, IsSound, is_opening, is_syn_sent, is_syn_received, is_closed, is_write_finished, takes_flag_number, is_at_end, after_stop, after_reset}
 use Rattle.tcp_state.specs.Congestion.{Signal, after_signal}
-use Rattle.tcp_state.specs.Congestion.Signal.{Begins, Counts, Nothing}
+use Rattle.tcp_state.specs.Congestion.Signal.{Begins, Counts, Both, Nothing}
 use Rattle.tcp_state.specs.declared.calls.Refusal.TheVariants.{ETIMEDOUT}
 use Rattle.tcp_state.specs.Timing.{gives_up, after_expiries, after_tick}
 use Rattle.tcp_state.specs.Alive.{after_silence}
 use Rattle.tcp_state.specs.Reporting.{noted}
-use Rattle.tcp_state.specs.Arrival.{owing_ack, may_delay, beyond_end, is_acceptable_to, is_read, is_read_on, is_of_fin, fin_acknowledged, after_new_ack as after_acknowledging, after_establishment, after_ack, after_window, is_receiving, after_text, after_fin, after_segment, brings_more, is_lost, after_lost, after_heard, is_rejected, before, octets_outstanding, is_duplicate, is_moved, congestion_event_of, told, reports_more, tells_loss, report_event, is_report, reports_loss, timed_by, acknowledged_signal, counts_duplicates, is_counted_duplicate}
+use Rattle.tcp_state.specs.Arrival.{owing_ack, may_delay, beyond_end, is_acceptable_to, is_read, is_read_on, is_of_fin, fin_acknowledged, after_new_ack as after_acknowledging, after_establishment, after_ack, after_window, is_receiving, after_text, after_fin, after_segment, brings_more, is_lost, after_lost, after_heard, is_rejected, before, octets_outstanding, is_duplicate, is_moved, congestion_event_of, told, behind_ack, whole_signal, reports_more, tells_loss, report_event, is_report, reports_loss, timed_by, acknowledged_signal, counts_duplicates, is_counted_duplicate}
 use Rattle.tcp_state.specs.Edges.{Event, Hears, Ticks, Emits, Sends, Receives, Shuts, SetsNoDelay, SetsKeepAlive, Closes, Aborts, Unreachable, LosesHop, after_event, congestion_event_by}
 use Rattle.tcp_state.specs.Counted.{HasOctetOut, IsDuplicate}
 use Rattle.tcp_state.proofs.Segments.{IsRead, by_ack, by_fin, by_hearing, reads, read_tells, reading_sends, not_rejected}
@@ -191,10 +193,10 @@ window_stays v s =
 pub heard_is : (v : View) (s : Segment) (now : Moment) → (is_closed v.state || is_rejected v s) ≡ false → after_event v (Hears s now) ≡ timed_by (before v s) (after_heard v s) now
 heard_is v s now hears = ap (λ b. if b then v else timed_by (before v s) (after_heard v s) now) hears
 
-event_is : (v : View) (s : Segment) (now : Moment) → (is_closed v.state || is_rejected v s) ≡ false → congestion_event_by v (Hears s now) ≡ congestion_event_of (before v s) (after_heard v s)
+pub event_is : (v : View) (s : Segment) (now : Moment) → (is_closed v.state || is_rejected v s) ≡ false → congestion_event_by v (Hears s now) ≡ congestion_event_of (before v s) (after_heard v s)
 event_is v s now hears = ap (λ b. if b then Nothing else congestion_event_of (before v s) (after_heard v s)) hears
 
-window_by : (v : View) (e : Event) (signal : Signal) → congestion_event_by v e ≡ signal → (after_event v e).congestion ≡ after_signal v.congestion signal (after_event v e).sending.smss (after_event v e).resend.syn_resent
+pub window_by : (v : View) (e : Event) (signal : Signal) → congestion_event_by v e ≡ signal → (after_event v e).congestion ≡ after_signal v.congestion signal (after_event v e).sending.smss (after_event v e).resend.syn_resent
 window_by v e signal is = moves_by_events v e ∙ ap (λ g. after_signal v.congestion g (after_event v e).sending.smss (after_event v e).resend.syn_resent) is
 
 pub moved_hears : (v : View) (s : Segment) (now : Moment) → (after_event v (Hears s now)).sending.una ≢ v.sending.una → (is_closed v.state || is_rejected v s) ≡ false
@@ -205,12 +207,12 @@ pub is_moved_by : (v : View) (s : Segment) → (after_heard v s).sending.una ≢
 is_moved_by v s moved = elim (eqb_tells v.sending.una (after_heard v s).sending.una) [ inl same ↦ absurd (moved (sym same.1)) | inr other ↦ ap not other.0 ]
 
 moved_event : (v : View) (s : Segment) (now : Moment) → (after_event v (Hears s now)).sending.una ≢ v.sending.una → is_closed (after_event v (Hears s now)).state ≡ false
-    → congestion_event_by v (Hears s now) ≡ (if is_opening v.state then Begins else acknowledged_signal (after_heard v s) (length v.sending.held - length (after_heard v s).sending.held))
+    → congestion_event_by v (Hears s now) ≡ (let b = before v s in let x = after_heard v s in if is_opening v.state then Begins else acknowledged_signal (told b x) (length v.sending.held - length x.sending.held) (reports_more b x))
 moved_event v s now moved alive =
     let x = after_heard v s in
     let hears = moved_hears v s now moved in
     let at = heard_is v s now hears in
-    let event : Signal = if is_opening v.state then Begins else acknowledged_signal x (length v.sending.held - length x.sending.held) in
+    let event : Signal = if is_opening v.state then Begins else acknowledged_signal (told (before v s) x) (length v.sending.held - length x.sending.held) (reports_more (before v s) x) in
     let other : Signal = if is_counted_duplicate v s then Counts (Duplicate (outstanding x.sending)) else if reports_more (before v s) x then Counts (report_event (told (before v s) x)) else Nothing in
     event_is v s now hears
     ∙ ap (λ b. if b then Nothing else if is_moved (before v s) x then event else other) (sym (ap (λ (w : View). is_closed w.state) at) ∙ alive)
@@ -219,7 +221,8 @@ moved_event v s now moved alive =
 pub begins_at_opening : (v : View) (s : Segment) (now : Moment) → is_opening v.state ≡ true → (after_event v (Hears s now)).sending.una ≢ v.sending.una → is_closed (after_event v (Hears s now)).state ≡ false
     → (after_event v (Hears s now)).congestion ≡ initial_window v.congestion.control (after_event v (Hears s now)).sending.smss (after_event v (Hears s now)).resend.syn_resent
 begins_at_opening v s now opening moved alive =
-    window_by v (Hears s now) Begins (moved_event v s now moved alive ∙ ap (λ b. if b then Begins else acknowledged_signal (after_heard v s) (length v.sending.held - length (after_heard v s).sending.held)) opening)
+    let x = after_heard v s in
+    window_by v (Hears s now) Begins (moved_event v s now moved alive ∙ ap (λ b. if b then Begins else acknowledged_signal (told (before v s) x) (length v.sending.held - length x.sending.held) (reports_more (before v s) x)) opening)
 
 -- so many octets are held no longer as it acknowledges
 
@@ -274,19 +277,33 @@ heard_selects v s past_opening =
 abbrev Partial : View → View → Bool
 Partial v w = recovers_on v.congestion && nat_lt 0 w.resend.recover
 
+-- where a recovery goes on, no report counts
+pub quiet_on : (v : View) (s : Segment) → recovers_on v.congestion ≡ true → reports_more (before v s) (after_heard v s) ≡ false
+quiet_on v s on =
+    let more = reports_more (before v s) (after_heard v s) in
+    by (more ≡ false) more (λ is. clash (is_recovering v.congestion) (and_right (repairs v.congestion.control) (is_recovering v.congestion) on) (more_counts v s (after_heard v s) is).runs) (λ quiet. quiet)
+
+-- so it is one by what is left of it, and else none
+partial_told : (v : View) (s : Segment) (now : Moment) → (after_event v (Hears s now)).sending.una ≢ v.sending.una → Partial v (after_heard v s) ≡ Partial v (after_event v (Hears s now))
+partial_told v s now moved =
+    let x = after_heard v s in
+    let at = heard_is v s now (moved_hears v s now moved) in
+    let moves = is_moved_by v s (λ same. moved (ap (λ (w : View). w.sending.una) at ∙ same)) in
+    by (Partial v x ≡ Partial v (after_event v (Hears s now))) (recovers_on v.congestion)
+    (λ on. ap (λ r. recovers_on v.congestion && nat_lt 0 r) (sym (ap (λ (w : View). w.resend.recover) at ∙ recover_kept (before v s) x now moves (quiet_on v s on))))
+    (λ none. ap (λ b. b && nat_lt 0 x.resend.recover) none ∙ sym (ap (λ b. b && nat_lt 0 (after_event v (Hears s now)).resend.recover) none))
+
 acked_event : (v : View) (s : Segment) (now : Moment) (partial : Bool) → is_opening v.state ≡ false → (after_event v (Hears s now)).sending.una ≢ v.sending.una → is_closed (after_event v (Hears s now)).state ≡ false
     → Partial v (after_event v (Hears s now)) ≡ partial
-    → congestion_event_by v (Hears s now) ≡ (let n = length v.sending.held - length (after_heard v s).sending.held in if partial then (if selects v then Nothing else Counts (PartialAck n)) else Counts (NewAck n (outstanding (after_heard v s).sending)))
+    → congestion_event_by v (Hears s now) ≡ (let n = length v.sending.held - length (after_heard v s).sending.held in if partial then (if selects v then Nothing else Counts (PartialAck n)) else whole_signal (told (before v s) (after_heard v s)) n (reports_more (before v s) (after_heard v s)))
 acked_event v s now partial opened moved alive is =
     let x = after_heard v s in
     let n = length v.sending.held - length x.sending.held in
-    let at = heard_is v s now (moved_hears v s now moved) in
-    let moves = is_moved_by v s (λ same. moved (ap (λ (w : View). w.sending.una) at ∙ same)) in
-    let recover : (after_event v (Hears s now)).resend.recover ≡ x.resend.recover = ap (λ (w : View). w.resend.recover) at ∙ recover_kept (before v s) x now moves in
-    let told : (recovers_on x.congestion && nat_lt 0 x.resend.recover) ≡ partial = ap₂ (λ c r. recovers_on c && nat_lt 0 r) (window_kept v s) (sym recover) ∙ is in
+    let whole : Signal = whole_signal (told (before v s) x) n (reports_more (before v s) x) in
+    let part : (recovers_on x.congestion && nat_lt 0 x.resend.recover) ≡ partial = ap (λ c. recovers_on c && nat_lt 0 x.resend.recover) (window_kept v s) ∙ partial_told v s now moved ∙ is in
     let rules : selects x ≡ selects v = heard_selects v s (opened_tells v.state opened).0 in
-    moved_event v s now moved alive ∙ ap (λ b. if b then Begins else acknowledged_signal x n) opened
-    ∙ ap₂ (λ b r. if b then (if r then Nothing else Counts (PartialAck n)) else Counts (NewAck n (outstanding x.sending))) told rules
+    moved_event v s now moved alive ∙ ap (λ b. if b then Begins else acknowledged_signal (told (before v s) x) n (reports_more (before v s) x)) opened
+    ∙ ap₂ (λ b r. if b then (if r then Nothing else Counts (PartialAck n)) else whole) part rules
 
 -- what it counts for
 acked_octets : (v : View) (s : Segment) (now : Moment) → is_opening v.state ≡ false → (after_event v (Hears s now)).sending.una ≢ v.sending.una → is_closed (after_event v (Hears s now)).state ≡ false
@@ -299,12 +316,13 @@ acked_octets v s now opened moved alive =
     (frees v s opened (sym (ap (λ (w : View). is_closed w.state) at) ∙ alive) (λ same. moved (una ∙ same)) ∙ ap (λ n. min (past n v.sending.una) (length v.sending.held)) (sym una), sym (ap (λ (w : View). outstanding w.sending) at))
 
 pub counts_octets : (v : View) (s : Segment) (now : Moment) → is_opening v.state ≡ false → (after_event v (Hears s now)).sending.una ≢ v.sending.una → is_closed (after_event v (Hears s now)).state ≡ false
-    → (recovers_on v.congestion && nat_lt 0 (after_event v (Hears s now)).resend.recover) ≡ false
+    → is_report v s ≡ false → (recovers_on v.congestion && nat_lt 0 (after_event v (Hears s now)).resend.recover) ≡ false
     → (after_event v (Hears s now)).congestion ≡ after_new_ack v.congestion (min (past (after_event v (Hears s now)).sending.una v.sending.una) (length v.sending.held)) (outstanding (after_event v (Hears s now)).sending)
-counts_octets v s now opened moved alive whole =
+counts_octets v s now opened moved alive quiet whole =
     let n = length v.sending.held - length (after_heard v s).sending.held in
     let counts = acked_octets v s now opened moved alive in
-    window_by v (Hears s now) (Counts (NewAck n (outstanding (after_heard v s).sending))) (acked_event v s now false opened moved alive whole)
+    window_by v (Hears s now) (Counts (NewAck n (outstanding (after_heard v s).sending)))
+    (acked_event v s now false opened moved alive whole ∙ ap (whole_signal (told (before v s) (after_heard v s)) n) quiet)
     ∙ ap₂ (after_new_ack v.congestion) counts.0 counts.1
 
 pub counts_partly : (v : View) (s : Segment) (now : Moment) → is_opening v.state ≡ false → (after_event v (Hears s now)).sending.una ≢ v.sending.una → is_closed (after_event v (Hears s now)).state ≡ false
@@ -324,45 +342,71 @@ counts_no_part v s now opened moved alive goes rules =
 
 -- A report that counts.
 
-pub counts_report : (v : View) (s : Segment) (now : Moment) → is_closed (after_event v (Hears s now)).state ≡ false → is_report v s ≡ true → is_counted_duplicate v s ≡ false → (is_closed v.state || is_rejected v s) ≡ false
+-- what it makes of the window, where it tells a loss and where it doesn't
+report_makes : (c : Window) (flight : ℕ) (loss : Bool) → after_window_event c (if loss then Loss flight else Duplicate flight) ≡ (if loss then after_loss c flight else after_duplicate c flight)
+report_makes c flight true = refl
+report_makes c flight false = refl
+
+-- it counts alone where it moves nothing
+pub counts_report : (v : View) (s : Segment) (now : Moment) → (after_event v (Hears s now)).sending.una ≡ v.sending.una → is_closed (after_event v (Hears s now)).state ≡ false → is_report v s ≡ true → is_counted_duplicate v s ≡ false → (is_closed v.state || is_rejected v s) ≡ false
     → (after_event v (Hears s now)).congestion ≡ (let flight = outstanding (after_heard v s).sending in if reports_loss v s then after_loss v.congestion flight else after_duplicate v.congestion flight)
-counts_report v s now alive is other hears =
+counts_report v s now same alive is other hears =
     let b = before v s in
     let x = after_heard v s in
     let at = heard_is v s now hears in
     let flight = outstanding x.sending in
-    let still : is_moved b x ≡ false = not_true (is_moved b x) (and_left (not (is_moved b x)) (reports_more b x) is) in
+    let still : is_moved b x ≡ false = ap not (eq-eqb v.sending.una x.sending.una (sym same ∙ ap (λ (w : View). w.sending.una) at)) in
     let tells : Signal = if reports_more b x then Counts (report_event (told b x)) else Nothing in
     let repeats : Signal = if is_counted_duplicate v s then Counts (Duplicate flight) else tells in
-    let acked : Signal = if is_opening v.state then Begins else acknowledged_signal x (length v.sending.held - length x.sending.held) in
+    let acked : Signal = if is_opening v.state then Begins else acknowledged_signal (told b x) (length v.sending.held - length x.sending.held) (reports_more b x) in
     window_by v (Hears s now) (Counts (report_event (told b x)))
     (event_is v s now hears
     ∙ ap (λ t. if t then Nothing else if is_moved b x then acked else repeats) (sym (ap (λ (w : View). is_closed w.state) at) ∙ alive)
     ∙ ap (λ t. if t then acked else repeats) still
     ∙ ap (λ t. if t then Counts (Duplicate flight) else tells) other
-    ∙ ap (λ t. if t then Counts (report_event (told b x)) else Nothing) (and_right (not (is_moved b x)) (reports_more b x) is))
-    ∙ chosen (tells_loss (told b x)) (after_event v (Hears s now)).sending.smss (after_event v (Hears s now)).resend.syn_resent
-    ∙ ap (λ t. if t && tells_loss (told b x) then after_loss v.congestion flight else after_duplicate v.congestion flight) (sym is)
-  where
-    chosen : (loss : Bool) (smss : ℕ) (resent : Bool) → (let flight = outstanding (after_heard v s).sending in after_signal v.congestion (Counts (if loss then Loss flight else Duplicate flight)) smss resent)
-        ≡ (let flight = outstanding (after_heard v s).sending in if loss then after_loss v.congestion flight else after_duplicate v.congestion flight)
-    chosen true smss resent = refl
-    chosen false smss resent = refl
+    ∙ ap (λ t. if t then Counts (report_event (told b x)) else Nothing) is)
+    ∙ report_makes v.congestion flight (tells_loss (told b x))
+    ∙ ap (λ t. if t then after_loss v.congestion flight else after_duplicate v.congestion flight) (sym (ap₂ (λ t w. t && tells_loss w) is (told_still b x still)))
+
+-- .. and else behind the ACK
+pub counts_both : (v : View) (s : Segment) (now : Moment) → (after_event v (Hears s now)).sending.una ≢ v.sending.una → is_closed (after_event v (Hears s now)).state ≡ false → is_report v s ≡ true
+    → (after_event v (Hears s now)).congestion
+    ≡ (let flight = outstanding (after_event v (Hears s now)).sending in let c = after_new_ack v.congestion (min (past (after_event v (Hears s now)).sending.una v.sending.una) (length v.sending.held)) flight in
+    if reports_loss v s then after_loss c flight else after_duplicate c flight)
+counts_both v s now moved alive is =
+    let b = before v s in
+    let x = after_heard v s in
+    let w = after_event v (Hears s now) in
+    let n = length v.sending.held - length x.sending.held in
+    let flight = outstanding x.sending in
+    let at = heard_is v s now (moved_hears v s now moved) in
+    let moves = is_moved_by v s (λ same. moved (ap (λ (u : View). u.sending.una) at ∙ same)) in
+    let opened = more_opened v s x is in
+    let runs : recovers_on v.congestion ≡ false = ap (λ t. repairs v.congestion.control && t) (more_counts v s x is).runs ∙ and_false (repairs v.congestion.control) in
+    let acked = after_new_ack v.congestion n flight in
+    let loss = tells_loss (behind_ack (told b x) n) in
+    let counts = acked_octets v s now opened moved alive in
+    window_by v (Hears s now) (Both (NewAck n flight) (if loss then Loss flight else Duplicate flight))
+    (acked_event v s now false opened moved alive (ap (λ t. t && nat_lt 0 w.resend.recover) runs) ∙ ap (whole_signal (told b x) n) is)
+    ∙ report_makes acked flight loss
+    ∙ ap (λ t. if t then after_loss acked flight else after_duplicate acked flight) (sym (ap₂ (λ t u. t && tells_loss u) is (told_moved b x moves)))
+    ∙ ap₂ (λ octets f. let c = after_new_ack v.congestion octets f in if reports_loss v s then after_loss c f else after_duplicate c f) counts.0 counts.1
 
 pub counts_duplicate : (v : View) (s : Segment) (now : Moment) → IsSound v → IsDuplicate v s → counts_duplicates v ≡ true → (after_event v (Hears s now)).congestion ≡ after_duplicate v.congestion (past v.sending.nxt v.sending.una)
 counts_duplicate v s now sound d counts =
     let lives = flies_open v sound (numbers_out v d.outstanding) in
     let opened = opened_tells v.state d.opened in
     let hears : (is_closed v.state || is_rejected v s) ≡ false = ap (λ b. b || is_rejected v s) lives ∙ not_rejected v s opened.0 opened.1 in
-    let told = after_window v s in
+    let seen = after_window v s in
     let stays = window_stays v s in
-    let same : (v.sending.una == told.sending.una) ≡ true = eq-eqb v.sending.una told.sending.una (sym stays.0) in
+    let same : (v.sending.una == seen.sending.una) ≡ true = eq-eqb v.sending.una seen.sending.una (sym stays.0) in
+    let acked : Signal = if is_opening v.state then Begins else acknowledged_signal (told (before v s) seen) (length v.sending.held - length seen.sending.held) (reports_more (before v s) seen) in
     window_by v (Hears s now) (Counts (Duplicate (past v.sending.nxt v.sending.una)))
     (event_is v s now hears
     ∙ ap (congestion_event_of (before v s)) (only_window v s sound d)
-    ∙ ap (λ b. if b then Nothing else if is_moved (before v s) told then (if is_opening v.state then Begins else acknowledged_signal told (length v.sending.held - length told.sending.held)) else repeated told) lives
-    ∙ ap (λ b. if not b then (if is_opening v.state then Begins else acknowledged_signal told (length v.sending.held - length told.sending.held)) else repeated told) same
-    ∙ ap (λ b. if b then Counts (Duplicate (outstanding told.sending)) else reported told) (both (is_duplicate v s) (counts_duplicates v) (is_repeated v s sound d) counts)
+    ∙ ap (λ b. if b then Nothing else if is_moved (before v s) seen then acked else repeated seen) lives
+    ∙ ap (λ b. if not b then acked else repeated seen) same
+    ∙ ap (λ b. if b then Counts (Duplicate (outstanding seen.sending)) else reported seen) (both (is_duplicate v s) (counts_duplicates v) (is_repeated v s sound d) counts)
     ∙ ap₂ (λ n u. Counts (Duplicate (past n u))) stays.1 stays.0)
   where
     reported : View → Signal
@@ -415,7 +459,7 @@ others_count_none v (Hears s now) =
     (λ stays. either Signal (λ g. (g ≡ Nothing → G) → G) (is_counted_duplicate v s) (Counts (Duplicate (outstanding x.sending))) _
     (λ twice how. tells alive (inr (inl (duplicate_tells v s (and_left (is_duplicate v s) (counts_duplicates v) twice), and_right (is_duplicate v s) (counts_duplicates v) twice))))
     (λ other. either Signal (λ g. (g ≡ Nothing → G) → G) (reports_more (before v s) x) (Counts (report_event (told (before v s) x))) Nothing
-    (λ more how. tells alive (inr (inr (both (not (is_moved (before v s) x)) (reports_more (before v s) x) (ap not stays) more)))) (λ quiet how. how refl)))) none)
+    (λ more how. tells alive (inr (inr more))) (λ quiet how. how refl)))) none)
 others_count_none v (Ticks now) =
     by (((after_event v (Ticks now)).congestion ≡ v.congestion) ⊎ Tells v (Ticks now) (after_event v (Ticks now))) (has_come v.timers.retransmission now)
     (λ comes. inr (inr (now, refl, comes)))

@@ -18,10 +18,10 @@ use Rattle.tcp_state.specs.View.{View, opened_actively, is_opening, is_syn_sent,
 use Rattle.tcp_state.specs.Resend.{Resend, stopped, mark_past, mark_moved, unmarked, resend_acknowledged, resend_first, resend_lost, resend_ends}
 use Rattle.congestion.specs.Control.{repairs, is_selective}
 use Rattle.congestion.specs.Window.{Window, is_recovering, goes_on, third_is_next}
-use Rattle.congestion.specs.Events.{Event}
+use Rattle.congestion.specs.Events.{Event, after_event}
 use Rattle.congestion.specs.Events.Event.{NewAck, PartialAck, Duplicate, Loss}
 use Rattle.tcp_state.specs.Congestion.{Signal, after_signal}
-use Rattle.tcp_state.specs.Congestion.Signal.{Begins, Counts, Nothing}
+use Rattle.tcp_state.specs.Congestion.Signal.{Begins, Counts, Both, Nothing}
 use Rattle.tcp_state.specs.Timing.{probes, clocked}
 use Rattle.retransmit.specs.Deadlines.{no_timers}
 use Rattle.stream_buf.specs.declared.ranges.Range.{Range}
@@ -314,7 +314,7 @@ resend_heard b w now =
     else if b.answers_probe then record w.resend { expiries = 0 }
     else w.resend
 
--- What the segment reports joins what was reported, of what is outstanding still. Octets that nothing reported before make it a duplicate ACK, whatever else it brings (RFC 6675 section 2); one that moves SND.UNA counts as that alone.
+-- What the segment reports joins what was reported, of what is outstanding still. Octets that nothing reported before make it a duplicate ACK, whatever else it brings (RFC 6675 section 2).
 abbrev pub reported_by : Before → View → List Range
 reported_by b w = with_blocks w.resend.reported w.sending b.blocks
 
@@ -327,15 +327,10 @@ resend_told b w now = record (resend_heard b w now) { reported = reported_by b w
 abbrev pub reports_more : Before → View → Bool
 reports_more b w = b.counts_reports && nat_lt (covered w.resend.reported) (covered (reported_by b w))
 
--- An ACK of so many new octets: a partial one where a recovery goes on, and some of what was outstanding at its beginning still is (RFC 6582 section 3.2, step 3). In a recovery that reports rule that is nothing to the window: what is in the
+-- A partial ACK comes where a recovery goes on, and some of what was outstanding at its beginning still is (RFC 6582 section 3.2, step 3). In a recovery that reports rule that is nothing to the window: what is in the
 -- network is counted by reports (RFC 6675 section 5).
 abbrev pub is_partial : View → Bool
 is_partial w = goes_on w.congestion && nat_lt 0 w.resend.recover
-
-abbrev pub acknowledged_signal : View → ℕ → Signal
-acknowledged_signal w octets =
-    if is_partial w then (if selects w then Nothing else Counts (PartialAck octets))
-    else Counts (NewAck octets (outstanding w.sending))
 
 -- The third report that counts tells a loss, or one by which what is at SND.UNA is lost (RFC 6675 section 5, steps 1 and 2).
 abbrev pub tells_loss : View → Bool
@@ -344,11 +339,21 @@ tells_loss w = third_is_next w.congestion || nat_lt 0 (loss_end w)
 abbrev pub report_event : View → Event
 report_event w = if tells_loss w then Loss (outstanding w.sending) else Duplicate (outstanding w.sending)
 
--- What a segment that was heard is to the congestion window: its beginning, where it acknowledges our SYN; an ACK of new octets; or a duplicate one or a report that counts. To what is CLOSED it is nothing.
+-- An ACK of so many new octets that is no partial one. Where it is a report which counts, too, that counts behind it.
+abbrev pub behind_ack : View → ℕ → View
+behind_ack w octets = record w { congestion = after_event w.congestion (NewAck octets (outstanding w.sending)) }
+
+abbrev pub whole_signal : View → ℕ → Bool → Signal
+whole_signal w octets more = let ack = NewAck octets (outstanding w.sending) in if more then Both ack (report_event (behind_ack w octets)) else Counts ack
+
+abbrev pub acknowledged_signal : View → ℕ → Bool → Signal
+acknowledged_signal w octets more = if is_partial w then (if selects w then Nothing else Counts (PartialAck octets)) else whole_signal w octets more
+
+-- What a segment that was heard is to the congestion window: its beginning, where it acknowledges our SYN; an ACK of new octets; or a duplicate one or a report that counts, which an ACK of new octets may be, too. To what is CLOSED it is nothing.
 abbrev pub signal_of : Before → View → Bool → Signal
 signal_of b w more =
     if is_closed w.state then Nothing
-    else if is_moved b w then (if is_opening b.state then Begins else acknowledged_signal w (b.held - length w.sending.held))
+    else if is_moved b w then (if is_opening b.state then Begins else acknowledged_signal w (b.held - length w.sending.held) more)
     else if b.is_duplicate then Counts (Duplicate (outstanding w.sending))
     else if more then Counts (report_event w)
     else Nothing
@@ -356,20 +361,28 @@ signal_of b w more =
 abbrev pub congestion_event_of : Before → View → Signal
 congestion_event_of b w = signal_of b (told b w) (reports_more b w)
 
--- a segment that is a report which counts, and one that tells a loss
+-- a segment that is a report which counts; and one that tells a loss, behind the ACK of new octets that it may be, too
 abbrev pub is_report : View → Segment → Bool
-is_report v s = not (is_moved (before v s) (after_heard v s)) && reports_more (before v s) (after_heard v s)
+is_report v s = reports_more (before v s) (after_heard v s)
+
+abbrev pub told_behind : Before → View → View
+told_behind b w = if is_moved b w then behind_ack (told b w) (b.held - length w.sending.held) else told b w
 
 abbrev pub reports_loss : View → Segment → Bool
-reports_loss v s = is_report v s && tells_loss (told (before v s) (after_heard v s))
+reports_loss v s = is_report v s && tells_loss (told_behind (before v s) (after_heard v s))
 
 -- The third duplicate ACK in a row tells that the segment at SND.UNA is lost (RFC 5681 section 3.2), and a partial ACK that the next one is, too (RFC 6582 section 3.2, step 3): it goes out again. So it does
 -- where reports tell that it is lost; and behind it what else they tell of, up to the end of that recovery (RFC 6675 section 5).
+abbrev pub resend_counted : Resend → Event → Window → ℕ → Resend
+resend_counted p (Duplicate flight) window outstanding = if third_is_next window then resend_lost p (repairs window.control) outstanding else p
+resend_counted p (Loss flight) window outstanding = resend_lost p true outstanding
+resend_counted p (PartialAck octets) window outstanding = resend_first p outstanding
+resend_counted p (NewAck octets flight) window outstanding = if is_selective window.control && is_recovering window then resend_ends p else p
+resend_counted p _ window outstanding = p
+
 abbrev pub resend_signalled : Resend → Signal → Window → ℕ → Resend
-resend_signalled p (Counts (Duplicate flight)) window outstanding = if third_is_next window then resend_lost p (repairs window.control) outstanding else p
-resend_signalled p (Counts (Loss flight)) window outstanding = resend_lost p true outstanding
-resend_signalled p (Counts (PartialAck octets)) window outstanding = resend_first p outstanding
-resend_signalled p (Counts (NewAck octets flight)) window outstanding = if is_selective window.control && is_recovering window then resend_ends p else p
+resend_signalled p (Counts event) window outstanding = resend_counted p event window outstanding
+resend_signalled p (Both first behind) window outstanding = resend_counted (resend_counted p first window outstanding) behind (after_event window first) outstanding
 resend_signalled p _ window outstanding = p
 
 abbrev pub resend_after : Before → View → Moment → Resend

@@ -10,12 +10,15 @@ pub data Signal : Type 0 where
   Begins : Signal
   -- one more event
   Counts : Event → Signal
+  -- one event, and behind it another
+  Both : Event → Event → Signal
   Nothing : Signal
 
 -- with segments of this size, and where our SYN went out again after an expiry or not
 abbrev pub after_signal : Window → Signal → ℕ → Bool → Window
 after_signal w Begins smss resent = initial_window w.control smss resent
 after_signal w (Counts event) smss resent = after_event w event
+after_signal w (Both first behind) smss resent = after_event (after_event w first) behind
 after_signal w Nothing smss resent = w
 
 -- The window is one that events lead to, and counts in segments of the size that the peer takes. So it is for each connection after each event.

@@ -2,9 +2,9 @@
 
 ghost use Rattle.std.specs.Prelude.{◌≡◌, ◌≤◌, ◌-◌, [], length, min, true, false, ◌&&◌, ◌||◌, not, if◌then◌else◌, IsTrue, ◌==◌};
 ghost use Rattle.tcp_state.specs.View.{is_opening, is_syn_sent, is_syn_received, is_closed, awaits_fin_ack, after_reset};
-ghost use Rattle.tcp_state.specs.Arrival.{after_segment, scales_with, after_first_syn, after_syn_ack, owing_ack, after_establishment, after_ack, is_read_on, after_window, after_text, after_acknowledging_segment, after_acceptable_segment, ends_by_syn, is_acceptable_to, fin_acknowledged, after_new_ack, after_fin, reset_error, after_rst_in_syn_sent, after_rst, is_acting_reset, ends_by_reset, is_right_syn_ack, is_simultaneous_syn, after_simultaneous_syn, fate, after_segment_at, after_heard, is_lost, is_read, brings_more, after_lost, repeats_fin, is_rejected, ends_opening, is_of_fin, may_delay, answers_probe, octets_outstanding, is_duplicate, counts_duplicates, before, is_moved, resend_heard, signal_of, report_event, resend_signalled, timed_by, begins_wait};
+ghost use Rattle.tcp_state.specs.Arrival.{after_segment, scales_with, after_first_syn, after_syn_ack, owing_ack, after_establishment, after_ack, is_read_on, after_window, after_text, after_acknowledging_segment, after_acceptable_segment, ends_by_syn, is_acceptable_to, fin_acknowledged, after_new_ack, after_fin, reset_error, after_rst_in_syn_sent, after_rst, is_acting_reset, ends_by_reset, is_right_syn_ack, is_simultaneous_syn, after_simultaneous_syn, fate, after_segment_at, after_heard, is_lost, is_read, brings_more, after_lost, repeats_fin, is_rejected, ends_opening, is_of_fin, may_delay, answers_probe, octets_outstanding, is_duplicate, counts_duplicates, before, is_moved, resend_heard, signal_of, report_event, whole_signal, resend_signalled, timed_by, begins_wait};
 ghost use Rattle.congestion.specs.Events.{after_event};
-ghost use Rattle.congestion.specs.Events.Event.{NewAck, PartialAck, Duplicate};
+ghost use Rattle.congestion.specs.Events.Event.{PartialAck, Duplicate};
 ghost use Rattle.congestion.specs.Control.{is_selective};
 ghost use Rattle.congestion.specs.Window.{is_recovering};
 ghost use Rattle.tcp_halves.specs.Stream.{after_octets};
@@ -165,7 +165,7 @@ impl Connection {
             return;
         }
         if moved {
-            self.note_acknowledged(before);
+            self.note_acknowledged(before, reports_more);
         } else if before.is_duplicate {
             self.note_duplicate();
         } else if reports_more {
@@ -202,13 +202,13 @@ impl Connection {
         self.resend.mark_lost(true, outstanding);
     }
 
-    /// The congestion window begins where our SYN is acknowledged, and else takes the octets that are.
-    fn note_acknowledged(&mut self, before: &Before)
+    /// The congestion window begins where our SYN is acknowledged, and else takes the octets that are, and behind them what is reported.
+    fn note_acknowledged(&mut self, before: &Before, reports_more: bool)
         requires moved { is_moved before.now self.old ≡ true }
         requires open { is_closed self.old.state ≡ false }
         ensures { self.new ≡ record self.old {
-          resend = resend_signalled self.old.resend (signal_of before.now self.old false) self.old.congestion (outstanding self.old.sending);
-          congestion = after_signal self.old.congestion (signal_of before.now self.old false) self.old.sending.smss self.old.resend.syn_resent;
+          resend = resend_signalled self.old.resend (signal_of before.now self.old reports_more) self.old.congestion (outstanding self.old.sending);
+          congestion = after_signal self.old.congestion (signal_of before.now self.old reports_more) self.old.sending.smss self.old.resend.syn_resent;
         } }
     {
         if before.state.is_opening() {
@@ -220,7 +220,7 @@ impl Connection {
         if self.is_partial() {
             self.note_partial(octets);
         } else {
-            self.note_whole(octets);
+            self.note_whole(octets, reports_more);
         }
     }
 
@@ -234,15 +234,18 @@ impl Connection {
         }
     }
 
-    /// An ACK of so many new octets came that ends the recovery, if one runs.
-    fn note_whole(&mut self, octets: u32)
+    /// An ACK of so many new octets came that ends the recovery, if one runs; what it reports counts behind it.
+    fn note_whole(&mut self, octets: u32, reports_more: bool)
         ensures { self.new ≡ record self.old {
-          resend = resend_signalled self.old.resend (Counts (NewAck octets (outstanding self.old.sending))) self.old.congestion (outstanding self.old.sending);
-          congestion = after_event self.old.congestion (NewAck octets (outstanding self.old.sending));
+          resend = resend_signalled self.old.resend (whole_signal self.old octets reports_more) self.old.congestion (outstanding self.old.sending);
+          congestion = after_signal self.old.congestion (whole_signal self.old octets reports_more) self.old.sending.smss self.old.resend.syn_resent;
         } }
     {
         self.end_repair();
         self.congestion.acked(octets, self.sender.outstanding());
+        if reports_more {
+            self.note_report();
+        }
     }
 
     /// A recovery is over, if one runs; where reports ruled it, nothing goes out again by its mark.

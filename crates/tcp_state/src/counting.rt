@@ -61,21 +61,24 @@ pub fn sizes_are_the_peers()
 {}
 
 /// What an event is to the congestion window (RFC 5681 sections 2, 3.1 and 3.2, RFC 6582 section 3.2). Where our SYN is acknowledged, the window begins; later an acknowledgement that moves SND.UNA counts for as many
-/// octets as it acknowledges, so without our FIN, and is a partial one where a recovery goes on whose end it doesn't reach, and reports don't rule; a duplicate one, where it moves nothing and counts, or a report that counts; and an expiry of the retransmission timer. No
+/// octets as it acknowledges, so without our FIN, and is a partial one where a recovery goes on whose end it doesn't reach, and reports don't rule; a duplicate one, where it moves nothing and counts, or a report that counts, which counts behind the acknowledgement where it comes with one (RFC 6675 section 2); and an expiry of the retransmission timer. No
 /// other event moves the window, nor one that ends the connection.
 pub fn the_congestion_window_counts_octets()
     ensures begins { (v : View) (s : Segment) (now : Moment) → is_opening v.state ≡ true → (after_event v (Event.Hears s now)).sending.una ≢ v.sending.una → is_closed (after_event v (Event.Hears s now)).state ≡ false
         → (after_event v (Event.Hears s now)).congestion ≡ initial_window v.congestion.control (after_event v (Event.Hears s now)).sending.smss (after_event v (Event.Hears s now)).resend.syn_resent }
     ensures acknowledged { (v : View) (s : Segment) (now : Moment) → is_opening v.state ≡ false → (after_event v (Event.Hears s now)).sending.una ≢ v.sending.una → is_closed (after_event v (Event.Hears s now)).state ≡ false
-        → (goes_on v.congestion && nat_lt 0 (after_event v (Event.Hears s now)).resend.recover) ≡ false
+        → is_report v s ≡ false → (goes_on v.congestion && nat_lt 0 (after_event v (Event.Hears s now)).resend.recover) ≡ false
         → (after_event v (Event.Hears s now)).congestion ≡ after_new_ack v.congestion (min (past (after_event v (Event.Hears s now)).sending.una v.sending.una) (length v.sending.held)) (outstanding (after_event v (Event.Hears s now)).sending) }
     ensures partly { (v : View) (s : Segment) (now : Moment) → is_opening v.state ≡ false → (after_event v (Event.Hears s now)).sending.una ≢ v.sending.una → is_closed (after_event v (Event.Hears s now)).state ≡ false
         → (goes_on v.congestion && nat_lt 0 (after_event v (Event.Hears s now)).resend.recover) ≡ true → selects v ≡ false
         → (after_event v (Event.Hears s now)).congestion ≡ after_partial_ack v.congestion (min (past (after_event v (Event.Hears s now)).sending.una v.sending.una) (length v.sending.held)) }
     ensures ruled { (v : View) (s : Segment) (now : Moment) → is_opening v.state ≡ false → (after_event v (Event.Hears s now)).sending.una ≢ v.sending.una → is_closed (after_event v (Event.Hears s now)).state ≡ false
         → (goes_on v.congestion && nat_lt 0 (after_event v (Event.Hears s now)).resend.recover) ≡ true → selects v ≡ true → (after_event v (Event.Hears s now)).congestion ≡ v.congestion }
-    ensures reported { (v : View) (s : Segment) (now : Moment) → is_closed (after_event v (Event.Hears s now)).state ≡ false → is_report v s ≡ true → is_counted_duplicate v s ≡ false → (is_closed v.state || is_rejected v s) ≡ false
+    ensures reported { (v : View) (s : Segment) (now : Moment) → (after_event v (Event.Hears s now)).sending.una ≡ v.sending.una → is_closed (after_event v (Event.Hears s now)).state ≡ false → is_report v s ≡ true → is_counted_duplicate v s ≡ false → (is_closed v.state || is_rejected v s) ≡ false
         → (after_event v (Event.Hears s now)).congestion ≡ (let flight = outstanding (after_heard v s).sending in if reports_loss v s then after_loss v.congestion flight else after_duplicate v.congestion flight) }
+    ensures acknowledged_and_reported { (v : View) (s : Segment) (now : Moment) → (after_event v (Event.Hears s now)).sending.una ≢ v.sending.una → is_closed (after_event v (Event.Hears s now)).state ≡ false → is_report v s ≡ true
+        → (after_event v (Event.Hears s now)).congestion ≡ (let flight = outstanding (after_event v (Event.Hears s now)).sending in let c = after_new_ack v.congestion (min (past (after_event v (Event.Hears s now)).sending.una v.sending.una) (length v.sending.held)) flight in
+        if reports_loss v s then after_loss c flight else after_duplicate c flight) }
     ensures duplicate { (v : View) (s : Segment) (now : Moment) → IsSound v → IsDuplicate v s → counts_duplicates v ≡ true → (after_event v (Event.Hears s now)).congestion ≡ after_duplicate v.congestion (past v.sending.nxt v.sending.una) }
     ensures expired { (v : View) (now : Moment) → has_come v.timers.retransmission now ≡ true → is_closed (after_event v (Event.Ticks now)).state ≡ false
         → (after_event v (Event.Ticks now)).congestion ≡ after_expiry v.congestion (past v.sending.nxt v.sending.una) }

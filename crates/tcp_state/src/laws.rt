@@ -292,7 +292,7 @@ pub fn the_congestion_window_is_kept()
     ensures least { (v : View) → KeepsCongestion v → (is_opening v.state || is_closed v.state) ≡ false → v.sending.smss ≤ v.congestion.cwnd }
 {}
 
-/// Each event of a connection is one event of its congestion window, or none (RFC 5681 sections 3.1 and 3.2): an ACK of new octets, a duplicate one, or the expiry of the retransmission timer. The window begins
+/// Each event of a connection is one event of its congestion window, two where an ACK of new octets also reports, or none (RFC 5681 sections 3.1 and 3.2, RFC 6675 section 2): an ACK of new octets, a duplicate one, or the expiry of the retransmission timer. The window begins
 /// where our SYN is acknowledged: with one segment where that expired and went out again.
 pub fn the_congestion_window_moves_by_events()
     ensures { (v : View) (e : Event) → (after_event v e).congestion ≡ after_signal v.congestion (congestion_event_by v e) (after_event v e).sending.smss (after_event v e).resend.syn_resent }

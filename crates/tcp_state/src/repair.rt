@@ -4,6 +4,7 @@ ghost use Rattle.std.specs.Prelude.{◌≡◌, ℕ, ◌+◌, ◌<◌, ◌≤◌,
 ghost use Rattle.ipv4.specs.declared.addr.Endpoint.{Endpoint};
 ghost use Rattle.clock.specs.declared.moment.Moment.{Moment};
 ghost use Rattle.clock.specs.Moments.{has_come};
+ghost use Rattle.stream_buf.specs.Ranges.{covered};
 ghost use Rattle.stream_buf.specs.Scoreboard.{is_reported, is_lost};
 ghost use Rattle.congestion.specs.Window.{is_recovering};
 ghost use Rattle.tcp_segment.specs.Segment.{Segment};
@@ -12,7 +13,7 @@ ghost use Rattle.tcp_halves.specs.Stream.{outstanding};
 ghost use Rattle.tcp_state.specs.declared.emission.Due.{Due};
 ghost use Rattle.tcp_state.specs.declared.emission.Stretch.{Stretch};
 ghost use Rattle.tcp_state.specs.View.{View, IsSound, is_opening, is_closed, opened_actively};
-ghost use Rattle.tcp_state.specs.Timing.{KeepsTime};
+ghost use Rattle.tcp_state.specs.Timing.{KeepsTime, probes};
 ghost use Rattle.tcp_state.specs.Selective.{selects, repairs_gaps, counts_pipe, pipe, allowance};
 ghost use Rattle.tcp_state.specs.Due.{first_due, again, is_missing, numbers_of};
 ghost use Rattle.tcp_state.specs.Arrival.{opened_passively, is_counted_duplicate, is_rejected, reports_loss, after_heard};
@@ -35,7 +36,14 @@ pub fn nothing_is_reported_unasked()
 /// A report that tells the loss of what is at SND.UNA begins a recovery up to all that is outstanding, and sends that first segment again, whatever is in the network (RFC 6675 section 5, steps 4.1 and 4.3).
 pub fn reports_tell_losses()
     ensures { (v : View) (s : Segment) (now : Moment) → IsSound v → reports_loss v s ≡ true → is_counted_duplicate v s ≡ false → (is_closed v.state || is_rejected v s) ≡ false → is_closed (after_event v (Event.Hears s now)).state ≡ false
-        → let w = after_event v (Event.Hears s now) in (w.resend.recover ≡ outstanding w.sending) × (w.resend.once ≡ true) × (is_recovering w.congestion ≡ true) }
+        → let w = after_event v (Event.Hears s now) in (first_due w ≡ Some (Due.Text (again w 0))) × (w.resend.recover ≡ outstanding w.sending) × (w.resend.once ≡ true) × (is_recovering w.congestion ≡ true) }
+{}
+
+/// A segment that reports octets which nothing reported counts as a duplicate ACK, whatever else it brings (RFC 6675 section 2): outside a recovery, where all is acknowledged that was outstanding when the last one began or the timer expired, and no closed window
+/// is probed. So an ACK of new octets that reports is the first of those that count behind it.
+pub fn what_reports_counts_as_a_duplicate()
+    ensures { (v : View) (s : Segment) (now : Moment) → (is_closed v.state || is_rejected v s) ≡ false → is_recovering v.congestion ≡ false → v.resend.recover ≡ 0 → probes v ≡ false
+        → let w = after_event v (Event.Hears s now) in is_closed w.state ≡ false → covered (let x = after_heard v s in x.resend.reported) < covered w.resend.reported → 0 < w.congestion.duplicates }
 {}
 
 /// In a recovery that reports rule, what goes out again is missing, but for the first segment, and the network has room for a segment beside what is in it; and so it has for new octets, in that recovery and outside of one (RFC 6675 section 5, step C). What is
