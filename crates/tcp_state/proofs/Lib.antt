@@ -61,6 +61,7 @@ pub mod PeerSizes
 pub mod Signals
 pub mod Scores
 pub mod Repairs
+pub mod InNetwork
 pub mod Timeouts
 pub mod StillStreams
 pub mod Measuring

@@ -27,7 +27,7 @@ use Rattle.tcp_state.specs.View.{View, IsSound, is_opening, is_closed}
 use Rattle.tcp_state.specs.Congestion.{Signal, after_signal}
 use Rattle.tcp_state.specs.Congestion.Signal.{Begins, Counts, Both, Nothing}
 use Rattle.tcp_state.specs.New.{sends_new, sends_fin}
-use Rattle.tcp_state.specs.Selective.{selects, repairs_gaps, counts_pipe, loss_end, pipe, allowance, place_of, with_blocks}
+use Rattle.tcp_state.specs.Selective.{selects, repairs_gaps, counts_pipe, loss_end, pipe, allowance, place_of, with_blocks, repaired_end}
 use Rattle.tcp_state.specs.Due.{first_due, ack_due, new_due, again_from, again, again_at, is_missing, goes_by_reports, goes_by_windows, goes_again, new_octets, fin_alone, end_of, numbers_of}
 use Rattle.tcp_state.specs.Arrival.{is_receiving, beyond_fin, after_new_ack, after_ack, after_window, after_text, after_heard, before, is_moved, is_rejected, is_counted_duplicate, counts_reports, reported_by, reports_more, told, told_behind, behind_ack, is_partial, tells_loss, report_event, whole_signal, is_report, reports_loss, acknowledged_signal, congestion_event_of, resend_signalled, resend_told, resend_after, timed_by}
 use Rattle.tcp_state.specs.Edges.{Event, Hears, after_event}
@@ -326,9 +326,10 @@ lost_missing v place sound unreported_place lost =
 
 pub pipe_unreported : (v : View) → v.resend.reported ≡ [] → is_recovering v.congestion ≡ false → pipe v ≡ outstanding v.sending
 pipe_unreported v none runs =
-    let out = outstanding v.sending in
-    ap₂ (λ (rs : List Range) b. unreported rs out - unreported rs (lost_end v.sending.smss rs) + unreported rs (if b then unwrap_or v.resend.mark 0 else 0)) none runs
-    ∙ omega arith
+    let left : (place : ℕ) → unreported v.resend.reported place ≡ place = λ place. ap (λ rs. unreported rs place) none in
+    let lost : loss_end v ≡ 0 = ap (lost_end v.sending.smss) none in
+    let again : repaired_end v ≡ 0 = either ℕ (λ n. n ≡ 0) (is_recovering v.congestion) _ 0 (λ on. clash (is_recovering v.congestion) on runs) (λ off. refl) in
+    omega (arith, left (outstanding v.sending), left (loss_end v), left (repaired_end v), lost, again)
 
 pub allowance_unreported : (v : View) → v.resend.reported ≡ [] → is_recovering v.congestion ≡ false → counts_pipe v ≡ true → allowance v ≡ v.congestion.cwnd
 allowance_unreported v none runs counts =

@@ -10,6 +10,7 @@ pub mod Alive
 pub mod Reporting
 pub mod Congestion
 pub mod Selective
+pub mod Network
 pub mod New
 pub mod Timing
 pub mod Hop

@@ -15,6 +15,7 @@ ghost use Rattle.tcp_state.specs.declared.emission.Stretch.{Stretch};
 ghost use Rattle.tcp_state.specs.View.{View, IsSound, is_opening, is_closed, opened_actively};
 ghost use Rattle.tcp_state.specs.Timing.{KeepsTime, probes};
 ghost use Rattle.tcp_state.specs.Selective.{selects, repairs_gaps, counts_pipe, pipe, allowance};
+ghost use Rattle.tcp_state.specs.Network.{in_network};
 ghost use Rattle.tcp_state.specs.Due.{first_due, again, is_missing, numbers_of};
 ghost use Rattle.tcp_state.specs.Arrival.{opened_passively, is_counted_duplicate, is_rejected, reports_loss, after_heard};
 ghost use Rattle.tcp_state.specs.Edges.{Event, after_event};
@@ -55,4 +56,9 @@ pub fn the_network_has_room_for_it()
     ensures lost { (v : View) (place : ℕ) → IsSound v → is_reported v.resend.reported place ≡ false → is_lost v.sending.smss v.resend.reported place ≡ true → is_missing v place ≡ true }
     ensures unreported { (v : View) → v.resend.reported ≡ [] → is_recovering v.congestion ≡ false → pipe v ≡ outstanding v.sending }
     ensures window { (v : View) → v.resend.reported ≡ [] → is_recovering v.congestion ≡ false → counts_pipe v ≡ true → allowance v ≡ v.congestion.cwnd }
+{}
+
+/// What is in the network is counted place by place (RFC 6675 section 4, `SetPipe`): of the places that are outstanding and aren't reported, each once that isn't lost, and each once more that went out again.
+pub fn each_place_in_the_network_counts()
+    ensures { (v : View) → IsSound v → pipe v ≡ in_network v (outstanding v.sending) }
 {}
