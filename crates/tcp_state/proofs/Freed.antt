@@ -79,7 +79,7 @@ answering size _ held out e few most = cc
 syn_is_all : (own una ack first last nxt : ℕ) → first ≡ wire own una → last ≡ wire own ack → una < ack → ack ≤ una + past nxt first → past nxt first ≤ 1 → nxt < 2 ^ 32 → nxt ≡ last
 syn_is_all own una ack first last nxt f l above within one fits = omega (arith, f, l, above, within, one, fits)
 
-drop_none : (n : ℕ) (octets : List ℕ) → length octets ≡ 0 → octets ≡ drop n octets
+pub drop_none : (n : ℕ) (octets : List ℕ) → length octets ≡ 0 → octets ≡ drop n octets
 drop_none zero octets e = refl
 drop_none (suc n) [] e = refl
 drop_none (suc n) (x ∷ octets) e = absurd (omega (arith, e))

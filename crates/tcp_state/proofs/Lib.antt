@@ -62,6 +62,7 @@ pub mod Signals
 pub mod Scores
 pub mod Repairs
 pub mod InNetwork
+pub mod StillHeld
 pub mod Timeouts
 pub mod StillStreams
 pub mod Measuring

@@ -1,7 +1,7 @@
 -- Why what is reported is not sent again, and what reports let go out.
-use Rattle.std.proofs.Common.{◌≡◌, ℕ, ◌+◌, ◌-◌, ◌<◌, ◌≤◌, ◌==◌, ◌&&◌, ◌||◌, not, nat_lt, nat_le, min, true, false, if◌then◌else◌, List, [], ◌∷◌, length, Some, arith, refl, sym, ◌∙◌, ap, ap₂, subst, ◌⊎◌, inl, inr, Bool, None, is_some}
+use Rattle.std.proofs.Common.{◌≡◌, ℕ, ◌+◌, ◌-◌, ◌<◌, ◌≤◌, ◌==◌, ◌&&◌, ◌||◌, not, nat_lt, nat_le, min, true, false, if◌then◌else◌, List, [], ◌∷◌, length, Some, arith, refl, sym, ◌∙◌, ap, ap₂, subst, ◌⊎◌, inl, inr, Bool, None, is_some, ◌≢◌}
 use Rattle.std.specs.Option.{unwrap_or, option_or}
-use Rattle.std.proofs.lemmas.Bool.{leb-true, eqb-true, ltb-true, lt-ltb}
+use Rattle.std.proofs.lemmas.Bool.{leb-true, eqb-true, ltb-true, lt-ltb, le-ltb}
 use Rattle.std.proofs.lemmas.Bool.Decides.{leb_tells}
 use Rattle.stream_buf.specs.declared.ranges.Range.{Range}
 use Rattle.stream_buf.specs.Ranges.{AreApart, covered, with_range}
@@ -9,9 +9,9 @@ use Rattle.stream_buf.specs.declared.receive.TheConstants.{MOST_RANGES}
 use Rattle.stream_buf.specs.Scoreboard.{with_report, is_taken, is_reported, is_lost, unreported, lost_end, reported_end, passed}
 use Rattle.stream_buf.proofs.Reports.{gap_unreported, len_unreported, lost_before}
 use Rattle.congestion.specs.Control.{repairs, is_selective}
-use Rattle.congestion.specs.Window.{Window, is_recovering, goes_on, third_is_next, allowed, after_duplicate, after_third}
+use Rattle.congestion.specs.Window.{Window, is_recovering, goes_on, third_is_next, allowed, after_duplicate, after_third, after_loss}
 use Rattle.congestion.specs.Events.{Event as WindowEvent, after_event as after_window_event}
-use Rattle.congestion.specs.Events.Event.{NewAck, PartialAck, Duplicate, Loss}
+use Rattle.congestion.specs.Events.Event.{NewAck, PartialAck, Duplicate, Loss, Expiry}
 use Rattle.clock.specs.declared.moment.Moment.{Moment}
 use Rattle.tcp_segment.specs.declared.blocks.Block.{Block}
 use Rattle.tcp_segment.specs.Segment.{Segment}
@@ -23,19 +23,19 @@ use Rattle.tcp_state.specs.declared.arrival.Before.{Before}
 use Rattle.tcp_state.specs.declared.emission.Due.TheVariants.{Rst, Syn, Text}
 use Rattle.tcp_state.specs.declared.emission.Stretch.{Stretch}
 use Rattle.tcp_state.specs.Resend.{Resend, stopped, resend_lost, resend_ends}
-use Rattle.tcp_state.specs.View.{View, IsSound, is_opening, is_closed}
+use Rattle.tcp_state.specs.View.{View, IsSound, is_opening, is_closed, is_at_end}
 use Rattle.tcp_state.specs.Congestion.{Signal, after_signal}
 use Rattle.tcp_state.specs.Congestion.Signal.{Begins, Counts, Both, Nothing}
 use Rattle.tcp_state.specs.New.{sends_new, sends_fin}
 use Rattle.tcp_state.specs.Selective.{selects, repairs_gaps, counts_pipe, loss_end, pipe, allowance, place_of, with_blocks, repaired_end}
 use Rattle.tcp_state.specs.Due.{first_due, ack_due, new_due, again_from, again, again_at, is_missing, goes_by_reports, goes_by_windows, goes_again, new_octets, fin_alone, end_of, numbers_of}
 use Rattle.tcp_state.specs.Arrival.{is_receiving, beyond_fin, after_new_ack, after_ack, after_window, after_text, after_heard, before, is_moved, is_rejected, is_counted_duplicate, counts_reports, reported_by, reports_more, told, told_behind, behind_ack, is_partial, tells_loss, report_event, whole_signal, is_report, reports_loss, acknowledged_signal, congestion_event_of, resend_signalled, resend_told, resend_after, timed_by}
-use Rattle.tcp_state.specs.Edges.{Event, Hears, after_event}
+use Rattle.tcp_state.specs.Edges.{Event, Hears, after_event, Ticks, Emits, Sends, Receives, Shuts, SetsNoDelay, SetsKeepAlive, Closes, Aborts, Unreachable, LosesHop, congestion_event_by}
 use Rattle.tcp_state.proofs.Segments.{by_ack, by_fin, by_hearing}
 use Rattle.clock.specs.Moments.{has_come}
 use Rattle.tcp_state.specs.Alive.{after_silence}
-use Rattle.tcp_state.specs.Timing.{KeepsTime, probes, clocked, retransmission_expired, probe_expired, after_timers, after_tick}
-use Rattle.tcp_state.proofs.Clocked.{by_others, after_paced, told_moved, told_still}
+use Rattle.tcp_state.specs.Timing.{KeepsTime, probes, clocked, retransmission_expired, probe_expired, after_timers, after_tick, gives_up}
+use Rattle.tcp_state.proofs.Clocked.{by_others, after_paced, told_moved, told_still, signalled}
 use Rattle.tcp_state.proofs.Congestion.{window_kept}
 use Rattle.tcp_state.proofs.Places.{at_una_goes}
 use Rattle.tcp_state.proofs.Scores.{blocks_score, heard_scores}
@@ -45,7 +45,8 @@ use Rattle.tcp_state.proofs.Emissions.{by_due}
 use Rattle.tcp_state.proofs.Events.{by_event}
 use Rattle.tcp_state.proofs.NewNumbers.{keeps_window, keeps_cwnd}
 use Rattle.tcp_state.proofs.Selects.{silent_unselected, more_counts, more_opened}
-use Rattle.tcp_state.proofs.Signals.{event_is, window_by, heard_is}
+use Rattle.tcp_state.proofs.Signals.{event_is, window_by, heard_is, counts_report}
+use Rattle.tcp_state.proofs.Scores.{heard_leaves}
 
 -- No octet that goes out again is reported.
 
@@ -77,28 +78,7 @@ resent_unreported v stretch place sound first within from below = by_due (λ o. 
 -- Where reports aren't taken, none is.
 
 heard_none : (v : View) (s : Segment) → v.resend.reported ≡ [] → (let w = after_heard v s in w.resend.reported) ≡ []
-heard_none v s none =
-    let P : View → Type 0 = λ w. w.resend.reported ≡ [] in
-    let seen = after_window (after_ack v s.acknowledgement) s in
-    let gone = after_new_ack v s.acknowledgement in
-    let nearer : P gone = ap (passed (past s.acknowledgement v.sending.una)) none in
-    let acked : P (after_ack v s.acknowledgement) = by_ack P v s.acknowledgement (record {
-      old = none;
-      beyond = none;
-      opens = λ received new. refl;
-      octets = λ new. nearer;
-      fin = λ new fin. either Resend (λ p. p.reported ≡ []) (is_closed (beyond_fin v.state)) (stopped gone.resend) gone.resend (λ closed. refl) (λ lives. nearer);
-    }) in
-    let text : P (after_text seen s) = either View P ((length s.octets == 0) || not (is_receiving seen.state)) seen _ (λ quiet. acked) (λ some. acked) in
-    by_hearing P v s refl (record {
-      dropped = none;
-      drawn = none;
-      reset = λ acts. refl;
-      crossed = λ waits. none;
-      opened = λ waits right. refl;
-      acknowledged = λ taken. acked;
-      read = λ on. by_fin P (after_text seen s) s (λ counts. text) text text;
-    })
+heard_none v s none = heard_leaves (λ rs. rs ≡ []) v s refl none (ap (passed (past s.acknowledgement v.sending.una)) none)
 
 timed_none : (v : View) (s : Segment) (now : Moment) → selects v ≡ false → v.resend.reported ≡ [] → (let w = timed_by (before v s) (after_heard v s) now in w.resend.reported) ≡ []
 timed_none v s now unasked none =
@@ -132,6 +112,33 @@ unasked_none v e unasked none =
         by_others P v now
         (either View P (has_come v.timers.retransmission now) (retransmission_expired v) _ (λ comes. refl) (λ late. either View P (has_come v.timers.probe now) (probe_expired v now) v (λ probes. none) (λ rests. none)))
         (λ w owes left. left) (λ w left. left)
+
+-- .. and no loss is told
+pub none_lost : (v : View) (e : Event) (flight : ℕ) → selects v ≡ false → congestion_event_by v e ≢ Counts (Loss flight)
+none_lost v (Hears s now) flight unasked =
+    let P : Signal → Type 0 = λ g. g ≢ Counts (Loss flight) in
+    let b = before v s in
+    let x = after_heard v s in
+    let known = covered x.resend.reported in
+    let same : with_blocks x.resend.reported x.sending b.blocks ≡ x.resend.reported = ap (with_blocks x.resend.reported x.sending) (silent_unselected v s unasked) in
+    let none : reports_more b x ≡ false =
+    ap (λ r. b.counts_reports && nat_lt known (covered r)) same ∙ ap (λ t. b.counts_reports && t) (le-ltb known known (omega arith)) ∙ and_false b.counts_reports in
+    either Signal P (is_closed v.state || is_rejected v s) Nothing (congestion_event_of b x) (λ unheard e. cc)
+    (λ hears. signalled b x P (λ e. cc) (λ e. cc) (λ moves opened whole e. cc) (λ moves opened goes e. cc) (λ stays twice e. cc) (λ stays more. clash (reports_more b x) more none))
+none_lost v (Ticks now) flight unasked =
+    let P : Signal → Type 0 = λ g. g ≢ Counts (Loss flight) in
+    either Signal P (is_at_end v now || gives_up v now) Nothing _ (λ ends e. cc)
+    (λ goes. either Signal P (has_come v.timers.retransmission now) (Counts (Expiry (outstanding v.sending))) Nothing (λ comes e. cc) (λ early e. cc))
+none_lost v (Emits now) flight unasked = λ e. cc
+none_lost v (Sends taken now) flight unasked = λ e. cc
+none_lost v (Receives len) flight unasked = λ e. cc
+none_lost v (Shuts now) flight unasked = λ e. cc
+none_lost v (SetsNoDelay on now) flight unasked = λ e. cc
+none_lost v (SetsKeepAlive every now) flight unasked = λ e. cc
+none_lost v (Closes now) flight unasked = λ e. cc
+none_lost v (Aborts now) flight unasked = λ e. cc
+none_lost v (Unreachable number) flight unasked = λ e. cc
+none_lost v (LosesHop now) flight unasked = λ e. cc
 
 pub expiry_forgets : (v : View) (now : Moment) → IsSound v → KeepsTime v → has_come v.timers.retransmission now ≡ true → is_closed (after_tick v now).state ≡ false → (after_tick v now).resend.reported ≡ []
 expiry_forgets v now sound keeps comes lives = (goes_again_all v now sound keeps comes lives).reported

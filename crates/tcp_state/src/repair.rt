@@ -1,24 +1,27 @@
 //! Laws of what goes out by what the peer reports that it keeps ahead of a gap (RFC 2018, RFC 6675): each is the contract of a function that does nothing.
 
-ghost use Rattle.std.specs.Prelude.{◌≡◌, ℕ, ◌+◌, ◌<◌, ◌≤◌, ◌==◌, ◌&&◌, ◌||◌, true, false, [], Some};
+ghost use Rattle.std.specs.Prelude.{◌≡◌, ◌≢◌, ℕ, ◌+◌, ◌<◌, ◌≤◌, ◌==◌, ◌&&◌, ◌||◌, ◌⊎◌, true, false, List, [], ◌++◌, drop, Some};
 ghost use Rattle.ipv4.specs.declared.addr.Endpoint.{Endpoint};
 ghost use Rattle.clock.specs.declared.moment.Moment.{Moment};
 ghost use Rattle.clock.specs.Moments.{has_come};
 ghost use Rattle.stream_buf.specs.Ranges.{covered};
 ghost use Rattle.stream_buf.specs.Scoreboard.{is_reported, is_lost};
 ghost use Rattle.congestion.specs.Window.{is_recovering};
+ghost use Rattle.congestion.specs.Events.Event.{Loss};
 ghost use Rattle.tcp_segment.specs.Segment.{Segment};
+ghost use Rattle.tcp_segment.specs.Wire.{past};
 ghost use Rattle.tcp_halves.specs.Halves.{Room};
 ghost use Rattle.tcp_halves.specs.Stream.{outstanding};
 ghost use Rattle.tcp_state.specs.declared.emission.Due.{Due};
 ghost use Rattle.tcp_state.specs.declared.emission.Stretch.{Stretch};
 ghost use Rattle.tcp_state.specs.View.{View, IsSound, is_opening, is_closed, opened_actively};
 ghost use Rattle.tcp_state.specs.Timing.{KeepsTime, probes};
+ghost use Rattle.tcp_state.specs.Congestion.Signal.{Counts};
 ghost use Rattle.tcp_state.specs.Selective.{selects, repairs_gaps, counts_pipe, pipe, allowance};
 ghost use Rattle.tcp_state.specs.Network.{in_network};
 ghost use Rattle.tcp_state.specs.Due.{first_due, again, is_missing, numbers_of};
 ghost use Rattle.tcp_state.specs.Arrival.{opened_passively, is_counted_duplicate, is_rejected, reports_loss, after_heard};
-ghost use Rattle.tcp_state.specs.Edges.{Event, after_event};
+ghost use Rattle.tcp_state.specs.Edges.{Event, after_event, congestion_event_by};
 
 /// What is reported is not sent again before an expiry (RFC 2018 section 5.1): no octet of a segment that goes out again is reported. An expiry forgets what was, for the peer may have let it go (section 8).
 pub fn what_is_reported_is_not_sent_again()
@@ -27,11 +30,22 @@ pub fn what_is_reported_is_not_sent_again()
     ensures expiry { (v : View) (now : Moment) → IsSound v → KeepsTime v → has_come v.timers.retransmission now ≡ true → is_closed (after_event v (Event.Ticks now)).state ≡ false → (after_event v (Event.Ticks now)).resend.reported ≡ [] }
 {}
 
-/// Reports are taken where both sides' SYNs say so, and nowhere else (RFC 2018 section 2): without them nothing is ever reported, so that what goes out again stands at the resend mark, and the congestion window alone says how much may be outstanding.
+/// Nothing is let go by a report (RFC 2018 section 8): octets are held until an acknowledgement moves SND.UNA past them, or the connection ends. A segment leaves of them those from where SND.UNA is then, so one that doesn't move
+/// it leaves all of them, whatever it reports; and nothing else moves it, or leaves fewer: a send alone adds some, behind those that are held.
+pub fn what_is_reported_is_still_held()
+    ensures acknowledged { (v : View) (s : Segment) (now : Moment) → IsSound v → is_closed (after_event v (Event.Hears s now)).state ≡ false
+        → let w = after_event v (Event.Hears s now) in w.sending.held ≡ drop (past w.sending.una v.sending.una) v.sending.held }
+    ensures unmoved { (v : View) (s : Segment) (now : Moment) → IsSound v → let w = after_event v (Event.Hears s now) in w.sending.una ≡ v.sending.una → is_closed w.state ≡ false → w.sending.held ≡ v.sending.held }
+    ensures others { (v : View) (e : Event) → is_closed (after_event v e).state ≡ false → ((s : Segment) × (now : Moment) × (e ≡ Event.Hears s now))
+        ⊎ (((after_event v e).sending.una ≡ v.sending.una) × (((after_event v e).sending.held ≡ v.sending.held) ⊎ ((octets : List ℕ) × (more : List ℕ) × (now : Moment) × (e ≡ Event.Sends octets now) × ((after_event v e).sending.held ≡ v.sending.held ++ more)))) }
+{}
+
+/// Reports are taken where both sides' SYNs say so, and nowhere else (RFC 2018 section 2): without them nothing is ever reported, so that what goes out again stands at the resend mark, and the congestion window alone says how much may be outstanding; and no report tells a loss.
 pub fn nothing_is_reported_unasked()
     ensures opened { (room : Room) (local peer : Endpoint) (isn : ℕ) (now : Moment) → (opened_actively room local peer isn now).resend.reported ≡ [] }
     ensures accepted { (room : Room) (local peer : Endpoint) (isn : ℕ) (syn : Segment) (now : Moment) → (opened_passively room local peer isn syn now).resend.reported ≡ [] }
     ensures stays { (v : View) (e : Event) → selects v ≡ false → v.resend.reported ≡ [] → (after_event v e).resend.reported ≡ [] }
+    ensures losses { (v : View) (e : Event) (flight : ℕ) → selects v ≡ false → congestion_event_by v e ≢ Counts (Loss flight) }
 {}
 
 /// A report that tells the loss of what is at SND.UNA begins a recovery up to all that is outstanding, and sends that first segment again, whatever is in the network (RFC 6675 section 5, steps 4.1 and 4.3).
