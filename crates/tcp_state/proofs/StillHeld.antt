@@ -6,12 +6,14 @@ use Rattle.clock.specs.declared.moment.Moment.{Moment}
 use Rattle.tcp_state.specs.declared.state.State.{State}
 use Rattle.tcp_state.specs.declared.state.State.TheVariants.{SynSent, SynReceived}
 use Rattle.tcp_halves.specs.Halves.{Sending}
+use Rattle.tcp_halves.specs.Stream.{is_new_ack}
 use Rattle.tcp_halves.specs.Windows.{updates_window}
 use Rattle.tcp_state.specs.View.{View, IsSound, is_opening, is_syn_sent, is_syn_received, is_closed, is_write_finished}
-use Rattle.tcp_state.specs.Arrival.{after_ack, after_segment_at}
+use Rattle.tcp_state.specs.Arrival.{after_ack, is_read_on, after_segment_at}
+use Rattle.tcp_state.specs.Duties.{acknowledges}
 use Rattle.tcp_state.specs.Edges.{Event, Hears, Sends, after_event}
-use Rattle.tcp_halves.proofs.Choices.{either}
-use Rattle.tcp_state.proofs.Segments.{after_reading, by_ack, reading_sends, by_hearing, by_clock}
+use Rattle.tcp_halves.proofs.Choices.{either, clash, and_left}
+use Rattle.tcp_state.proofs.Segments.{is_taken, after_reading, by_ack, reading_sends, by_hearing, by_clock}
 use Rattle.tcp_state.proofs.Clocked.{ticks_keep}
 use Rattle.tcp_state.proofs.StillStreams.{emissions_leave}
 use Rattle.tcp_state.proofs.Events.{by_event}
@@ -77,6 +79,50 @@ segment_leaves v s now sound =
 pub unmoved_leaves : (v : View) (s : Segment) (now : Moment) → IsSound v → let w = after_event v (Hears s now) in w.sending.una ≡ v.sending.una → is_closed w.state ≡ false → w.sending.held ≡ v.sending.held
 unmoved_leaves v s now sound same on =
     segment_leaves v s now sound on ∙ ap (λ n. drop (past n v.sending.una) v.sending.held) same ∙ sym (still v sound)
+
+-- SND.UNA moves to an acknowledgement of what is outstanding.
+
+abbrev MovesTo : View → ℕ → View → Type 0
+MovesTo v ack w = (w.sending.una ≡ v.sending.una) ⊎ ((is_new_ack v.sending ack ≡ true) × (w.sending.una ≡ ack))
+
+ack_moves : (v : View) (ack : ℕ) → is_opening v.state ≡ false → MovesTo v ack (after_ack v ack)
+ack_moves v ack opened = by_ack (MovesTo v ack) v ack (record {
+  old = inl refl;
+  beyond = inl refl;
+  opens = λ received new. clash (is_opening v.state) (received_opens v.state received) opened;
+  octets = λ new. inr (new, refl);
+  fin = λ new fin. inr (new, refl);
+})
+
+reading_moves : (v : View) (s : Segment) → is_opening v.state ≡ false → MovesTo v s.acknowledgement (after_reading v s)
+reading_moves v s opened =
+    let w = after_ack v s.acknowledgement in
+    let P : Sending → Type 0 = λ t. (t.una ≡ v.sending.una) ⊎ ((is_new_ack v.sending s.acknowledgement ≡ true) × (t.una ≡ s.acknowledgement)) in
+    let first : P w.sending = ack_moves v s.acknowledgement opened in
+    subst P (sym (reading_sends v s)) (either Sending P (updates_window w.sending s.number s.acknowledgement) _ w.sending (λ tells. first) (λ none. first))
+
+-- by a segment whose acknowledgement is looked at
+abbrev MovesBy : View → Segment → View → Type 0
+MovesBy v s w = (w.sending.una ≡ v.sending.una) ⊎ ((acknowledges v s ≡ true) × (is_new_ack v.sending s.acknowledgement ≡ true) × (w.sending.una ≡ s.acknowledgement))
+
+taken_moves : (v w : View) (s : Segment) → is_taken v s ≡ true → MovesTo v s.acknowledgement w → MovesBy v s w
+taken_moves v w s taken moves = elim moves [ inl same ↦ inl same | inr to ↦ inr (taken, to.0, to.1) ]
+
+pub segment_moves : (v : View) (s : Segment) (now : Moment) → is_opening v.state ≡ false → is_closed (after_segment_at v s now).state ≡ false
+    → let w = after_segment_at v s now in (w.sending.una ≡ v.sending.una) ⊎ ((acknowledges v s ≡ true) × (is_new_ack v.sending s.acknowledgement ≡ true) × (w.sending.una ≡ s.acknowledgement))
+segment_moves v s now opened =
+    let P : View → Type 0 = λ w. is_closed w.state ≡ false → MovesBy v s w in
+    let same : P v = λ on. inl refl in
+    let heard : P (let w = after_segment_at v s now in w) = by_clock P v s now same (λ lives. by_hearing P v s (λ closed. let bad : true ≡ false = closed in cc) (record {
+      dropped = same;
+      drawn = same;
+      reset = λ acts closed. let bad : true ≡ false = closed in cc;
+      crossed = λ waits on. inl refl;
+      opened = λ waits right on. clash (is_opening v.state) (sent_opens v.state waits) opened;
+      acknowledged = λ taken on. taken_moves v (after_ack v s.acknowledgement) s taken (ack_moves v s.acknowledgement opened);
+      read = λ read on. taken_moves v (after_reading v s) s (and_left (is_taken v s) (is_read_on v s.acknowledgement) read) (reading_moves v s opened);
+    })) in
+    heard
 
 -- Anything else.
 

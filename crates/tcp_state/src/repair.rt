@@ -11,7 +11,7 @@ ghost use Rattle.congestion.specs.Events.Event.{Loss};
 ghost use Rattle.tcp_segment.specs.Segment.{Segment};
 ghost use Rattle.tcp_segment.specs.Wire.{past};
 ghost use Rattle.tcp_halves.specs.Halves.{Room};
-ghost use Rattle.tcp_halves.specs.Stream.{outstanding};
+ghost use Rattle.tcp_halves.specs.Stream.{outstanding, is_new_ack};
 ghost use Rattle.tcp_state.specs.declared.emission.Due.{Due};
 ghost use Rattle.tcp_state.specs.declared.emission.Stretch.{Stretch};
 ghost use Rattle.tcp_state.specs.View.{View, IsSound, is_opening, is_closed, opened_actively};
@@ -21,6 +21,7 @@ ghost use Rattle.tcp_state.specs.Selective.{selects, repairs_gaps, counts_pipe, 
 ghost use Rattle.tcp_state.specs.Network.{in_network};
 ghost use Rattle.tcp_state.specs.Due.{first_due, again, is_missing, numbers_of};
 ghost use Rattle.tcp_state.specs.Arrival.{opened_passively, is_counted_duplicate, is_rejected, reports_loss, after_heard};
+ghost use Rattle.tcp_state.specs.Duties.{acknowledges};
 ghost use Rattle.tcp_state.specs.Edges.{Event, after_event, congestion_event_by};
 
 /// What is reported is not sent again before an expiry (RFC 2018 section 5.1): no octet of a segment that goes out again is reported. An expiry forgets what was, for the peer may have let it go (section 8).
@@ -31,11 +32,13 @@ pub fn what_is_reported_is_not_sent_again()
 {}
 
 /// Nothing is let go by a report (RFC 2018 section 8): octets are held until an acknowledgement moves SND.UNA past them, or the connection ends. A segment leaves of them those from where SND.UNA is then, so one that doesn't move
-/// it leaves all of them, whatever it reports; and nothing else moves it, or leaves fewer: a send alone adds some, behind those that are held.
+/// it leaves all of them, whatever it reports; past the opening it moves SND.UNA to its acknowledgement alone, where that is of what is outstanding. Nothing else moves it, or leaves fewer: a send alone adds some, behind those that are held.
 pub fn what_is_reported_is_still_held()
     ensures acknowledged { (v : View) (s : Segment) (now : Moment) → IsSound v → is_closed (after_event v (Event.Hears s now)).state ≡ false
         → let w = after_event v (Event.Hears s now) in w.sending.held ≡ drop (past w.sending.una v.sending.una) v.sending.held }
     ensures unmoved { (v : View) (s : Segment) (now : Moment) → IsSound v → let w = after_event v (Event.Hears s now) in w.sending.una ≡ v.sending.una → is_closed w.state ≡ false → w.sending.held ≡ v.sending.held }
+    ensures moved { (v : View) (s : Segment) (now : Moment) → is_opening v.state ≡ false → is_closed (after_event v (Event.Hears s now)).state ≡ false
+        → let w = after_event v (Event.Hears s now) in (w.sending.una ≡ v.sending.una) ⊎ ((acknowledges v s ≡ true) × (is_new_ack v.sending s.acknowledgement ≡ true) × (w.sending.una ≡ s.acknowledgement)) }
     ensures others { (v : View) (e : Event) → is_closed (after_event v e).state ≡ false → ((s : Segment) × (now : Moment) × (e ≡ Event.Hears s now))
         ⊎ (((after_event v e).sending.una ≡ v.sending.una) × (((after_event v e).sending.held ≡ v.sending.held) ⊎ ((octets : List ℕ) × (more : List ℕ) × (now : Moment) × (e ≡ Event.Sends octets now) × ((after_event v e).sending.held ≡ v.sending.held ++ more)))) }
 {}
