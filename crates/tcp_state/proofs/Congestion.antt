@@ -192,7 +192,7 @@ signal_segment v s fits lives keeps begun =
     either Signal P (is_closed w.state) Nothing _ (λ closed. clash (is_idle w.state) (or_right (is_opening w.state) (is_closed w.state) closed) begun)
     (λ on. either Signal P (is_moved b w) _ _
     (λ moved. either Signal P (is_opening b.state) Begins (acknowledged_signal (told b w) (b.held - length w.sending.held) (reports_more b w)) (λ opens. refl)
-    (λ opened. either Signal P (is_partial w) _ _ (λ goes. either Signal P (selects w) Nothing _ (λ rules. kept opened) (λ none. kept opened)) (λ whole. whole_kept b w (kept opened))))
+    (λ opened. either Signal P (is_partial w) _ _ (λ goes. either Signal P (selects w) Nothing _ (λ rules. kept opened) (λ none. kept opened)) (λ whole. whole_kept (told b w) (b.held - length w.sending.held) (reports_more b w) (kept opened))))
     (λ still. let twice_kept : P (Counts (Duplicate (outstanding w.sending))) = duplicate_segment w.congestion (outstanding w.sending) ∙ kept (still_open still) in
     either Signal P b.is_duplicate (Counts (Duplicate (outstanding w.sending))) _
     (λ twice. twice_kept) (λ other. either Signal P (reports_more b w) (Counts (report_event (told b w))) Nothing
@@ -202,14 +202,13 @@ signal_segment v s fits lives keeps begun =
     neither true b e f = cc
     neither false b e f = f
 
-    whole_kept : (b : Before) (w : View) → w.congestion.smss ≡ w.sending.smss → (let c = after_signal w.congestion (whole_signal (told b w) (b.held - length w.sending.held) (reports_more b w)) w.sending.smss w.resend.syn_resent in c.smss) ≡ w.sending.smss
-    whole_kept b w kept =
-        let n = b.held - length w.sending.held in
-        let ack = NewAck n (outstanding w.sending) in
+    whole_kept : (w : View) (octets : ℕ) (more : Bool) → w.congestion.smss ≡ w.sending.smss → (let c = after_signal w.congestion (whole_signal w octets more) w.sending.smss w.resend.syn_resent in c.smss) ≡ w.sending.smss
+    whole_kept w octets more kept =
+        let ack = NewAck octets (outstanding w.sending) in
         let P : Signal → Type 0 = λ g. (let c = after_signal w.congestion g w.sending.smss w.resend.syn_resent in c.smss) ≡ w.sending.smss in
-        either Signal P (reports_more b w) (Both ack (report_event (behind_ack (told b w) n))) (Counts ack)
-        (λ more. either WindowEvent (λ e. P (Both ack e)) (tells_loss (behind_ack (told b w) n)) (Loss (outstanding w.sending)) (Duplicate (outstanding w.sending)) (λ loss. kept)
-        (λ early. duplicate_segment (after_new_ack w.congestion n (outstanding w.sending)) (outstanding w.sending) ∙ kept))
+        either Signal P more (Both ack (report_event (behind_ack w octets))) (Counts ack)
+        (λ reports. either WindowEvent (λ e. P (Both ack e)) (tells_loss (behind_ack w octets)) (Loss (outstanding w.sending)) (Duplicate (outstanding w.sending)) (λ loss. kept)
+        (λ early. duplicate_segment (after_window_event w.congestion ack) (outstanding w.sending) ∙ kept))
         (λ alone. kept)
 
 -- Every event.

@@ -18,7 +18,7 @@ use Rattle.tcp_segment.specs.Segment.{Segment}
 use Rattle.tcp_segment.specs.Wire.{past}
 use Rattle.tcp_halves.specs.Halves.{Sending}
 use Rattle.tcp_halves.specs.Stream.{outstanding}
-use Rattle.tcp_halves.proofs.Choices.{either, by, clash, both, and_left, and_right, and_false, or_left, not_true, unowed}
+use Rattle.tcp_halves.proofs.Choices.{either, by, clash, both, and_left, and_right, and_false, or_left, or_right, not_true, unowed}
 use Rattle.tcp_state.specs.declared.arrival.Before.{Before}
 use Rattle.tcp_state.specs.declared.emission.Due.TheVariants.{Rst, Syn, Text}
 use Rattle.tcp_state.specs.declared.emission.Stretch.{Stretch}
@@ -29,13 +29,13 @@ use Rattle.tcp_state.specs.Congestion.Signal.{Begins, Counts, Both, Nothing}
 use Rattle.tcp_state.specs.New.{sends_new, sends_fin}
 use Rattle.tcp_state.specs.Selective.{selects, repairs_gaps, counts_pipe, loss_end, pipe, allowance, place_of, with_blocks, repaired_end}
 use Rattle.tcp_state.specs.Due.{first_due, ack_due, new_due, again_from, again, again_at, is_missing, goes_by_reports, goes_by_windows, goes_again, new_octets, fin_alone, end_of, numbers_of}
-use Rattle.tcp_state.specs.Arrival.{is_receiving, beyond_fin, after_new_ack, after_ack, after_window, after_text, after_heard, before, is_moved, is_rejected, is_counted_duplicate, counts_reports, reported_by, reports_more, told, told_behind, behind_ack, is_partial, tells_loss, report_event, whole_signal, is_report, reports_loss, acknowledged_signal, congestion_event_of, resend_signalled, resend_told, resend_after, timed_by}
+use Rattle.tcp_state.specs.Arrival.{is_receiving, beyond_fin, after_new_ack, after_ack, after_window, after_text, after_heard, before, is_moved, is_rejected, is_counted_duplicate, counts_reports, reported_by, reports_more, told, told_behind, behind_ack, is_partial, tells_loss, report_event, whole_signal, is_report, reports_loss, acknowledged_signal, congestion_event_of, resend_signalled, resend_told, resend_after, timed_by, is_duplicate, counts_duplicates}
 use Rattle.tcp_state.specs.Edges.{Event, Hears, after_event, Ticks, Emits, Sends, Receives, Shuts, SetsNoDelay, SetsKeepAlive, Closes, Aborts, Unreachable, LosesHop, congestion_event_by}
 use Rattle.tcp_state.proofs.Segments.{by_ack, by_fin, by_hearing}
 use Rattle.clock.specs.Moments.{has_come}
 use Rattle.tcp_state.specs.Alive.{after_silence}
 use Rattle.tcp_state.specs.Timing.{KeepsTime, probes, clocked, retransmission_expired, probe_expired, after_timers, after_tick, gives_up}
-use Rattle.tcp_state.proofs.Clocked.{by_others, after_paced, told_moved, told_still, signalled}
+use Rattle.tcp_state.proofs.Clocked.{by_others, after_paced, told_moved, told_still, signalled, reports_none}
 use Rattle.tcp_state.proofs.Congestion.{window_kept}
 use Rattle.tcp_state.proofs.Places.{at_una_goes}
 use Rattle.tcp_state.proofs.Scores.{blocks_score, heard_scores}
@@ -44,7 +44,7 @@ use Rattle.tcp_state.proofs.Recovering.{first_left, goes_after}
 use Rattle.tcp_state.proofs.Emissions.{by_due}
 use Rattle.tcp_state.proofs.Events.{by_event}
 use Rattle.tcp_state.proofs.NewNumbers.{keeps_window, keeps_cwnd}
-use Rattle.tcp_state.proofs.Selects.{silent_unselected, more_counts, more_opened}
+use Rattle.tcp_state.proofs.Selects.{silent_unselected, more_counts, more_opened, counted_selects_none}
 use Rattle.tcp_state.proofs.Signals.{event_is, window_by, heard_is, counts_report}
 use Rattle.tcp_state.proofs.Scores.{heard_leaves}
 
@@ -264,6 +264,20 @@ report_counted : (c : Window) (w : View) → is_recovering c ≡ false → 0 < (
 report_counted c w runs =
     either WindowEvent (λ e. 0 < (after_window_event c e).duplicates) (tells_loss w) (Loss (outstanding w.sending)) (Duplicate (outstanding w.sending)) (λ loss. omega arith) (λ early. counted c (outstanding w.sending) runs)
 
+reported_now : (v : View) (s : Segment) (now : Moment) → (is_closed v.state || is_rejected v s) ≡ false → (let w = after_event v (Hears s now) in w.resend.reported) ≡ reported_by (before v s) (after_heard v s)
+reported_now v s now hears =
+    let b = before v s in
+    let x = after_heard v s in
+    ap (λ (y : View). y.resend.reported) (heard_is v s now hears) ∙ after_paced b x now (λ p. p.reported ≡ reported_by b x) refl refl (λ r. refl) refl
+
+grown_more : (v : View) (s : Segment) (now : Moment) → (is_closed v.state || is_rejected v s) ≡ false → is_recovering v.congestion ≡ false → v.resend.recover ≡ 0 → probes v ≡ false
+    → covered (let x = after_heard v s in x.resend.reported) < covered (let w = after_event v (Hears s now) in w.resend.reported) → reports_more (before v s) (after_heard v s) ≡ true
+grown_more v s now hears runs all unprobed grown =
+    let b = before v s in
+    let x = after_heard v s in
+    both (counts_reports v) (nat_lt (covered x.resend.reported) (covered (reported_by b x))) (ap₂ (λ r n. not r && (n == 0) && not (probes v)) runs all ∙ ap not unprobed)
+    (lt-ltb (covered x.resend.reported) (covered (reported_by b x)) (subst (λ rs. covered x.resend.reported < covered rs) (reported_now v s now hears) grown))
+
 pub reports_are_counted : (v : View) (s : Segment) (now : Moment) → (is_closed v.state || is_rejected v s) ≡ false → is_recovering v.congestion ≡ false → v.resend.recover ≡ 0 → probes v ≡ false
     → let w = after_event v (Hears s now) in is_closed w.state ≡ false → covered (let x = after_heard v s in x.resend.reported) < covered w.resend.reported → 0 < w.congestion.duplicates
 reports_are_counted v s now hears runs all unprobed alive grown =
@@ -273,10 +287,7 @@ reports_are_counted v s now hears runs all unprobed alive grown =
     let n = length v.sending.held - length x.sending.held in
     let at : w ≡ timed_by b x now = heard_is v s now hears in
     let lives : is_closed x.state ≡ false = sym (ap (λ (y : View). is_closed y.state) at) ∙ alive in
-    let reported : w.resend.reported ≡ reported_by b x = ap (λ (y : View). y.resend.reported) at ∙ after_paced b x now (λ p. p.reported ≡ reported_by b x) refl refl (λ r. refl) refl in
-    let counts : counts_reports v ≡ true = ap₂ (λ r n. not r && (n == 0) && not (probes v)) runs all ∙ ap not unprobed in
-    let more : reports_more b x ≡ true = both (counts_reports v) (nat_lt (covered x.resend.reported) (covered (reported_by b x))) counts
-    (lt-ltb (covered x.resend.reported) (covered (reported_by b x)) (subst (λ rs. covered x.resend.reported < covered rs) reported grown)) in
+    let more = grown_more v s now hears runs all unprobed grown in
     let kept : is_recovering x.congestion ≡ false = ap is_recovering (window_kept v s) ∙ runs in
     let Q : Signal → Type 0 = λ g. 0 < (after_signal v.congestion g w.sending.smss w.resend.syn_resent).duplicates in
     let ack = NewAck n (outstanding x.sending) in
@@ -290,6 +301,23 @@ reports_are_counted v s now hears runs all unprobed alive grown =
     (λ stays. either Signal Q (is_counted_duplicate v s) (Counts (Duplicate (outstanding x.sending))) _ (λ twice. counted v.congestion (outstanding x.sending) runs)
     (λ other. either Signal Q (reports_more b x) (Counts (report_event (told b x))) Nothing (λ is. report_counted v.congestion (told b x) runs) (λ none. clash (reports_more b x) more none)))) in
     subst (λ (c : Window). 0 < c.duplicates) (sym (window_by v (Hears s now) (congestion_event_of b x) (event_is v s now hears))) done
+
+-- it rules no duplicate ACK, and by what is lost behind it tells a loss
+pub reports_lose : (v : View) (s : Segment) (now : Moment) → IsSound v → (is_closed v.state || is_rejected v s) ≡ false → is_recovering v.congestion ≡ false → v.resend.recover ≡ 0 → probes v ≡ false
+    → let w = after_event v (Hears s now) in is_closed w.state ≡ false → covered (let x = after_heard v s in x.resend.reported) < covered w.resend.reported → 0 < loss_end w → (first_due w ≡ Some (Text (again w 0))) × (is_recovering w.congestion ≡ true)
+reports_lose v s now sound hears runs all unprobed alive grown lost =
+    let b = before v s in
+    let x = after_heard v s in
+    let w = after_event v (Hears s now) in
+    let more = grown_more v s now hears runs all unprobed grown in
+    let behind : loss_end (told_behind b x) ≡ loss_end (told b x) = either View (λ y. loss_end y ≡ loss_end (told b x)) (is_moved b x) (behind_ack (told b x) (length v.sending.held - length x.sending.held)) (told b x) (λ moves. refl) (λ stays. refl) in
+    let same : loss_end w ≡ loss_end (told b x) = ap (λ (y : View). lost_end y.sending.smss w.resend.reported) (heard_is v s now hears) ∙ ap (lost_end x.sending.smss) (reported_now v s now hears) in
+    let tells : tells_loss (told_behind b x) ≡ true = let y = told_behind b x in or_right (third_is_next y.congestion) (nat_lt 0 (loss_end y)) (lt-ltb 0 (loss_end y) (omega (arith, lost, same, behind))) in
+    let other : is_counted_duplicate v s ≡ false = by (is_counted_duplicate v s ≡ false) (is_counted_duplicate v s)
+    (λ twice. clash (reports_more b x) more (reports_none b x (silent_unselected v s (counted_selects_none v (and_right (is_duplicate v s) (counts_duplicates v) twice)))))
+    (λ none. none) in
+    let k = loss_resends v s now sound (both (is_report v s) (tells_loss (told_behind b x)) more tells) other hears alive in
+    (k.0, k.3)
 
 -- The network has room.
 

@@ -17,7 +17,7 @@ ghost use Rattle.tcp_state.specs.declared.emission.Stretch.{Stretch};
 ghost use Rattle.tcp_state.specs.View.{View, IsSound, is_opening, is_closed, opened_actively};
 ghost use Rattle.tcp_state.specs.Timing.{KeepsTime, probes};
 ghost use Rattle.tcp_state.specs.Congestion.Signal.{Counts};
-ghost use Rattle.tcp_state.specs.Selective.{selects, repairs_gaps, counts_pipe, pipe, allowance};
+ghost use Rattle.tcp_state.specs.Selective.{selects, repairs_gaps, counts_pipe, pipe, allowance, loss_end};
 ghost use Rattle.tcp_state.specs.Network.{in_network};
 ghost use Rattle.tcp_state.specs.Due.{first_due, again, is_missing, numbers_of};
 ghost use Rattle.tcp_state.specs.Arrival.{opened_passively, is_counted_duplicate, is_rejected, reports_loss, after_heard};
@@ -58,10 +58,13 @@ pub fn reports_tell_losses()
 {}
 
 /// A segment that reports octets which nothing reported counts as a duplicate ACK, whatever else it brings (RFC 6675 section 2): outside a recovery, where all is acknowledged that was outstanding when the last one began or the timer expired, and no closed window
-/// is probed. So an ACK of new octets that reports is the first of those that count behind it.
+/// is probed. So an ACK of new octets that reports is the first of those that count behind it. Where what is at SND.UNA is lost by what is reported then, a recovery begins at once, and it goes out again (section 5, step 2).
 pub fn what_reports_counts_as_a_duplicate()
-    ensures { (v : View) (s : Segment) (now : Moment) → (is_closed v.state || is_rejected v s) ≡ false → is_recovering v.congestion ≡ false → v.resend.recover ≡ 0 → probes v ≡ false
+    ensures counted { (v : View) (s : Segment) (now : Moment) → (is_closed v.state || is_rejected v s) ≡ false → is_recovering v.congestion ≡ false → v.resend.recover ≡ 0 → probes v ≡ false
         → let w = after_event v (Event.Hears s now) in is_closed w.state ≡ false → covered (let x = after_heard v s in x.resend.reported) < covered w.resend.reported → 0 < w.congestion.duplicates }
+    ensures lost { (v : View) (s : Segment) (now : Moment) → IsSound v → (is_closed v.state || is_rejected v s) ≡ false → is_recovering v.congestion ≡ false → v.resend.recover ≡ 0 → probes v ≡ false
+        → let w = after_event v (Event.Hears s now) in is_closed w.state ≡ false → covered (let x = after_heard v s in x.resend.reported) < covered w.resend.reported → 0 < loss_end w
+        → (first_due w ≡ Some (Due.Text (again w 0))) × (is_recovering w.congestion ≡ true) }
 {}
 
 /// In a recovery that reports rule, what goes out again is missing, but for the first segment, and the network has room for a segment beside what is in it; and so it has for new octets, in that recovery and outside of one (RFC 6675 section 5, step C). What is
