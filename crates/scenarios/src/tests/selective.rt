@@ -341,6 +341,31 @@ const COUNTED_ANEW: &[Row] = &[
     (Reports(1, &[(2_920, 2_970)]), &[1], 8_030, 8_030),
 ];
 
+/// One that reports is the first of those behind it (section 2): the first of three by which nothing is lost yet.
+const FIRST_OF_THREE: &[Row] = &[
+    (Writes(24), &[0, 1, 2, 3, 4, 5, 6, 7, 8, 9], 14_600, 65_535),
+    // a segment more in slow start; nine but for ten octets are in the network, and two new ones
+    (Reports(1, &[(2_920, 2_930)]), &[10, 11], 16_060, 65_535),
+    (Reports(1, &[(2_920, 2_940)]), &[], 16_060, 65_535),
+    // half of the eleven in flight, 1 to 11
+    (Reports(1, &[(2_920, 2_950)]), &[1], 8_030, 8_030),
+];
+
+/// Segment 2 is lost, and so are the ACKs of 0, 1 and 3 to 5: that of 6 acknowledges 0 and 1, and reports 3 to 6, by which 2 is lost (step 2).
+const BEHIND_AN_ACK: &[Row] = &[
+    (Writes(24), &[0, 1, 2, 3, 4, 5, 6, 7, 8, 9], 14_600, 65_535),
+    // the window grows by the two to 17,520 octets first; then it is half of the eight in flight behind the ACK, 2 to 9, which are 11,680 octets
+    // (step 4.2). 2 is lost and 3 to 6 are reported, so that 7 to 9 and 2 once more are in the network, as many as the window has
+    (Acknowledged(2, &[(3, 7)]), &[2], 5_840, 5_840),
+    // 7 and 8: three, which are 8, 9 and 2, and then 9, 10 and 2; a new one each time (rule 2)
+    (Acknowledged(2, &[(3, 8)]), &[10], 5_840, 5_840),
+    (Acknowledged(2, &[(3, 9)]), &[11], 5_840, 5_840),
+    // 2 again, and 9 not yet: 9 to 11 are in the network
+    (Acknowledged(9, &[]), &[12], 5_840, 5_840),
+    // 9: the last in flight at the loss; 10 to 12 are in the network
+    (Acknowledged(10, &[]), &[13], 5_840, 5_840),
+];
+
 /// What is reported past the end of a recovery stays after it (step A): segment 10 is lost by the third range of ten octets, of which the first two came before.
 const KEPT: &[Row] = &[
     (Writes(24), &[0, 1, 2, 3, 4, 5, 6, 7, 8, 9], 14_600, 65_535),
@@ -360,7 +385,7 @@ const KEPT: &[Row] = &[
     (Reports(10, &[(18_980, 18_990)]), &[10], 3_650, 3_650),
 ];
 
-const RUNS: [Run; 16] = [
+const RUNS: [Run; 18] = [
     Run {
         name: "two losses are repaired",
         sacks: true,
@@ -450,6 +475,18 @@ const RUNS: [Run; 16] = [
         sacks: true,
         window: WIDE,
         rows: COUNTED_ANEW,
+    },
+    Run {
+        name: "an ACK of new octets that reports is the first of three",
+        sacks: true,
+        window: WIDE,
+        rows: FIRST_OF_THREE,
+    },
+    Run {
+        name: "a loss is told behind an ACK of new octets",
+        sacks: true,
+        window: WIDE,
+        rows: BEHIND_AN_ACK,
     },
     Run {
         name: "what is reported past a recovery stays",
