@@ -46,6 +46,7 @@ use Rattle.host.proofs.ComesUp.{IsHeld, held-by, held-place, unknown-is, unwoken
 use Rattle.host.proofs.FrameSide.{run-side}
 use Rattle.host.proofs.Hopless.{hop-wakes}
 use Rattle.host.proofs.Tables.{run-timed}
+use Rattle.tcp_state.specs.Tail.{tail_at}
 
 -- How many numbers what is due takes.
 
@@ -91,7 +92,7 @@ waits-first c sound keeps network has none =
     let t = c.timers in
     let sending : Option Moment = sooner t.retransmission t.probe in
     let receiving : Option Moment = sooner t.delayed_ack t.overriding in
-    let all = neither (sooner (sooner sending receiving) (ends_at c)) (alive_at c) none in
+    let all = neither (sooner (sooner sending receiving) (ends_at c)) (sooner (alive_at c) (tail_at c)) none in
     let ends = neither (sooner sending receiving) (ends_at c) all.0 in
     let pairs = neither sending receiving ends.0 in
     let still = neither t.retransmission t.probe pairs.0 in

@@ -88,6 +88,7 @@ edge_kept : (v : View) (e : edge.Event) → Keeps v (after_event v e)
 edge_kept v e = by_event (λ e w. Keeps v w) v (record {
   same = λ e small. small;
   asks = λ e alive small. small;
+  silent = λ now small. small;
   heard = λ s now lives. heard v s;
   over = λ now ends small. small;
   given_up = λ now waits expired small. small;

@@ -29,6 +29,7 @@ use Rattle.sockets.specs.Entries.{in_connection, is_kept, segment_due, datagrams
 use Rattle.sockets.specs.Lost.{is_hopless, give_up_fate_of, role_after_giving_up}
 use Rattle.sockets.specs.Sound.{IsSoundRole}
 use Rattle.sockets.specs.Timing.{KeepsTimeIn}
+use Rattle.tcp_state.proofs.TailProbes.{few_rest, nobody_waits}
 
 none_long : (xs : List ℕ) → length xs ≤ 0 → xs ≡ []
 none_long [] few = refl
@@ -91,7 +92,7 @@ module _ (c : View) (now : Moment) (sound : IsSound c) (keeps : KeepsTime c) (cl
   closed_still =
       rw (no_end, goes_on)
       (ap (λ b. if b then clocked false (after_timers (after_silence c now) now) now else after_silence c now) none_comes
-      ∙ ap (λ b. record c { alive = if b then unanswered_again c.alive c.resend.timeout.rto now else c.alive }) unasked)
+      ∙ nobody_waits c now unasked (few_rest c now (let none = none_out c sound opened shut empty in omega (arith, none))))
 
   pub closed_stays : is_kept (tick_fate c now) ≡ true
   closed_stays = rw (no_end, goes_on) refl

@@ -90,6 +90,7 @@ event_past v =
     (record {
       same = λ e. as_before v v refl refl;
       asks = λ e alive. as_before v _ refl refl;
+      silent = λ now. as_before v _ refl refl;
       heard = λ s now lives. let p = heard_past v s in record { passive = p.passive; past = p.past };
       over = λ now ends. record { passive = refl; past = λ past. refl };
       given_up = λ now waits gives. record { passive = refl; past = λ past. refl };

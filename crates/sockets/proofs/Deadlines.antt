@@ -17,6 +17,7 @@ use Rattle.sockets.specs.Ticks.{least_deadline, IsLeastDeadline, HasNoDeadline}
 use Rattle.sockets.specs.Ticks as table
 use Rattle.clock.proofs.Comings.{sooner-has_come}
 use Rattle.tcp_state.proofs.Deadlines.{waits}
+use Rattle.tcp_state.specs.Tail.{tail_at}
 
 -- The sooner of two moments.
 
@@ -101,11 +102,12 @@ both_unreached a b now e = or_parts (has_come a now) (has_come b now) (sym (soon
 
 kept_at : (v : View) (now : Moment) → has_come (deadline v) now ≡ false → is_kept (tick_fate v now) ≡ true
 kept_at v now e =
-    let all = both_unreached (sooner (sooner (sooner v.timers.retransmission v.timers.probe) (sooner v.timers.delayed_ack v.timers.overriding)) (ends_at v)) (alive_at v) now e in
+    let all = both_unreached (sooner (sooner (sooner v.timers.retransmission v.timers.probe) (sooner v.timers.delayed_ack v.timers.overriding)) (ends_at v)) (sooner (alive_at v) (tail_at v)) now e in
+    let quiet = both_unreached (alive_at v) (tail_at v) now all.1 in
     let parts = both_unreached (sooner (sooner v.timers.retransmission v.timers.probe) (sooner v.timers.delayed_ack v.timers.overriding)) (ends_at v) now all.0 in
     let first = both_unreached (sooner v.timers.retransmission v.timers.probe) (sooner v.timers.delayed_ack v.timers.overriding) now parts.0 in
     let own = both_unreached v.timers.retransmission v.timers.probe now first.0 in
-    let gives : gives_up v now ≡ false = rw (own.0, own.1, all.1) in
+    let gives : gives_up v now ≡ false = rw (own.0, own.1, quiet.0) in
     rw (parts.1, gives)
 
 role_waits : (role : Role) (now : Moment) → has_come (deadline_of role) now ≡ false → (is_kept (tick_fate_of now role) ≡ true) × (role_after_tick now role ≡ role)

@@ -15,6 +15,7 @@ use Rattle.tcp_state.specs.View.{View, is_opening, awaits_fin_ack, is_at_end}
 use Rattle.tcp_state.specs.New.{passes_full}
 use Rattle.tcp_state.specs.Timing.{KeepsTime, awaits_first, waiting_since, gives_up, probes, retransmits, clocked, probe_expired, retransmission_expired, after_expiry, after_timers, after_tick}
 use Rattle.tcp_state.specs.Alive.{after_silence}
+use Rattle.tcp_state.proofs.TailProbes.{first_silent}
 use Rattle.tcp_state.proofs.Clocked.{by_others}
 
 -- whether a first segment waits, by what it hangs on
@@ -116,7 +117,7 @@ wait_goes_on v now since keeps is waits lives =
     let asked = after_silence v now in
     let u = after_timers asked now in
     let acts : Acts asked u = timers_act asked now early in
-    let on : awaits_first u ≡ true = awaits_on asked u acts first in
+    let on : awaits_first u ≡ true = awaits_on asked u acts (first_silent v now ∙ first) in
     rw (waits, lives) (either View (λ w. w.unheard ≡ Some since) (has_come (next_of v.timers) now) (clocked false u now) asked
     (λ comes. ap (λ (b : Bool). if b then Some (waiting_since u.unheard now) else None) on ∙ ap (λ (o : Option Moment). Some (waiting_since o now)) (acts.unheard ∙ is))
     (λ later. is))

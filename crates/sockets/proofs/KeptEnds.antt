@@ -67,6 +67,7 @@ keeps-event v e =
     (record {
       same = λ e. keeps-nothing v;
       asks = λ e alive. record { local = refl; peer = refl; live = λ lives. lives };
+      silent = λ now. record { local = refl; peer = refl; live = λ lives. lives };
       heard = λ s now alive. let ends = heard-ends v s in record { local = ends.0; peer = ends.1; live = λ lives. alive };
       over = λ now ends. record { local = refl; peer = refl; live = λ lives. cc };
       given_up = λ now waits gives. record { local = refl; peer = refl; live = λ lives. cc };

@@ -1,5 +1,5 @@
 -- Why no timer of a connection lies more than a minute past the latest moment that the table was told.
-use Rattle.std.proofs.Common.{◌≡◌, inl, inr, ℕ, ◌+◌, ◌≤◌, ◌==◌, ◌||◌, ◌⊎◌, not, nat_le, min, ◌∙◌, Bool, true, false, if◌then◌else◌, List, [], ◌∷◌, length, Option, Some, None, fold, refl, sym, ap, subst, arith}
+use Rattle.std.proofs.Common.{◌≡◌, inl, inr, ℕ, ◌+◌, ◌≤◌, ◌==◌, ◌||◌, ◌⊎◌, not, nat_le, min, ◌∙◌, Bool, true, false, if◌then◌else◌, List, [], ◌∷◌, length, Option, Some, None, fold, refl, sym, ap, subst, arith, ◌-◌}
 use Rattle.std.specs.List.{AllByRecursion}
 use Rattle.ipv4.specs.declared.addr.Addr.{Addr}
 use Rattle.tcp_halves.specs.declared.buffers.Manner.{Manner}
@@ -15,6 +15,7 @@ use Rattle.tcp_state.specs.declared.state.State.TheVariants.{FinWait2, TimeWait}
 use Rattle.tcp_state.specs.View.{View, IsSound, is_fin_wait_2, end_of_wait, ends_at}
 use Rattle.tcp_state.specs.Calls.{latest}
 use Rattle.tcp_state.specs.Alive.{wait_of, rests, end_of_silence, alive_at}
+use Rattle.tcp_state.specs.Tail.{awaits_tail, tail_wait, tail_by, tail_at}
 use Rattle.tcp_state.specs.Arrival.{is_receiving, after_ack, after_window, after_text, after_heard, before}
 use Rattle.tcp_state.specs.Due.{first_due}
 use Rattle.tcp_state.specs.Edges as edge
@@ -76,6 +77,7 @@ since_by last c old =
     (record {
       same = λ e told. old;
       asks = λ e alive told. old;
+      silent = λ now told. old;
       heard = λ s now lives told.
           let w = after_heard c s in
           let kept : w.since.0 ≤ last.0 = subst (λ (m : Moment). m.0 ≤ last.0) (sym (heard_since c s)) old in
@@ -232,6 +234,14 @@ asked_within most last c began why = either (Option Moment) (IsWithin (last.0 + 
         by_count true long = omega (arith, long)
         by_count false long = omega (arith, long)
 
+-- a probe of the tail comes no later than the retransmission timer
+tail_within : (top : ℕ) (c : View) (deadline : Option Moment) → IsWithin top deadline → IsWithin top (tail_by c deadline)
+tail_within top c None within = λ m is. cc
+tail_within top c (Some deadline) within =
+    let sooner_end : Moment = record { 0 = deadline.0 - (c.resend.timeout.rto - tail_wait c.resend.timeout) } in
+    either (Option Moment) (IsWithin top) (awaits_tail c) (Some sooner_end) None
+    (λ on m is. let same : sooner_end ≡ m = cc in let at : sooner_end.0 ≡ m.0 = ap (λ (end : Moment). end.0) same in let few = within deadline refl in omega (arith, at, few)) (λ off m is. cc)
+
 -- what is asked for of a role: that its connection's caller wanted no peer asked, or time enough for that
 abbrev May : ℕ → Role → Type 0
 May most role = (AsksNone role) ⊎ (86400000 ≤ most)
@@ -240,13 +250,13 @@ deadline_within : (most : ℕ) (last : Moment) (r : Role) → 240000 ≤ most �
 deadline_within most last (Connected c l) enough may near =
     let timer : (kind : TimerKind) → IsWithin (last.0 + most) (timer_of c.timers kind) = λ kind m set. omega (arith, near.timers kind m set, enough) in
     let top : ℕ = last.0 + most in
-    sooner_within top (sooner (next_of c.timers) (ends_at c)) (alive_at c)
+    sooner_within top (sooner (next_of c.timers) (ends_at c)) (sooner (alive_at c) (tail_at c))
     (sooner_within top (next_of c.timers) (ends_at c)
     (sooner_within top (sooner c.timers.retransmission c.timers.probe) (sooner c.timers.delayed_ack c.timers.overriding)
     (sooner_within top c.timers.retransmission c.timers.probe (timer Retransmission) (timer Probe))
     (sooner_within top c.timers.delayed_ack c.timers.overriding (timer DelayedAck) (timer Override)))
     (λ m is. omega (arith, wait_within last c.state c.released c.since near.since m is, enough)))
-    (asked_within most last c near.asked may)
+    (sooner_within top (alive_at c) (tail_at c) (asked_within most last c near.asked may) (tail_within top c c.timers.retransmission (timer Retransmission)))
 deadline_within most last (Idle buffers bound) enough may near = λ m is. cc
 deadline_within most last (Listener local backlog) enough may near = λ m is. cc
 deadline_within most last (Datagrams bound queues) enough may near = λ m is. cc

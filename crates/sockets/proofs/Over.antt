@@ -51,6 +51,7 @@ event_left c e kept left =
     (record {
       same = λ e kept. left;
       asks = λ e alive kept. left;
+      silent = λ now kept. left;
       heard = λ s now live kept. heard_left c s live kept;
       over = λ now ends kept. let alone : c.released ≡ false = tick-alone c now kept (or_left _ _ ends) in rw alone;
       given_up = λ now waits gives kept. let alone : c.released ≡ false = tick-alone c now kept (or_right _ _ gives) in rw alone;

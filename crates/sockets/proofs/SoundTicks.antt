@@ -17,9 +17,9 @@ use Rattle.tcp_state.specs.View.{View, IsSound, is_syn_sent, is_closed, is_at_en
 use Rattle.tcp_state.specs.Timing.{probes, expires_for_good, is_silent_for_good, gives_up, clocked, retransmission_expired, probe_expired, after_expiry, delayed_ack_expired, override_expired, after_timers, after_tick}
 use Rattle.tcp_state.specs.Edges as edge
 use Rattle.tcp_state.proofs.Clocked.{KeepsTo, timers_keep}
-use Rattle.tcp_state.proofs.Asked.{asked_sound}
+use Rattle.tcp_state.proofs.TailProbes.{silent_sound}
 use Rattle.tcp_state.proofs.Scores.{none_scores}
-use Rattle.tcp_state.specs.Alive.{alive_after, after_silence}
+use Rattle.tcp_state.specs.Alive.{after_silence}
 use Rattle.sockets.specs.declared.entry.Entry.{Entry}
 use Rattle.sockets.specs.declared.role.Role.{Role}
 use Rattle.sockets.specs.declared.role.Role.TheVariants.{Idle, Listener, Connected, Datagrams}
@@ -48,6 +48,7 @@ ended_sound v error sound = record {
   mark = λ distance none. cc;
   small = omega arith;
   recover = omega arith;
+  tail = omega arith;
   resend = record { floor = sound.resend.floor; ceiling = sound.resend.ceiling; timeout_least = sound.resend.timeout_least; timeout_most = sound.resend.timeout_most; interval_least = sound.resend.timeout_least; interval_most = sound.resend.timeout_most; expiries = sound.resend.expiries; reported = none_scores };
   connection = refl;
   segment = sound.segment;
@@ -75,6 +76,7 @@ record Fits (v w : View) : Type 0 where
   mark : ForSome w.resend.mark (λ distance. distance < outstanding v.sending)
   small : w.resend.small ≡ v.resend.small
   recover : w.resend.recover ≤ outstanding v.sending
+  tail : w.resend.tail ≤ outstanding v.sending
   resend : IsSoundResend w.resend
   delays : w.delays_ack ≡ v.delays_ack
   ack : ((is_syn_sent v.state || is_closed v.state) && (w.owes_ack || v.delays_ack)) ≡ false
@@ -89,6 +91,7 @@ expiry_fits v now sound lives =
       mark = first_mark (outstanding v.sending);
       small = refl;
       recover = either ℕ (λ n. n ≤ outstanding v.sending) (repairs v.congestion.control) (outstanding v.sending) v.resend.recover (λ repairs. omega arith) (λ plain. sound.recover);
+      tail = omega arith;
       resend = record {
         floor = sound.resend.floor;
         ceiling = sound.resend.ceiling;
@@ -107,6 +110,7 @@ expiry_fits v now sound lives =
       mark = sound.mark;
       small = refl;
       recover = sound.recover;
+      tail = sound.tail;
       resend = record {
         floor = sound.resend.floor;
         ceiling = sound.resend.ceiling;
@@ -120,7 +124,7 @@ expiry_fits v now sound lives =
       delays = refl;
       ack = sound.ack;
     })
-    (λ late. record { mark = sound.mark; small = refl; recover = sound.recover; resend = sound.resend; delays = refl; ack = sound.ack }))
+    (λ late. record { mark = sound.mark; small = refl; recover = sound.recover; tail = sound.tail; resend = sound.resend; delays = refl; ack = sound.ack }))
 
 acks_once : (never owes delays : Bool) → (never && (owes || delays)) ≡ false → (never && ((owes || delays) || delays)) ≡ false
 acks_once never owes delays e = grind (arith, common_steps)
@@ -132,6 +136,7 @@ delayed_fits v w now f =
       mark = f.mark;
       small = f.small;
       recover = f.recover;
+      tail = f.tail;
       resend = f.resend;
       delays = f.delays;
       ack = ap (λ (d : Bool). (is_syn_sent v.state || is_closed v.state) && ((w.owes_ack || d) || v.delays_ack)) f.delays ∙ acks_once (is_syn_sent v.state || is_closed v.state) w.owes_ack v.delays_ack f.ack;
@@ -145,6 +150,7 @@ override_fits v w now f =
       mark = f.mark;
       small = f.small;
       recover = f.recover;
+      tail = f.tail;
       resend = record { floor = r.floor; ceiling = r.ceiling; timeout_least = r.timeout_least; timeout_most = r.timeout_most; interval_least = r.interval_least; interval_most = r.interval_most; expiries = r.expiries; reported = r.reported };
       delays = f.delays;
       ack = f.ack;
@@ -161,6 +167,7 @@ acted_fits v now sound lives =
       mark = f.mark;
       small = f.small;
       recover = f.recover;
+      tail = f.tail;
       resend = record {
         floor = r.floor;
         ceiling = r.ceiling;
@@ -196,6 +203,7 @@ acted_sound v w sound kept f =
       mark = f.mark;
       small = subst (λ n. n ≤ outstanding v.sending) (sym f.small) sound.small;
       recover = f.recover;
+      tail = f.tail;
       resend = f.resend;
       connection = sound.connection;
       segment = sound.segment;
@@ -217,7 +225,7 @@ ticked_sound v now sound =
     (λ over. rw (waits, over) (ended_sound v (Some ETIMEDOUT) sound))
     (λ lives.
     let asked = after_silence v now in
-    let still = asked_sound v (alive_after v now) sound in
+    let still = silent_sound v now sound in
     let goes = (neither (expires_for_good v now) (is_silent_for_good v now) lives).0 in
     rw (waits, lives) (either View IsSound (has_come (next_of v.timers) now) (clocked false (after_timers asked now) now) asked
     (λ comes. acted_sound asked (clocked false (after_timers asked now) now) still (timers_keep asked now) (acted_fits asked now still goes)) (λ early. still))))

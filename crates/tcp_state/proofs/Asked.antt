@@ -20,6 +20,7 @@ asked_sound v alive k = record {
   mark = k.mark;
   small = k.small;
   recover = k.recover;
+  tail = k.tail;
   resend = k.resend;
   connection = k.connection;
   segment = k.segment;

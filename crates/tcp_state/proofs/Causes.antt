@@ -213,6 +213,7 @@ closing_caused : (v : View) (e : Event) → is_closed v.state ≡ false → is_c
 closing_caused v e lives = by_event (λ e w. is_closed w.state ≡ true → is_cause v e ≡ true) v (record {
   same = λ e closed. clash (is_closed v.state) closed lives;
   asks = λ e alive closed. clash (is_closed v.state) closed lives;
+  silent = λ now closed. clash (is_closed v.state) closed lives;
   heard = λ s now comes. heard_caused v s now lives;
   over = λ now ends closed. or_left (is_at_end v now) (gives_up v now) ends;
   given_up = λ now waits expired closed. or_right (is_at_end v now) (gives_up v now) expired;

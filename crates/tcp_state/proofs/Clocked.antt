@@ -19,7 +19,7 @@ use Rattle.tcp_halves.specs.Stream.{outstanding, after_sent}
 use Rattle.tcp_state.specs.View.{View, is_opening, is_syn_received, is_closed}
 use Rattle.tcp_state.specs.Resend.{Resend, mark_past, resend_probed, resend_acknowledged, resend_first, resend_lost, resend_ends}
 use Rattle.tcp_state.specs.Timing.{KeepsTime, probes, retransmits, awaits_more, running, retransmission_timer, probe_timer, delayed_ack_timer, override_timer, interval_of, awaits_first, unheard_since, clocked, retransmission_expired, probe_expired, after_expiry, delayed_ack_expired, override_expired, after_timers, after_expiries}
-use Rattle.tcp_state.specs.Arrival.{after_heard, is_rejected, begins_wait, answers_probe, is_counted_duplicate, blocks_told, before, since_after, is_moved, resend_heard, resend_told, told, reports_more, resend_after, congestion_event_of, is_partial, behind_ack, told_behind, whole_signal, acknowledged_signal, tells_loss, report_event, resend_counted, resend_signalled, congestion_after, timed_by, after_segment_at}
+use Rattle.tcp_state.specs.Arrival.{after_heard, is_rejected, begins_wait, answers_probe, is_counted_duplicate, blocks_told, before, since_after, is_moved, resend_heard, resend_told, told, reports_more, resend_after, congestion_event_of, is_partial, behind_ack, told_behind, ends_tail, whole_signal, acknowledged_signal, tells_loss, report_event, resend_counted, resend_signalled, congestion_after, timed_by, after_segment_at}
 use Rattle.tcp_state.specs.Due.{probe_stretch, end_of, after_syn_ack_paid, after_resent, after_first_sent, after_numbers, after_new_octets, after_new_text, brings_new_octets, after_syn_again, after_syn_out, after_stretch, after_probe, after_going_out, after_emitted}
 use Rattle.tcp_state.specs.Edges.{after_first}
 use Rattle.tcp_state.specs.Congestion.{Signal, after_signal}
@@ -213,20 +213,23 @@ heard_paced b w now P moved answered same =
     either Resend P (is_moved b w) (resend_acknowledged w.resend w.sending.una (is_opening b.state) now) _ (λ moves. moved)
     (λ stays. either Resend P b.answers_probe (record w.resend { expiries = 0 }) w.resend (λ answers. answered) (λ other. same))
 
--- what a segment is to the congestion window: nothing, the beginning, an ACK, a partial one, a duplicate one, a report that counts, or such a report behind an ACK
+-- what a segment is to the congestion window: nothing, the beginning, an ACK, a partial one, a duplicate one, a report that counts, such a report behind an ACK, or an ACK that ends a probe of the tail
 pub signalled : (b : Before) (w : View) (P : Signal → Type 0) → P Nothing → P Begins → (is_moved b w ≡ true → is_opening b.state ≡ false → is_partial w ≡ false → P (Counts (NewAck (b.held - length w.sending.held) (outstanding w.sending))))
     → (is_moved b w ≡ true → is_opening b.state ≡ false → is_partial w ≡ true → P (Counts (PartialAck (b.held - length w.sending.held))))
     → (is_moved b w ≡ false → b.is_duplicate ≡ true → P (Counts (Duplicate (outstanding w.sending)))) → (is_moved b w ≡ false → reports_more b w ≡ true → P (Counts (report_event (told b w))))
-    → (is_moved b w ≡ true → is_opening b.state ≡ false → reports_more b w ≡ true → (let n = b.held - length w.sending.held in P (Both (NewAck n (outstanding w.sending)) (report_event (behind_ack (told b w) n))))) → P (congestion_event_of b w)
-signalled b w P nothing begins acks parts repeats tells both_count =
+    → (is_moved b w ≡ true → is_opening b.state ≡ false → reports_more b w ≡ true → (let n = b.held - length w.sending.held in P (Both (NewAck n (outstanding w.sending)) (report_event (behind_ack (told b w) n)))))
+    → (is_moved b w ≡ true → is_opening b.state ≡ false → is_partial w ≡ false → ends_tail b w ≡ true → P (Both (Loss b.tail) (NewAck (b.held - length w.sending.held) (outstanding w.sending)))) → P (congestion_event_of b w)
+signalled b w P nothing begins acks parts repeats tells both_count pays =
     let n = b.held - length w.sending.held in
-    let acked = acknowledged_signal (told b w) n (reports_more b w) in
+    let acked = acknowledged_signal b (told b w) n (reports_more b w) in
+    let ack = NewAck n (outstanding w.sending) in
     either Signal P (is_closed w.state) Nothing _ (λ closed. nothing)
     (λ lives. either Signal P (is_moved b w) (if is_opening b.state then Begins else acked) _
     (λ moves. either Signal P (is_opening b.state) Begins acked (λ opens. begins)
-    (λ opened. either Signal P (is_partial w) _ (whole_signal (told b w) n (reports_more b w))
+    (λ opened. either Signal P (is_partial w) _ (whole_signal b (told b w) n (reports_more b w))
     (λ goes. either Signal P (selects w) Nothing (Counts (PartialAck n)) (λ rules. nothing) (λ none. parts moves opened goes))
-    (λ whole. either Signal P (reports_more b w) (Both (NewAck n (outstanding w.sending)) (report_event (behind_ack (told b w) n))) (Counts (NewAck n (outstanding w.sending))) (both_count moves opened) (λ alone. acks moves opened whole))))
+    (λ whole. either Signal P (reports_more b w) (Both ack (report_event (behind_ack (told b w) n))) _ (both_count moves opened)
+    (λ alone. either Signal P (ends_tail b w) (Both (Loss b.tail) ack) (Counts ack) (λ ends. pays moves opened whole ends) (λ other. acks moves opened whole)))))
     (λ stays. either Signal P b.is_duplicate (Counts (Duplicate (outstanding w.sending))) _ (λ same. repeats stays same)
     (λ other. either Signal P (reports_more b w) (Counts (report_event (told b w))) Nothing (λ more. tells stays more) (λ none. nothing))))
 
@@ -259,6 +262,7 @@ by_signal b w p P same ends next lost =
     (λ loss. let lost_so : P (resend_lost p true (outstanding w.sending)) = lost true (inr (more, ap tells_loss (told_moved b w moves) ∙ loss)) in
     either Resend (λ q. P (resend_lost q true (outstanding w.sending))) rules (resend_ends p) p (λ ended. lost_so) (λ other. lost_so))
     (λ early. either Resend P rules (resend_ends p) p (λ ended. ends moves opened) (λ other. same)))
+    (λ moves opened whole paid. same)
 
 -- what holds of the retransmission state that is left with the clock
 pub after_paced : (b : Before) (w : View) (now : Moment) (P : Resend → Type 0) → P (resend_told b w now) → P (resend_ends (resend_told b w now)) → ((r : Bool) → P (resend_lost (resend_told b w now) r (outstanding w.sending)))
@@ -286,7 +290,7 @@ told_none b w now silent =
 pub event_none : (b : Before) (w : View) → is_moved b w ≡ false → b.is_duplicate ≡ false → b.blocks ≡ [] → congestion_event_of b w ≡ Nothing
 event_none b w same first silent =
     either Signal (λ e. e ≡ Nothing) (is_closed w.state) Nothing _ (λ closed. refl)
-    (λ lives. ap (λ t. if t then (if is_opening b.state then Begins else acknowledged_signal (told b w) (b.held - length w.sending.held) (reports_more b w)) else if b.is_duplicate then Counts (Duplicate (outstanding w.sending)) else if reports_more b w then Counts (report_event (told b w)) else Nothing) same
+    (λ lives. ap (λ t. if t then (if is_opening b.state then Begins else acknowledged_signal b (told b w) (b.held - length w.sending.held) (reports_more b w)) else if b.is_duplicate then Counts (Duplicate (outstanding w.sending)) else if reports_more b w then Counts (report_event (told b w)) else Nothing) same
     ∙ ap (λ t. if t then Counts (Duplicate (outstanding w.sending)) else if reports_more b w then Counts (report_event (told b w)) else Nothing) first
     ∙ ap (λ t. if t then Counts (report_event (told b w)) else Nothing) (reports_none b w silent))
 

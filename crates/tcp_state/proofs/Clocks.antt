@@ -130,17 +130,17 @@ sets v x e moved now at moves u =
     }
 
 -- nothing is set
-stays : (v w : View) (e : Event) → w.timers ≡ v.timers → w.resend ≡ v.resend → Clocks v e w
-stays v w e timers resend =
+stays : (v w : View) (e : Event) → w.timers ≡ v.timers → w.resend.interval ≡ v.resend.interval → w.resend.expiries ≡ v.resend.expiries → w.resend.overridden ≡ v.resend.overridden → Clocks v e w
+stays v w e timers interval expiries overridden =
     let retransmission = ap (λ (t : Timers). t.retransmission) timers in
     let probe = ap (λ (t : Timers). t.probe) timers in
     record {
       runs_on = λ lives was is runs set. inl (one is was (sym set ∙ retransmission ∙ runs));
       begins = λ deadline none set. unless_none w.timers.retransmission deadline (retransmission ∙ none) set;
-      probe_on = λ lives was is runs set. inl (one is was (sym set ∙ probe ∙ runs), ap (λ (p : Resend). p.interval) resend);
+      probe_on = λ lives was is runs set. inl (one is was (sym set ∙ probe ∙ runs), interval);
       probe_begins = λ deadline none set. unless_none w.timers.probe deadline (probe ∙ none) set;
-      expiries = inl (ap (λ (p : Resend). p.expiries) resend);
-      overridden = λ none over. let bad : true ≡ false = sym over ∙ ap (λ (p : Resend). p.overridden) resend ∙ none in cc;
+      expiries = inl (expiries);
+      overridden = λ none over. let bad : true ≡ false = sym over ∙ overridden ∙ none in cc;
       override_begins = λ deadline none set. unless_none w.timers.overriding deadline (ap (λ (t : Timers). t.overriding) timers ∙ none) set;
     }
 
@@ -235,7 +235,7 @@ sent_unset v due now =
     }
 
 emission_clocks : (v : View) (o : Option Due) (now : Moment) → Clocks v (Emits now) (after_first v o now)
-emission_clocks v None now = stays v v (Emits now) refl refl
+emission_clocks v None now = stays v v (Emits now) refl refl refl refl
 emission_clocks v (Some due) now = sets v (after_going_out v due now) (Emits now) false now refl (λ moves. cc) (sent_unset v due now)
 
 -- Ticks.
@@ -323,8 +323,9 @@ asked_unset v now = let u = tick_unset (after_silence v now) now in record {
 
 clocks : (v : View) (e : Event) → Clocks v e (after_event v e)
 clocks v = by_event (Clocks v) v (record {
-  same = λ e. stays v v e refl refl;
-  asks = λ e alive. stays v (record v { alive = alive }) e refl refl;
+  same = λ e. stays v v e refl refl refl refl;
+  asks = λ e alive. stays v (record v { alive = alive }) e refl refl refl refl;
+  silent = λ now. stays v (after_silence v now) (Ticks now) refl refl refl refl;
   heard = λ s now lives. let b = before v s in let w = after_heard v s in
       sets v (record w { since = since_after b w now; resend = resend_after b w now; congestion = congestion_after b w; alive = heard_now w.alive now }) (Hears s now) (is_moved b w) now refl
       (λ moves. apart v.sending.una w.sending.una moves) (heard_unset v s now);
@@ -333,7 +334,7 @@ clocks v = by_event (Clocks v) v (record {
   acts = λ now. sets v (after_timers (after_silence v now) now) (Ticks now) false now refl (λ moves. cc) (asked_unset v now);
   emits = λ now. emission_clocks v (first_due v) now;
   sends = λ octets taken now opened. called (holding v taken) (Sends octets now) now refl refl refl;
-  reads = λ len. stays v _ (Receives len) refl refl;
+  reads = λ len. stays v _ (Receives len) refl refl refl refl;
   shuts = λ now. called (shut v v.released v.since) (Shuts now) now refl refl refl;
   delays = λ on now. sets v (told_nodelay v on) (SetsNoDelay on now) false now refl (λ moves. cc) (record {
     runs = λ lives was runs. inl runs;

@@ -1,5 +1,5 @@
 -- Why each event of a connection moves its congestion window as one event of that window, or two, or leaves it.
-use Rattle.std.proofs.Common.{◌≡◌, ℕ, ◌+◌, ◌-◌, ◌^◌, ◌<◌, ◌≤◌, ◌==◌, ◌&&◌, ◌||◌, not, nat_lt, nat_le, if◌then◌else◌, Bool, true, false, length, take, Option, Some, None, is_some, inl, inr, arith, refl, sym, ◌∙◌, ap, subst}
+use Rattle.std.proofs.Common.{◌≡◌, ℕ, ◌+◌, ◌-◌, ◌^◌, ◌<◌, ◌≤◌, ◌==◌, ◌&&◌, ◌||◌, not, nat_lt, nat_le, if◌then◌else◌, Bool, true, false, length, take, Option, Some, None, is_some, inl, inr, arith, refl, sym, ◌∙◌, ap, subst, ◌*◌, ◌/◌, min, max}
 use Rattle.std.proofs.lemmas.Bool.{leb-true, ltb-true}
 use Rattle.std.proofs.lemmas.Bool.Decides.{eqb_tells}
 use Rattle.ipv4.specs.declared.addr.Endpoint.{Endpoint}
@@ -9,7 +9,7 @@ use Rattle.clock.specs.declared.moment.Moment.{Moment}
 use Rattle.clock.specs.Moments.{has_come}
 use Rattle.retransmit.specs.Deadlines.{next_of}
 use Rattle.congestion.specs.Control.{repairs}
-use Rattle.congestion.specs.Window.{Window, is_recovering, goes_on, most_growth, after_new_ack}
+use Rattle.congestion.specs.Window.{Window, is_recovering, goes_on, most_growth, after_new_ack, after_loss}
 use Rattle.congestion.specs.Events.{Event as WindowEvent, after_event as after_window_event}
 use Rattle.congestion.specs.Events.Event.{NewAck, Expiry, Duplicate, Loss}
 use Rattle.tcp_state.specs.declared.arrival.Before.{Before}
@@ -25,9 +25,9 @@ use Rattle.tcp_state.specs.View.{View, IsSound, is_opening, is_syn_sent, is_syn_
 use Rattle.tcp_state.specs.Congestion.{Signal, after_signal, KeepsCongestion}
 use Rattle.tcp_state.specs.Congestion.Signal.{Begins, Counts, Both, Nothing}
 use Rattle.tcp_state.specs.Timing.{clocked, gives_up, retransmission_expired, probe_expired, after_expiry, after_timers, after_tick}
-use Rattle.tcp_state.specs.Alive.{alive_after, after_silence}
+use Rattle.tcp_state.specs.Alive.{after_silence}
 use Rattle.tcp_state.specs.Calls.{send_count, beyond_shutdown, shutdown_refusal, after_shutdown, aborted_at, after_release, is_removed_by_close, is_aborted_by_close}
-use Rattle.tcp_state.specs.Arrival.{opened_passively, is_receiving, beyond_fin, after_ack, after_window, after_text, after_fin, after_heard, is_rejected, before, is_moved, resend_heard, resend_after, congestion_event_of, whole_signal, acknowledged_signal, is_partial, reports_more, told, behind_ack, tells_loss, report_event, congestion_after, timed_by, after_segment_at}
+use Rattle.tcp_state.specs.Arrival.{opened_passively, is_receiving, beyond_fin, after_ack, after_window, after_text, after_fin, after_heard, is_rejected, before, is_moved, resend_heard, resend_after, congestion_event_of, whole_signal, acknowledged_signal, is_partial, reports_more, told, behind_ack, tells_loss, report_event, congestion_after, timed_by, after_segment_at, ends_tail, came_twice}
 use Rattle.tcp_state.specs.Due.{after_syn_ack_paid, after_syn_out, after_going_out, first_due}
 use Rattle.tcp_state.specs.Unreachable.{is_unreachable}
 use Rattle.tcp_state.specs.Hop.{unheard_until}
@@ -36,10 +36,11 @@ use Rattle.tcp_state.proofs.Clocked.{by_others, emission_keeps, heard_paced, aft
 use Rattle.tcp_halves.proofs.Choices.{either, by, clash, and_left, and_right, or_left, or_right}
 use Rattle.tcp_state.proofs.Segments.{by_fin, by_ack, by_hearing, by_clock}
 use Rattle.tcp_state.proofs.Deadlines.{none_comes}
-use Rattle.tcp_state.proofs.Asked.{asked_sound, asked_congestion}
+use Rattle.tcp_state.proofs.TailProbes.{silent_sound, silent_congestion}
 use Rattle.tcp_state.proofs.Emissions.{syn_sends, stretch_sends, probe_sends}
 use Rattle.tcp_state.specs.Selective.{selects}
 use Rattle.tcp_state.proofs.Growth.{IsSize, IsWindow, holds_segment, first_sound, new_ack_sound, partial_ack_sound, expiry_sound, duplicate_sound, loss_sound, duplicate_segment, new_ack_adds, duplicate_adds}
+use Rattle.tcp_state.proofs.Selects.{plain_selects_none}
 
 -- Whether our SYN went out again.
 
@@ -166,8 +167,8 @@ few : (w : View) → outstanding w.sending < 2 ^ 32
 few w = omega arith
 
 -- its window is one that events lead to
-signal_sound : (b : Before) (w : View) → IsSize w.sending.smss → IsWindow w.congestion → IsWindow (congestion_after b w)
-signal_sound b w size sound =
+signal_sound : (b : Before) (w : View) → b.tail < 2 ^ 32 → IsSize w.sending.smss → IsWindow w.congestion → IsWindow (congestion_after b w)
+signal_sound b w small size sound =
     signalled b w (λ g. IsWindow (after_signal w.congestion g w.sending.smss w.resend.syn_resent)) sound (first_sound w.congestion.control w.sending.smss w.resend.syn_resent size)
     (λ moves opened whole. new_ack_sound w.congestion (b.held - length w.sending.held) (outstanding w.sending) sound) (λ moves opened goes. partial_ack_sound w.congestion (b.held - length w.sending.held) sound) (λ stays twice. duplicate_sound w.congestion (outstanding w.sending) (few w) sound)
     (λ stays more. either WindowEvent (λ e. IsWindow (after_signal w.congestion (Counts e) w.sending.smss w.resend.syn_resent)) (tells_loss (told b w)) (Loss (outstanding w.sending)) (Duplicate (outstanding w.sending)) (λ loss. loss_sound w.congestion (outstanding w.sending) (few w) sound) (λ early. duplicate_sound w.congestion (outstanding w.sending) (few w) sound))
@@ -176,6 +177,7 @@ signal_sound b w size sound =
     let acked = after_new_ack w.congestion n (outstanding w.sending) in
     let acked_sound : IsWindow acked = new_ack_sound w.congestion n (outstanding w.sending) sound in
     either WindowEvent (λ e. IsWindow (after_window_event acked e)) (tells_loss (behind_ack (told b w) n)) (Loss (outstanding w.sending)) (Duplicate (outstanding w.sending)) (λ loss. loss_sound acked (outstanding w.sending) (few w) acked_sound) (λ early. duplicate_sound acked (outstanding w.sending) (few w) acked_sound))
+    (λ moves opened whole ends. new_ack_sound (after_loss w.congestion b.tail) (b.held - length w.sending.held) (outstanding w.sending) (loss_sound w.congestion b.tail small sound))
 
 -- it counts in segments of the peer's size, once it has begun
 signal_segment : (v : View) (s : Segment) → v.sending.una < 2 ^ 32 → is_closed v.state ≡ false → KeepsCongestion v
@@ -191,8 +193,8 @@ signal_segment v s fits lives keeps begun =
     by (is_opening v.state ≡ false) (is_opening v.state) (λ opening. clash (is_moved b w) (ap not (k.opens fits opening begun)) still) (λ opened. opened) in
     either Signal P (is_closed w.state) Nothing _ (λ closed. clash (is_idle w.state) (or_right (is_opening w.state) (is_closed w.state) closed) begun)
     (λ on. either Signal P (is_moved b w) _ _
-    (λ moved. either Signal P (is_opening b.state) Begins (acknowledged_signal (told b w) (b.held - length w.sending.held) (reports_more b w)) (λ opens. refl)
-    (λ opened. either Signal P (is_partial w) _ _ (λ goes. either Signal P (selects w) Nothing _ (λ rules. kept opened) (λ none. kept opened)) (λ whole. whole_kept (told b w) (b.held - length w.sending.held) (reports_more b w) (kept opened))))
+    (λ moved. either Signal P (is_opening b.state) Begins (acknowledged_signal b (told b w) (b.held - length w.sending.held) (reports_more b w)) (λ opens. refl)
+    (λ opened. either Signal P (is_partial w) _ _ (λ goes. either Signal P (selects w) Nothing _ (λ rules. kept opened) (λ none. kept opened)) (λ whole. whole_kept b (told b w) (b.held - length w.sending.held) (reports_more b w) (kept opened))))
     (λ still. let twice_kept : P (Counts (Duplicate (outstanding w.sending))) = duplicate_segment w.congestion (outstanding w.sending) ∙ kept (still_open still) in
     either Signal P b.is_duplicate (Counts (Duplicate (outstanding w.sending))) _
     (λ twice. twice_kept) (λ other. either Signal P (reports_more b w) (Counts (report_event (told b w))) Nothing
@@ -202,14 +204,14 @@ signal_segment v s fits lives keeps begun =
     neither true b e f = cc
     neither false b e f = f
 
-    whole_kept : (w : View) (octets : ℕ) (more : Bool) → w.congestion.smss ≡ w.sending.smss → (let c = after_signal w.congestion (whole_signal w octets more) w.sending.smss w.resend.syn_resent in c.smss) ≡ w.sending.smss
-    whole_kept w octets more kept =
+    whole_kept : (b : Before) (w : View) (octets : ℕ) (more : Bool) → w.congestion.smss ≡ w.sending.smss → (let c = after_signal w.congestion (whole_signal b w octets more) w.sending.smss w.resend.syn_resent in c.smss) ≡ w.sending.smss
+    whole_kept b w octets more kept =
         let ack = NewAck octets (outstanding w.sending) in
         let P : Signal → Type 0 = λ g. (let c = after_signal w.congestion g w.sending.smss w.resend.syn_resent in c.smss) ≡ w.sending.smss in
-        either Signal P more (Both ack (report_event (behind_ack w octets))) (Counts ack)
+        either Signal P more (Both ack (report_event (behind_ack w octets))) _
         (λ reports. either WindowEvent (λ e. P (Both ack e)) (tells_loss (behind_ack w octets)) (Loss (outstanding w.sending)) (Duplicate (outstanding w.sending)) (λ loss. kept)
         (λ early. duplicate_segment (after_window_event w.congestion ack) (outstanding w.sending) ∙ kept))
-        (λ alone. kept)
+        (λ alone. either Signal P (ends_tail b w) (Both (Loss b.tail) ack) (Counts ack) (λ ends. kept) (λ other. kept))
 
 -- Every event.
 
@@ -238,7 +240,7 @@ heard_moves v s now lives =
       window = ap (λ c. after_signal c signal w.sending.smss w.resend.syn_resent) k.congestion ∙ ap (λ r. after_signal v.congestion signal w.sending.smss r) (sym (syn_kept_after b w now));
       keeps = λ sound keeps.
           let size = k.size (record { least = sound.segment_least; most = sound.segment }) in
-          record { sound = signal_sound b w size (subst IsWindow (sym k.congestion) keeps.sound); segment = signal_segment v s sound.una lives keeps };
+          record { sound = signal_sound b w (omega (arith, sound.tail)) size (subst IsWindow (sym k.congestion) keeps.sound); segment = signal_segment v s sound.una lives keeps };
     }
 
 -- the retransmission timer expires
@@ -284,7 +286,7 @@ tick_moves v now = chosen (is_at_end v now) (gives_up v now)
     chosen false true = still v (after_reset v (Some ETIMEDOUT)) refl refl (λ begun. cc)
     chosen false false =
         either View (Moves v signal) (has_come (next_of v.timers) now) (clocked false (after_timers asked now) now) asked
-        (λ comes. let k = timers_move asked now in record { window = k.window; keeps = λ sound keeps. k.keeps (asked_sound v (alive_after v now) sound) (asked_congestion v (alive_after v now) keeps) })
+        (λ comes. let k = timers_move asked now in record { window = k.window; keeps = λ sound keeps. k.keeps (silent_sound v now sound) (silent_congestion v now keeps) })
         (λ early. subst (λ t. Moves v (if t then Counts (Expiry (outstanding v.sending)) else Nothing) asked) (sym (none_comes v now early)) (still v asked refl refl (λ begun. begun)))
 
 -- what goes out keeps the size of a segment
@@ -361,6 +363,23 @@ one_segment v keeps begun = subst (λ n. n ≤ v.congestion.cwnd) (keeps.segment
 
 -- One segment.
 
+-- an ACK that pays for a loss takes the window to half of what was in flight within it
+paid_adds : (c : Window) (flight octets left : ℕ) → IsWindow c → repairs c.control ≡ true → (let x = after_new_ack (after_loss c flight) octets left in x.cwnd) ≤ c.cwnd + most_growth c
+paid_adds c flight octets left sound on =
+    let half = max ((if repairs c.control then min flight c.cwnd else flight) / 2) (2 * c.smss) in
+    let within : (if repairs c.control then min flight c.cwnd else flight) ≡ min flight c.cwnd = ap (λ b. if b then min flight c.cwnd else flight) on in
+    let ending : (if repairs c.control then min half (max left c.smss + c.smss) else half) ≡ min half (max left c.smss + c.smss) = ap (λ b. if b then min half (max left c.smss + c.smss) else half) on in
+    let grows : most_growth c ≡ 2 * c.smss = ap (λ b. if b then 2 * c.smss else c.smss) on in
+    omega (arith, within, ending, grows)
+
+paid_repairs : (b : Before) (w : View) (c : Window) → w.congestion ≡ c → ends_tail b w ≡ true → repairs c.control ≡ true
+paid_repairs b w c same pays =
+    by (repairs c.control ≡ true) (repairs c.control) (λ on. on)
+    (λ off.
+    let taken = and_left (selects w) (nat_lt 0 b.tail) (and_left (selects w && nat_lt 0 b.tail) (w.resend.tail == 0)
+    (and_left (selects w && nat_lt 0 b.tail && (w.resend.tail == 0)) (not (is_recovering w.congestion)) (and_left (selects w && nat_lt 0 b.tail && (w.resend.tail == 0) && not (is_recovering w.congestion)) (not (came_twice w b.blocks)) pays))) in
+    clash (selects w) taken (plain_selects_none w (ap (λ (x : Window). repairs x.control) same ∙ off)))
+
 signal_adds : (b : Before) (w : View) (c : Window) → w.congestion ≡ c → IsWindow c → is_opening b.state ≡ false → is_recovering c ≡ false
     → (let x = after_signal c (congestion_event_of b w) w.sending.smss w.resend.syn_resent in is_recovering x ≡ false → x.cwnd ≤ c.cwnd + most_growth c)
 signal_adds b w c same sound opened runs =
@@ -368,14 +387,15 @@ signal_adds b w c same sound opened runs =
     let none : P Nothing = λ ends. omega arith in
     either Signal P (is_closed w.state) Nothing _ (λ closed. none)
     (λ lives. either Signal P (is_moved b w) _ _
-    (λ moved. either Signal P (is_opening b.state) Begins (acknowledged_signal (told b w) (b.held - length w.sending.held) (reports_more b w)) (λ opens. clash (is_opening b.state) opens opened)
+    (λ moved. either Signal P (is_opening b.state) Begins (acknowledged_signal b (told b w) (b.held - length w.sending.held) (reports_more b w)) (λ opens. clash (is_opening b.state) opens opened)
     (λ past_opening. either Signal P (is_partial w) _ _
     (λ goes. clash (is_recovering c) (ap is_recovering (sym same) ∙ and_right (repairs w.congestion.control) (is_recovering w.congestion) (and_left (goes_on w.congestion) (nat_lt 0 w.resend.recover) goes)) runs)
     (λ whole. let n = b.held - length w.sending.held in
     let ack = NewAck n (outstanding w.sending) in
     let acked : (after_new_ack c n (outstanding w.sending)).cwnd ≤ c.cwnd + most_growth c = new_ack_adds c n (outstanding w.sending) sound runs in
-    either Signal P (reports_more b w) (Both ack (report_event (behind_ack (told b w) n))) (Counts ack)
-    (λ more. either WindowEvent (λ e. P (Both ack e)) (tells_loss (behind_ack (told b w) n)) (Loss (outstanding w.sending)) (Duplicate (outstanding w.sending)) (λ loss ends. cc) (λ early ends. acked)) (λ alone ends. acked))))
+    either Signal P (reports_more b w) (Both ack (report_event (behind_ack (told b w) n))) _
+    (λ more. either WindowEvent (λ e. P (Both ack e)) (tells_loss (behind_ack (told b w) n)) (Loss (outstanding w.sending)) (Duplicate (outstanding w.sending)) (λ loss ends. cc) (λ early ends. acked))
+    (λ alone. either Signal P (ends_tail b w) (Both (Loss b.tail) ack) (Counts ack) (λ pays ends. paid_adds c b.tail n (outstanding w.sending) sound (paid_repairs b w c same pays)) (λ other ends. acked)))))
     (λ unmoved. let twice_adds : P (Counts (Duplicate (outstanding w.sending))) = λ ends. duplicate_adds c (outstanding w.sending) sound runs ends in
     either Signal P b.is_duplicate (Counts (Duplicate (outstanding w.sending))) _ (λ twice. twice_adds)
     (λ other. either Signal P (reports_more b w) (Counts (report_event (told b w))) Nothing

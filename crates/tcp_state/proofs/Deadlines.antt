@@ -1,5 +1,5 @@
 -- Why a tick does something exactly where the clock has come to the deadline.
-use Rattle.std.proofs.Common.{◌≡◌, ℕ, ◌≤◌, ◌&&◌, ◌||◌, not, nat_lt, nat_le, if◌then◌else◌, Bool, true, false, Option, Some, None, inl, inr, arith, refl, sym, ◌∙◌, ap, is_some}
+use Rattle.std.proofs.Common.{◌≡◌, ℕ, ◌≤◌, ◌-◌, ◌&&◌, ◌||◌, not, nat_lt, nat_le, if◌then◌else◌, Bool, true, false, Option, Some, None, inl, inr, arith, refl, sym, ◌∙◌, ap, is_some}
 use Rattle.std.proofs.lemmas.Bool.{leb-true, le-leb}
 use Rattle.std.proofs.lemmas.Bool.Decides.{leb_tells}
 use Rattle.clock.specs.declared.moment.Moment.{Moment}
@@ -10,10 +10,11 @@ use Rattle.tcp_state.specs.declared.resend.TheConstants.{MOST_EXPIRIES}
 use Rattle.tcp_state.specs.Resend.{mark_past}
 use Rattle.tcp_halves.specs.Stream.{outstanding}
 use Rattle.tcp_state.specs.View.{View, is_closed, ends_at, is_at_end, after_stop, after_reset}
+use Rattle.tcp_state.specs.Tail.{tail_at, is_tail_due}
 use Rattle.tcp_state.specs.Alive.{rests, end_of_silence, alive_at, is_silent, unanswered_again, after_silence}
 use Rattle.tcp_state.specs.Timing.{KeepsTime, probes, clocked, expires, is_silent_for_good, gives_up, retransmission_expired, probe_expired, after_expiry, delayed_ack_expired, override_expired, after_timers, after_expiries, after_tick, wants_out, deadline}
 use Rattle.tcp_halves.proofs.Choices.{either, clash, and_left, or_left, or_right, or_else, neither}
-use Rattle.tcp_state.proofs.Asked.{asked_timed}
+use Rattle.tcp_state.proofs.TailProbes.{silent_timed, nobody_waits}
 
 -- When a deadline has come.
 
@@ -64,21 +65,26 @@ none_comes v now early =
 pub busy : (v : View) (now : Moment) → rests v ≡ false → is_silent v now ≡ false
 busy v now waits = ap (λ b. has_come (if b then end_of_silence v.alive.every v.alive else None) now) waits
 
--- what has come where the deadline has: a timer, the end of a wait, or that of a silence
-deadline_comes : (v : View) (now : Moment) → has_come (deadline v) now ≡ (has_come (next_of v.timers) now || is_at_end v now || is_silent v now)
-deadline_comes v now = sooner_comes (sooner (next_of v.timers) (ends_at v)) (alive_at v) now ∙ ap (λ b. b || is_silent v now) (sooner_comes (next_of v.timers) (ends_at v) now)
+-- what has come where the deadline has: a timer, the end of a wait, or that of a silence, also about the tail of what is outstanding
+deadline_comes : (v : View) (now : Moment) → has_come (deadline v) now ≡ (has_come (next_of v.timers) now || is_at_end v now || (is_silent v now || is_tail_due v now))
+deadline_comes v now =
+    sooner_comes (sooner (next_of v.timers) (ends_at v)) (sooner (alive_at v) (tail_at v)) now
+    ∙ ap (λ b. b || has_come (sooner (alive_at v) (tail_at v)) now) (sooner_comes (next_of v.timers) (ends_at v) now)
+    ∙ ap (λ b. has_come (next_of v.timers) now || is_at_end v now || b) (sooner_comes (alive_at v) (tail_at v) now)
 
 -- before the deadline a tick changes nothing
 pub waits : (v : View) (now : Moment) → has_come (deadline v) now ≡ false → after_tick v now ≡ v
 waits v now early =
-    let spoken = neither (has_come (next_of v.timers) now || is_at_end v now) (is_silent v now) (sym (deadline_comes v now) ∙ early) in
+    let spoken = neither (has_come (next_of v.timers) now || is_at_end v now) (is_silent v now || is_tail_due v now) (sym (deadline_comes v now) ∙ early) in
+    let heard = neither (is_silent v now) (is_tail_due v now) spoken.1 in
     let parts = neither (has_come (next_of v.timers) now) (is_at_end v now) spoken.0 in
     let expired = neither (expires v now) (has_come v.timers.delayed_ack now || has_come v.timers.overriding now) (sym (timers_come v now) ∙ parts.0) in
     let gives = after_reset v (Some ETIMEDOUT) in
     let goes_on = after_expiries (after_silence v now) now in
     ap (λ b. if b then after_stop v else if gives_up v now then gives else goes_on) parts.1
     ∙ ap (λ b. if (b && nat_le MOST_EXPIRIES v.resend.expiries) || is_silent_for_good v now then gives else goes_on) expired.0
-    ∙ ap (λ b. if b && nat_le MOST_EXPIRIES v.alive.unanswered then gives else after_expiries (record v { alive = if b then unanswered_again v.alive v.resend.timeout.rto now else v.alive }) now) spoken.1
+    ∙ ap (λ b. if b && nat_le MOST_EXPIRIES v.alive.unanswered then gives else goes_on) heard.0
+    ∙ ap (λ w. after_expiries w now) (nobody_waits v now heard.0 heard.1)
     ∙ ap (λ b. if b then clocked false (after_timers v now) now else v) parts.0
 
 -- What timers that act leave to be done.
@@ -179,6 +185,10 @@ wanted_by_timers v now keeps come =
 pub owed_in_silence : (v : View) (now : Moment) → is_silent v now ≡ true → (after_silence v now).alive.owed ≡ true
 owed_in_silence v now silent = ap (λ b. let a = if b then unanswered_again v.alive v.resend.timeout.rto now else v.alive in a.owed) silent
 
+-- .. and the last segment goes out again
+marked_in_silence : (v : View) (now : Moment) → is_tail_due v now ≡ true → is_some (let w = after_silence v now in w.resend.mark) ≡ true
+marked_in_silence v now due = ap (λ b. is_some (if b then Some (outstanding v.sending - v.sending.smss) else v.resend.mark)) due
+
 pub acts : (v : View) (now : Moment) → KeepsTime v → has_come (deadline v) now ≡ true → (wants_out (after_tick v now) || is_closed (after_tick v now).state) ≡ true
 acts v now keeps come =
     let P : View → Type 0 = λ w. (wants_out w || is_closed w.state) ≡ true in
@@ -188,11 +198,14 @@ acts v now keeps come =
     either View P (is_at_end v now) (after_stop v) _ (λ over. or_right (wants_out (after_stop v)) true refl)
     (λ goes_on. either View P (gives_up v now) (after_reset v (Some ETIMEDOUT)) _ (λ given_up. or_right (wants_out (after_reset v (Some ETIMEDOUT))) true refl)
     (λ lives. either View P (has_come (next_of v.timers) now) acted quiet
-    (λ comes. or_left (wants_out acted) (is_closed acted.state) (or_left (before acted) acted.alive.owed (wanted_by_timers quiet now (asked_timed v quiet.alive keeps) comes)))
+    (λ comes. or_left (wants_out acted) (is_closed acted.state) (or_left (before acted) acted.alive.owed (wanted_by_timers quiet now (silent_timed v now keeps) comes)))
     (λ early.
     let none = ap (λ b. b || is_at_end v now) early ∙ goes_on in
-    let silent : is_silent v now ≡ true = elim (or_else (has_come (next_of v.timers) now || is_at_end v now) (is_silent v now) (sym (deadline_comes v now) ∙ come)) [
+    or_left (wants_out quiet) (is_closed quiet.state)
+    (elim (or_else (has_come (next_of v.timers) now || is_at_end v now) (is_silent v now || is_tail_due v now) (sym (deadline_comes v now) ∙ come)) [
       | inl other ↦ clash (has_come (next_of v.timers) now || is_at_end v now) other none
-      | inr is ↦ is
-    ] in
-    or_left (wants_out quiet) (is_closed quiet.state) (or_right (before quiet) quiet.alive.owed (owed_in_silence v now silent)))))
+      | inr is ↦ elim (or_else (is_silent v now) (is_tail_due v now) is) [
+        | inl silent ↦ or_right (before quiet) quiet.alive.owed (owed_in_silence v now silent)
+        | inr tail ↦ or_left (before quiet) quiet.alive.owed (again_wanted (is_some quiet.resend.mark) quiet.resend.owes_probe quiet.owes_ack quiet.resend.overridden (marked_in_silence v now tail))
+      ]
+    ]))))

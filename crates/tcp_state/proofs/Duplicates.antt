@@ -47,7 +47,7 @@ pub repeats : (v : View) (s : Segment) → IsSound v → IsDuplicate v s → is_
 repeats v s sound d is =
     let b = before v s in
     let w = after_window v s in
-    let acks : Signal = if is_opening b.state then Begins else acknowledged_signal (told_by b w) (b.held - length w.sending.held) (reports_more b w) in
+    let acks : Signal = if is_opening b.state then Begins else acknowledged_signal b (told_by b w) (b.held - length w.sending.held) (reports_more b w) in
     let reported : Signal = if reports_more b w then Counts (report_event (told_by b w)) else Nothing in
     let other : Signal = if b.is_duplicate then Counts (Duplicate (outstanding w.sending)) else reported in
     let still : is_moved b w ≡ false = ap (λ n. not (v.sending.una == n)) (window_stays v s d).una ∙ unmoved v in

@@ -115,6 +115,7 @@ event-edge : (v : View) (e : Event) → IsEdge v.state (after_event v e).state
 event-edge v = by_event (λ e w. IsEdge v.state w.state) v (record {
   same = λ e. inl refl;
   asks = λ e alive. inl refl;
+  silent = λ now. inl refl;
   heard = λ s now lives. heard-edge v s;
   over = λ now ends. closes v.state;
   given_up = λ now waits expired. closes v.state;

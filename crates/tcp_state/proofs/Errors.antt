@@ -125,6 +125,7 @@ tells : (v : View) (e : Event) → Tells v e (after_event v e)
 tells v = by_event (Tells v) v (record {
   same = λ e. inl refl;
   asks = λ e alive. inl refl;
+  silent = λ now. inl refl;
   heard = λ s now lives. heard_tells v s now;
   over = λ now ends. inl refl;
   given_up = λ now waits expired. inr (record {

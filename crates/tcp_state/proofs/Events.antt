@@ -14,7 +14,7 @@ use Rattle.tcp_state.specs.Due.{first_due}
 use Rattle.tcp_state.specs.Unreachable.{is_unreachable}
 use Rattle.tcp_state.specs.Hop.{unheard_until}
 use Rattle.tcp_state.specs.declared.alive.KeepAlive.{KeepAlive}
-use Rattle.tcp_state.specs.Alive.{asked, alive_after, after_silence}
+use Rattle.tcp_state.specs.Alive.{asked, after_silence}
 use Rattle.tcp_state.specs.Edges.{Event, Hears, Ticks, Emits, Sends, Receives, Shuts, SetsNoDelay, SetsKeepAlive, Closes, Aborts, Unreachable, LosesHop, moment_of, after_first, after_event, is_cause}
 use Rattle.tcp_halves.proofs.Choices.{either, neither, or_right}
 
@@ -32,6 +32,7 @@ shut v released since = record v { state = beyond_shutdown v.state; released = r
 pub record ByEvent (P : Event → View → Type 0) (v : View) : Type 0 where
   pub same : (e : Event) → P e v
   pub asks : (e : Event) (alive : KeepAlive) → P e (record v { alive = alive })
+  pub silent : (now : Moment) → P (Ticks now) (after_silence v now)
   pub heard : (s : Segment) (now : Moment) → is_closed v.state ≡ false → P (Hears s now) (timed_by (before v s) (after_heard v s) now)
   pub over : (now : Moment) → is_at_end v now ≡ true → P (Ticks now) (after_stop v)
   pub given_up : (now : Moment) → is_at_end v now ≡ false → gives_up v now ≡ true → P (Ticks now) (after_reset v (Some ETIMEDOUT))
@@ -54,7 +55,7 @@ by_event P v cases (Ticks now) =
     let e = Ticks now in
     either View (P e) (is_at_end v now) (after_stop v) _ (cases.over now)
     (λ waits. either View (P e) (gives_up v now) (after_reset v (Some ETIMEDOUT)) _ (cases.given_up now waits)
-    (λ goes_on. let quiet = after_silence v now in either View (P e) (has_come (next_of v.timers) now) (clocked false (after_timers quiet now) now) quiet (λ comes. cases.acts now) (λ early. cases.asks e (alive_after v now))))
+    (λ goes_on. let quiet = after_silence v now in either View (P e) (has_come (next_of v.timers) now) (clocked false (after_timers quiet now) now) quiet (λ comes. cases.acts now) (λ early. cases.silent now)))
 by_event P v cases (Emits now) = cases.emits now
 by_event P v cases (Sends octets now) =
     let e = Sends octets now in

@@ -9,6 +9,7 @@ use Rattle.tcp_state.specs.declared.calls.Refusal.TheVariants.{ETIMEDOUT}
 use Rattle.tcp_state.specs.declared.resend.TheConstants.{MOST_EXPIRIES}
 use Rattle.tcp_state.specs.declared.emission.Due.TheVariants.{Rst, Syn, Text}
 use Rattle.tcp_halves.specs.Stream.{outstanding}
+use Rattle.tcp_state.specs.Resend.{Resend}
 use Rattle.tcp_state.specs.View.{View, IsSound, is_opening, is_closed, is_at_end, after_stop, after_reset}
 use Rattle.tcp_state.specs.Alive.{is_silent, after_silence}
 use Rattle.tcp_state.specs.Timing.{KeepsTime, probes, retransmits, running, clocked, expires, expires_for_good, is_silent_for_good, gives_up, retransmission_expired, probe_expired, after_timers, after_tick}
@@ -18,7 +19,7 @@ use Rattle.stream_buf.specs.Ranges.{AreApart}
 use Rattle.congestion.specs.Window.{is_recovering}
 use Rattle.tcp_state.proofs.Places.{at_una_goes, unruled}
 use Rattle.tcp_state.proofs.Clocked.{by_others, timers_keep}
-use Rattle.tcp_state.proofs.Asked.{asked_timed}
+use Rattle.tcp_state.proofs.TailProbes.{tail_rests, probed_rest, silent_timed}
 use Rattle.tcp_state.proofs.Deadlines.{timers_come, come_runs}
 
 -- a tick at which an expiry counts ends the connection, or lets its timers act
@@ -149,7 +150,7 @@ probes_again v now keeps come lives =
     let wait = min 60000 (2 * v.resend.interval) in
     let quiet = after_silence v now in
     let third = after_timers quiet now in
-    let k = probed quiet now (asked_timed v quiet.alive keeps) come in
+    let k = probed quiet now (silent_timed v now keeps) come in
     let goes : probes third ≡ true = ap (λ (w : View). probes w) (timers_keep quiet now) ∙ sym keeps.probe ∙ come_runs v.timers.probe now come in
     by_expiry (λ w. (w.resend.interval ≡ wait) × (w.timers.probe ≡ Some (after now wait)) × (w.resend.owes_probe ≡ true)) v now (or_right (has_come v.timers.retransmission now) (has_come v.timers.probe now) come) lives (
       interval_on (probes third) third.timers.probe (after now wait) third.resend.interval third.resend.timeout.rto wait goes k.runs k.interval,
@@ -161,9 +162,10 @@ pub probes_alone : (v : View) (now : Moment) → KeepsTime v → has_come v.time
     → ((after_tick v now).resend.timeout ≡ v.resend.timeout) × ((after_tick v now).congestion ≡ v.congestion) × ((after_tick v now).resend.mark ≡ v.resend.mark)
 probes_alone v now keeps come lives =
     let quiet = after_silence v now in
-    let k = probed quiet now (asked_timed v quiet.alive keeps) come in
+    let k = probed quiet now (silent_timed v now keeps) come in
+    let still = tail_rests v now (probed_rest v now keeps (sym keeps.probe ∙ come_runs v.timers.probe now come)) in
     by_expiry (λ w. (w.resend.timeout ≡ v.resend.timeout) × (w.congestion ≡ v.congestion) × (w.resend.mark ≡ v.resend.mark)) v now (or_right (has_come v.timers.retransmission now) (has_come v.timers.probe now) come) lives
-    (k.timeout, k.congestion, k.mark)
+    (k.timeout, k.congestion, k.mark ∙ ap (λ (p : Resend). p.mark) still)
 
 -- The last one.
 

@@ -43,6 +43,7 @@ first_syn_sound v s advertised sound waits few =
       mark = sound.mark;
       small = sound.small;
       recover = sound.recover;
+      tail = sound.tail;
       resend = sound.resend;
       connection = refl;
       segment = omega arith;

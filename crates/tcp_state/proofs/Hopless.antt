@@ -202,6 +202,7 @@ follows : (v : View) (e : Event) → Follows v.unheard (moment_of e) (after_even
 follows v = by_event (λ e w. Follows v.unheard (moment_of e) w.unheard) v (record {
   same = λ e. inl refl;
   asks = λ e alive. inl refl;
+  silent = λ now. inl refl;
   heard = λ s now lives. heard_follows v s now;
   over = λ now ends. inr (inl refl);
   given_up = λ now waits expired. inr (inl refl);

@@ -4,7 +4,7 @@ use Rattle.std.specs.Option.{ForSome, unwrap_or}
 use Rattle.std.proofs.lemmas.Bool.{cases_Bool, cases_lt, lt-ltb, le-ltb}
 use Rattle.stream_buf.specs.declared.ranges.Range.{Range}
 use Rattle.stream_buf.specs.Ranges.{AreApart}
-use Rattle.stream_buf.specs.Scoreboard.{is_reported, unreported}
+use Rattle.stream_buf.specs.Scoreboard.{is_reported, is_lost, unreported, lost_end, reported_end}
 use Rattle.stream_buf.proofs.Reports.{none_below, next_below, lost_before}
 use Rattle.congestion.specs.Window.{is_recovering}
 use Rattle.tcp_halves.specs.Stream.{outstanding}
@@ -15,7 +15,12 @@ use Rattle.tcp_state.specs.Network.{is_taken_for_lost, went_again, times_of, in_
 
 -- What is lost stands before one end.
 pub lost_is_before : (v : View) (place : ℕ) → AreApart 1 v.resend.reported → is_reported v.resend.reported place ≡ false → nat_lt place (loss_end v) ≡ is_taken_for_lost v place
-lost_is_before v place apart missing = lost_before v.sending.smss v.resend.reported 1 place apart missing
+lost_is_before v place apart missing =
+    let last = reported_end v.resend.reported in
+    let lost = lost_end v.sending.smss v.resend.reported in
+    by (nat_lt place (loss_end v) ≡ is_taken_for_lost v place) (nat_lt 0 v.resend.tail)
+    (λ probed. ap (λ b. nat_lt place (if b then last else lost)) probed ∙ sym (ap (λ b. if b then nat_lt place last else is_lost v.sending.smss v.resend.reported place) probed))
+    (λ none. ap (λ b. nat_lt place (if b then last else lost)) none ∙ lost_before v.sending.smss v.resend.reported 1 place apart missing ∙ sym (ap (λ b. if b then nat_lt place last else is_lost v.sending.smss v.resend.reported place) none))
 
 -- What went out again stands before another.
 again_is_before : (v : View) (place : ℕ) → nat_lt place (repaired_end v) ≡ went_again v place

@@ -14,13 +14,13 @@ use Rattle.tcp_halves.specs.Windows.{updates_window}
 use Rattle.tcp_halves.proofs.Choices.{either, by, both, and_left, and_right, not_true, of_false}
 use Rattle.tcp_state.specs.Resend.{Resend, stopped, resend_probed}
 use Rattle.tcp_state.specs.View.{View, IsSound, is_syn_received, is_closed, awaits_fin_ack, takes_flag_number}
-use Rattle.tcp_state.specs.Alive.{alive_after, after_silence}
+use Rattle.tcp_state.specs.Alive.{after_silence}
 use Rattle.tcp_state.specs.Timing.{clocked, retransmission_expired, probe_expired, after_timers}
 use Rattle.tcp_state.specs.Arrival.{is_receiving, is_of_fin, beyond_fin, after_new_ack, after_ack, after_window, after_text, after_heard, before, timed_by}
 use Rattle.tcp_state.specs.Due.{IsSmall, first_due, probe_stretch, end_of, after_resent, after_first_sent, after_numbers, after_new_octets, after_new_text, brings_new_octets, after_syn_ack_paid, after_syn_out, after_stretch, after_emitted}
 use Rattle.tcp_state.specs.Edges.{Event, Emits, after_first, after_event}
 use Rattle.tcp_state.proofs.Clocked.{by_others, heard_paced, after_paced, syn_out}
-use Rattle.tcp_state.proofs.Asked.{asked_sound}
+use Rattle.tcp_state.proofs.TailProbes.{silent_sound}
 use Rattle.tcp_state.proofs.Events.{by_event}
 use Rattle.tcp_state.proofs.Segments.{by_fin, by_ack, by_hearing}
 
@@ -188,10 +188,11 @@ small_stays v e sound =
     by_event (λ e w. Left v w ⊎ Begins v e) v (record {
       same = λ e. inl here;
       asks = λ e alive. inl here;
+      silent = λ now. inl here;
       heard = λ s now lives. inl (timed_left v s now sound);
       over = λ now ends. inl over;
       given_up = λ now waits expired. inl over;
-      acts = λ now. inl (acts_left (after_silence v now) now (asked_sound v (alive_after v now) sound));
+      acts = λ now. inl (acts_left (after_silence v now) now (silent_sound v now sound));
       emits = λ now. emitted v now sound;
       sends = λ octets taken now opened. inl here;
       reads = λ len. inl here;

@@ -310,6 +310,7 @@ event_parts : (v : View) (e : Event) → IsSound v → IsSized e → Parts v →
 event_parts v e sound sized p = by_event (λ e w. IsSized e → Parts w) v (record {
   same = λ e few. p;
   asks = λ e alive few. p;
+  silent = λ now few. p;
   heard = λ s now lives few. heard_leaves v s sound few p;
   over = λ now ends few. (p.0, λ received silent flies. cc, λ opened silent free. cc);
   given_up = λ now waits expired few. (p.0, λ received silent flies. cc, λ opened silent free. cc);

@@ -103,3 +103,5 @@ pub mod Recovering
 pub mod Transmits
 pub mod BlocksTold
 pub mod KeptTold
+pub mod TailProbes
+pub mod TailEnds

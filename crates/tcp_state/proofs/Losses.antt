@@ -120,11 +120,11 @@ loses v s now lives is third =
     let b = before v s in
     let w = after_window v s in
     let other : Signal = if reports_more b w then Counts (report_event (told b w)) else Nothing in
-    let signal : Signal = if is_moved b w then (if is_opening b.state then Begins else acknowledged_signal (told b w) (b.held - length w.sending.held) (reports_more b w)) else if b.is_duplicate then Counts (Duplicate (outstanding w.sending)) else other in
+    let signal : Signal = if is_moved b w then (if is_opening b.state then Begins else acknowledged_signal b (told b w) (b.held - length w.sending.held) (reports_more b w)) else if b.is_duplicate then Counts (Duplicate (outstanding w.sending)) else other in
     let still : is_moved b w ≡ false = ap (λ n. not (v.sending.una == n)) (numbers_stay v s).0 ∙ unmoved v in
     let event : congestion_event_of b w ≡ Counts (Duplicate (outstanding w.sending)) =
     ap (λ t. if t then Nothing else signal) lives
-    ∙ ap (λ t. if t then (if is_opening b.state then Begins else acknowledged_signal (told b w) (b.held - length w.sending.held) (reports_more b w)) else if b.is_duplicate then Counts (Duplicate (outstanding w.sending)) else other) still
+    ∙ ap (λ t. if t then (if is_opening b.state then Begins else acknowledged_signal b (told b w) (b.held - length w.sending.held) (reports_more b w)) else if b.is_duplicate then Counts (Duplicate (outstanding w.sending)) else other) still
     ∙ ap (λ t. if t then Counts (Duplicate (outstanding w.sending)) else other) is in
     let resend = resend_told b w now in
     ap (λ g. resend_signalled resend g w.congestion (outstanding w.sending)) event ∙ ap (λ t. if t then resend_lost resend (repairs w.congestion.control) (outstanding w.sending) else resend) third
@@ -201,6 +201,7 @@ others_unlost b w now stands other unreported =
     let early : tells_loss (behind_ack (told b w) n) ≡ false = ap tells_loss (sym (told_moved b w moves)) ∙ second_false (reports_more b w) (tells_loss (told_behind b w)) more unreported in
     ap (λ t. resend_signalled resend (Both (NewAck n (outstanding w.sending)) (if t then Loss (outstanding w.sending) else Duplicate (outstanding w.sending))) w.congestion (outstanding w.sending)) early
     ∙ ap (λ t. if t then resend_ends resend else resend) (ends_none w.congestion stands))
+    (λ moves opened whole ends. refl)
   where
     first_false : (x y : Bool) → (x || y) ≡ false → x ≡ false
     first_false true y e = cc

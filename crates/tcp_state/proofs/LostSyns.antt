@@ -117,6 +117,7 @@ all_events : (v : View) (e : Event) → Same v (after_event v e) ⊎ Resends v e
 all_events v e = by_event (λ e w. Same v w ⊎ Resends v e w) v (record {
   same = λ e. inl refl;
   asks = λ e alive. inl refl;
+  silent = λ now. inl refl;
   heard = λ s now lives. inl (timed_same v s now);
   over = λ now ends. inl refl;
   given_up = λ now waits expired. inl refl;

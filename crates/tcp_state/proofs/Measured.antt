@@ -15,7 +15,7 @@ use Rattle.tcp_state.specs.Timing.{clocked, retransmission_expired, probe_expire
 use Rattle.tcp_state.specs.Calls.{aborted_at}
 use Rattle.tcp_state.specs.Arrival.{after_heard, before, resend_heard, resend_told, resend_after, timed_by}
 use Rattle.tcp_state.specs.Due.{MayGoOut, sends_again, after_emitted, probe_stretch, end_of, after_syn_ack_paid, after_resent, after_first_sent, after_numbers, after_new_octets, after_new_text, brings_new_octets, after_syn_out, after_going_out, first_due}
-use Rattle.tcp_state.specs.Edges.{Event, moment_of, after_first, after_event}
+use Rattle.tcp_state.specs.Edges.{Event, moment_of, after_first, after_event, Ticks}
 use Rattle.tcp_state.proofs.Clocked.{by_others, syn_out, heard_paced, after_paced}
 use Rattle.tcp_halves.proofs.Choices.{either, clash}
 use Rattle.tcp_state.proofs.Events.{by_event}
@@ -158,6 +158,7 @@ measures : (v : View) (e : Event) → Measures v (moment_of e) (after_event v e)
 measures v = by_event (λ e. Measures v (moment_of e)) v (record {
   same = λ e. keeps v v (moment_of e) refl refl;
   asks = λ e alive. keeps v _ (moment_of e) refl refl;
+  silent = λ now. keeps v _ (moment_of (Ticks now)) refl refl;
   heard = λ s now lives. heard_measures v s now;
   over = λ now ends. leaves v _ (Some now) refl refl;
   given_up = λ now waits expired. leaves v _ (Some now) refl refl;

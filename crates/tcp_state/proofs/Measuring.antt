@@ -153,6 +153,7 @@ pub measuring_goes_on : (v : View) (e : Event) (timed : Timed) → IsSound v →
 measuring_goes_on v e timed sound is = by_event (λ e w. GoesOn v e timed w) v (record {
   same = λ e. inl is;
   asks = λ e alive. inl is;
+  silent = λ now. inl is;
   heard = λ s now lives. heard_goes_on v s now timed is;
   over = λ now ends. inr (refl, inl refl);
   given_up = λ now waits expired. inr (refl, inl refl);

@@ -44,6 +44,7 @@ pub set_up_stays : (v : View) (e : Event) → (after_event v e).minshall ≡ v.m
 set_up_stays v = by_event (λ e w. Same v w) v (record {
   same = λ e. refl;
   asks = λ e alive. refl;
+  silent = λ now. refl;
   heard = λ s now lives. heard_same v s;
   over = λ now ends. refl;
   given_up = λ now waits expired. refl;

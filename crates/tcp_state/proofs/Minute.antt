@@ -20,8 +20,10 @@ use Rattle.tcp_state.specs.declared.emission.Stretch.{Stretch}
 use Rattle.tcp_halves.specs.Halves.{Sending}
 use Rattle.tcp_halves.specs.Stream.{outstanding}
 use Rattle.tcp_halves.specs.Windows.{sendable, takes_enough, is_worth_sending}
+use Rattle.tcp_state.specs.Resend.{Resend}
 use Rattle.tcp_state.specs.View.{View, IsSound, is_opening, is_closed, is_write_finished, awaits_fin_ack, takes_flag_number, end_of_wait, is_at_end, after_stop, after_reset}
 use Rattle.tcp_state.specs.Congestion.{KeepsCongestion}
+use Rattle.tcp_state.specs.Tail.{is_tail_due}
 use Rattle.tcp_state.specs.Alive.{may_rest, is_silent, after_silence}
 use Rattle.tcp_state.specs.Timing.{KeepsTime, has_unacknowledged, probes, clocked, expires, expires_for_good, is_silent_for_good, gives_up, retransmission_expired, probe_expired, after_expiry, delayed_ack_expired, override_expired, after_timers, after_tick}
 use Rattle.tcp_state.specs.New.{passes_full, sends_new, sends_fin, waits_no_longer}
@@ -40,6 +42,7 @@ use Rattle.tcp_state.proofs.Clocked.{timers_keep}
 use Rattle.tcp_state.proofs.Deadlines.{timers_come, busy}
 use Rattle.tcp_state.proofs.Expiries.{goes_again_all, probes_again}
 use Rattle.tcp_state.proofs.StillStreams.{ticks_leave}
+use Rattle.tcp_state.proofs.TailProbes.{tail_rests, few_rest, allowance_silent, passes_silent}
 use Rattle.tcp_state.proofs.Fewer.{holds_where}
 
 -- The tick ends nothing.
@@ -72,7 +75,7 @@ stays_up v now sound some few =
     (λ comes. ap (λ (w : View). is_closed w.state) (timers_keep quiet now) ∙ holds.lives) (λ early. holds.lives)))
 
 -- so the timers act, or none has come
-by_live_tick : (P : View → Type 0) (v : View) (now : Moment) → is_closed (after_tick v now).state ≡ false → P (clocked false (after_timers (after_silence v now) now) now) → (has_come (next_of v.timers) now ≡ false → P (after_silence v now)) → P (after_tick v now)
+pub by_live_tick : (P : View → Type 0) (v : View) (now : Moment) → is_closed (after_tick v now).state ≡ false → P (clocked false (after_timers (after_silence v now) now) now) → (has_come (next_of v.timers) now ≡ false → P (after_silence v now)) → P (after_tick v now)
 by_live_tick P v now lives acts rests =
     let Q : View → Type 0 = λ w. is_closed w.state ≡ false → P w in
     let quiet = after_silence v now in
@@ -236,20 +239,21 @@ timers_idle v now none =
     (either View (λ x. Idles v now (override_expired x now)) (has_come v.timers.delayed_ack now) (record v { owes_ack = v.owes_ack || v.delays_ack }) v
     (λ is. override_idles v (v.owes_ack || v.delays_ack) now) (λ early. override_idles v v.owes_ack now))
 
-tick_idles : (v : View) (now : Moment) → is_closed (after_tick v now).state ≡ false → expires v now ≡ false → Idles v now (after_tick v now)
-tick_idles v now lives none =
+tick_idles : (v : View) (now : Moment) → is_closed (after_tick v now).state ≡ false → expires v now ≡ false → is_tail_due v now ≡ false → Idles v now (after_tick v now)
+tick_idles v now lives none rests =
+    let mark : (let q = after_silence v now in q.resend.mark) ≡ v.resend.mark = ap (λ (p : Resend). p.mark) (tail_rests v now rests) in
     by_live_tick (Idles v now) v now lives
-    (let k = timers_idle (after_silence v now) now none in record { mark = k.mark; congestion = k.congestion; still = k.still; over = k.over; nodelay = k.nodelay; passes = k.passes; room = k.room })
+    (let k = timers_idle (after_silence v now) now none in record { mark = k.mark ∙ mark; congestion = k.congestion; still = k.still; over = k.over; nodelay = k.nodelay; passes = k.passes ∙ passes_silent v now; room = k.room ∙ allowance_silent v now })
     (λ early. record {
-      mark = refl;
+      mark = mark;
       congestion = refl;
       still = λ o. o;
       over = λ is.
           let others = (neither (expires v now) (has_come v.timers.delayed_ack now || has_come v.timers.overriding now) (sym (timers_come v now) ∙ early)).1 in
           clash (has_come v.timers.overriding now) is (neither (has_come v.timers.delayed_ack now) (has_come v.timers.overriding now) others).1;
       nodelay = refl;
-      passes = refl;
-      room = refl;
+      passes = passes_silent v now;
+      room = allowance_silent v now;
     })
 
 -- Together.
@@ -341,7 +345,7 @@ idle_brings v now sound keeps network some all few unprobed room idle =
     let opened = (holds_where v sound some).opened in
     let none : expires v now ≡ false =
     ap (λ b. b || has_come v.timers.probe now) (runs_not v.timers.retransmission now (keeps.retransmission ∙ ap (λ n. nat_lt 0 n && not (probes v)) idle)) ∙ runs_not v.timers.probe now (keeps.probe ∙ unprobed) in
-    let i = tick_idles v now (stays_up v now sound some few) none in
+    let i = tick_idles v now (stays_up v now sound some few) none (few_rest v now (omega (arith, idle))) in
     let some_network : 0 < cwnd = allowance_some v sound network idle in
     let may : nat_lt 0 (sendable sent cwnd) ≡ true = lt-ltb 0 (sendable sent cwnd) (omega (arith, room, some_network, idle, some)) in
     let full = nat_le sent.smss (sendable sent cwnd) in

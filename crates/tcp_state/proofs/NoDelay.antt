@@ -37,6 +37,7 @@ pub only_told : (v : View) (e : Event) → Same v (after_event v e) ⊎ ((on : B
 only_told v = by_event (λ e w. Same v w ⊎ ((on : Bool) × (now : Moment) × (e ≡ SetsNoDelay on now))) v (record {
   same = λ e. inl refl;
   asks = λ e alive. inl refl;
+  silent = λ now. inl refl;
   heard = λ s now lives. inl (heard_same v s);
   over = λ now ends. inl refl;
   given_up = λ now waits expired. inl refl;

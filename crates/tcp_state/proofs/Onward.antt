@@ -326,6 +326,7 @@ pub never_back : (v : View) (e : Event) → IsSound v → HasNumber e → NeverB
 never_back v e sound = by_event (λ e w. HasNumber e → NeverBack v w) v (record {
   same = λ e fits. still v v refl refl refl;
   asks = λ e alive fits. still v _ refl refl refl;
+  silent = λ now fits. still v _ refl refl refl;
   heard = λ s now lives fits. alike v (after_heard v s) _ refl refl (by_heard v s sound fits);
   over = λ now ends fits. ended v (after_stop v) sound refl refl refl;
   given_up = λ now waits expired fits. ended v (after_reset v (Some ETIMEDOUT)) sound refl refl refl;

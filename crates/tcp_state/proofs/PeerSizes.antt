@@ -212,6 +212,7 @@ settled_by : (v : View) (e : Event) → SettledBy v e (after_event v e)
 settled_by v e = by_event (SettledBy v) v (record {
   same = λ e. inl refl;
   asks = λ e alive. inl refl;
+  silent = λ now. inl refl;
   heard = λ s now lives. elim (heard_settled v s) [ inl stays ↦ inl stays.0 | inr takes ↦ inr (s, now, refl, takes.0, record { terms = takes.1.terms; opens = takes.1.opens }) ];
   over = λ now ends. inl refl;
   given_up = λ now going expired. inl refl;

@@ -143,6 +143,7 @@ pub nothing_else_counts : (v : View) (e : Event) → ((after_event v e).resend.r
 nothing_else_counts v e = by_event (λ e w. Same v w ⊎ Counts v e) v (record {
   same = λ e. inl refl;
   asks = λ e alive. inl refl;
+  silent = λ now. inl refl;
   heard = λ s now lives. inl (timed_same v s now);
   over = λ now ends. inl refl;
   given_up = λ now waits expired. inl refl;

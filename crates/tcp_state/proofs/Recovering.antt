@@ -22,7 +22,7 @@ use Rattle.tcp_state.specs.declared.state.State.TheVariants.{SynSent, SynReceive
 use Rattle.tcp_halves.proofs.Choices.{either, by, clash, and_left, and_right, and_false, both, neither, unowed}
 use Rattle.tcp_state.specs.Resend.{Resend, stopped, resend_first, resend_lost, resend_probed, recover_noted}
 use Rattle.tcp_state.specs.View.{View, IsSound, is_opening, is_syn_sent, is_syn_received, is_closed, awaits_fin_ack, takes_flag_number, after_stop, after_reset}
-use Rattle.tcp_state.specs.Alive.{alive_after, after_silence}
+use Rattle.tcp_state.specs.Alive.{after_silence}
 use Rattle.tcp_state.specs.Timing.{probes, clocked, retransmission_expired, probe_expired, after_timers, after_expiries}
 use Rattle.tcp_state.specs.Congestion.{Signal, after_signal}
 use Rattle.tcp_state.specs.Congestion.Signal.{Begins, Counts, Nothing}
@@ -36,7 +36,7 @@ use Rattle.tcp_state.proofs.Selects.{silent_unselected, more_counts, report_coun
 use Rattle.tcp_state.proofs.Places.{at_una_goes}
 use Rattle.tcp_state.proofs.Scores.{heard_scores}
 use Rattle.tcp_state.proofs.Clocked.{by_others, heard_paced, signalled, by_signal, recover_kept, syn_out}
-use Rattle.tcp_state.proofs.Asked.{asked_sound}
+use Rattle.tcp_state.proofs.TailProbes.{silent_sound}
 use Rattle.tcp_state.proofs.Congestion.{window_kept}
 use Rattle.tcp_state.proofs.Deadlines.{none_comes}
 use Rattle.tcp_state.proofs.Duplicates.{window_stays, repeats, comes_alone, una_stays}
@@ -52,24 +52,29 @@ use Rattle.tcp_state.proofs.StillStreams.{emissions_leave}
 abbrev Left : View → View → Type 0
 Left v w = w.resend.recover ≡ v.resend.recover - past w.sending.una v.sending.una
 
+-- so does that of a probe of the tail
+abbrev pub TailLeft : View → View → Type 0
+TailLeft v w = w.resend.tail ≡ v.resend.tail - past w.sending.una v.sending.una
+
 -- .. and SND.NXT stands where it stood
-abbrev Kept : View → View → Type 0
-Kept v w = Left v w × (w.sending.nxt ≡ v.sending.nxt)
+abbrev pub Kept : View → View → Type 0
+Kept v w = Left v w × (w.sending.nxt ≡ v.sending.nxt) × TailLeft v w
 
 there : (v : View) → IsSound v → Left v v
 there v sound = omega (arith, sound.una)
 
+pub tail_there : (v : View) → IsSound v → TailLeft v v
+tail_there v sound = omega (arith, sound.una)
+
 -- nothing is outstanding any longer
-stops : (v : View) → IsSound v → (nxt : ℕ) → nxt ≡ v.sending.nxt → 0 ≡ v.resend.recover - past nxt v.sending.una
-stops v sound nxt same =
-    let few = sound.recover in
+pub stops : (v : View) (end nxt : ℕ) → end ≤ outstanding v.sending → nxt ≡ v.sending.nxt → 0 ≡ end - past nxt v.sending.una
+stops v end nxt few same =
     let all : past nxt v.sending.una ≡ outstanding v.sending = ap (λ n. past n v.sending.una) same in
     omega (arith, few, all)
 
 -- where our FIN is acknowledged, nothing is outstanding
-fin_takes_all : (v : View) (ack : ℕ) → IsSound v → is_of_fin v ack ≡ true → 0 ≡ v.resend.recover - past ack v.sending.una
-fin_takes_all v ack sound fin =
-    let few = sound.recover in
+fin_takes_all : (v : View) (end ack : ℕ) → IsSound v → end ≤ outstanding v.sending → is_of_fin v ack ≡ true → 0 ≡ end - past ack v.sending.una
+fin_takes_all v end ack sound few fin =
     let past_all = ltb-true (length v.sending.held) (past ack v.sending.una) (and_right (awaits_fin_ack v.state) (nat_lt (length v.sending.held) (past ack v.sending.una)) fin) in
     let one = one_number (takes_flag_number v.state) in
     let flight = sound.flight in
@@ -83,28 +88,30 @@ fin_takes_all v ack sound fin =
 pub heard_left : (v : View) (s : Segment) → IsSound v → Kept v (after_heard v s)
 heard_left v s sound =
     let P : View → Type 0 = Kept v in
-    let here : P v = (there v sound, refl) in
+    let here : P v = (there v sound, refl, tail_there v sound) in
     let gone = after_new_ack v s.acknowledgement in
     let told = after_window (after_ack v s.acknowledgement) s in
     let acked : P (after_ack v s.acknowledgement) = by_ack P v s.acknowledgement (record {
       old = here;
       beyond = here;
-      opens = λ received new. (stops v sound v.sending.nxt refl, refl);
-      octets = λ new. (refl, refl);
+      opens = λ received new. (stops v v.resend.recover v.sending.nxt sound.recover refl, refl, stops v v.resend.tail v.sending.nxt sound.tail refl);
+      octets = λ new. (refl, refl, refl);
       fin = λ new fin. (
         either Resend (λ p. p.recover ≡ v.resend.recover - past s.acknowledgement v.sending.una) (is_closed (beyond_fin v.state)) (stopped gone.resend) gone.resend
-            (λ closed. fin_takes_all v s.acknowledgement sound fin) (λ alive. refl),
+            (λ closed. fin_takes_all v v.resend.recover s.acknowledgement sound sound.recover fin) (λ alive. refl),
         refl,
+        either Resend (λ p. p.tail ≡ v.resend.tail - past s.acknowledgement v.sending.una) (is_closed (beyond_fin v.state)) (stopped gone.resend) gone.resend
+            (λ closed. fin_takes_all v v.resend.tail s.acknowledgement sound sound.tail fin) (λ alive. refl),
       );
     }) in
     let heard : P told = either Sending (λ t. P (record (after_ack v s.acknowledgement) { sending = t })) (updates_window (after_ack v s.acknowledgement).sending s.number s.acknowledgement) _ (after_ack v s.acknowledgement).sending (λ newer. acked) (λ older. acked) in
     let text : P (after_text told s) = either View P ((length s.octets == 0) || not (is_receiving told.state)) told _ (λ none. heard) (λ some. heard) in
-    by_hearing P v s (stops v sound told.sending.nxt heard.1, heard.1) (record {
+    by_hearing P v s (stops v v.resend.recover told.sending.nxt sound.recover heard.1, heard.1, stops v v.resend.tail told.sending.nxt sound.tail heard.1) (record {
       dropped = here;
       drawn = here;
-      reset = λ acts. (stops v sound v.sending.nxt refl, refl);
+      reset = λ acts. (stops v v.resend.recover v.sending.nxt sound.recover refl, refl, stops v v.resend.tail v.sending.nxt sound.tail refl);
       crossed = λ waits. here;
-      opened = λ waits right. (stops v sound v.sending.nxt refl, refl);
+      opened = λ waits right. (stops v v.resend.recover v.sending.nxt sound.recover refl, refl, stops v v.resend.tail v.sending.nxt sound.tail refl);
       acknowledged = λ taken. acked;
       read = λ on. by_fin P (after_text told s) s (λ counts. text) text text;
     })
@@ -134,15 +141,15 @@ timed_left v s now sound =
 
 -- What goes out leaves it.
 
--- nor what is reported
+-- nor what is reported, and the end of a probe of the tail
 abbrev pub KeepsEnds : View → View → Type 0
-KeepsEnds v w = (w.resend.recover ≡ v.resend.recover) × (w.resend.reported ≡ v.resend.reported)
+KeepsEnds v w = (w.resend.recover ≡ v.resend.recover) × (w.resend.reported ≡ v.resend.reported) × (w.resend.tail ≡ v.resend.tail)
 
 numbers_left : (v : View) (offset end : ℕ) (now : Moment) → KeepsEnds v (after_numbers v offset end now)
-numbers_left v offset end now = either View (KeepsEnds v) (nat_lt offset (outstanding v.sending)) (after_resent v end) (after_first_sent v end now) (λ again. (refl, refl)) (λ first. (refl, refl))
+numbers_left v offset end now = either View (KeepsEnds v) (nat_lt offset (outstanding v.sending)) (after_resent v end) (after_first_sent v end now) (λ again. (refl, refl, refl)) (λ first. (refl, refl, refl))
 
 emitted_left : (v : View) (due : Due) (now : Moment) → KeepsEnds v (after_emitted v due now)
-emitted_left v Rst now = (refl, refl)
+emitted_left v Rst now = (refl, refl, refl)
 emitted_left v Syn now =
     let P : View → Type 0 = KeepsEnds v in
     let sent = numbers_left v 0 1 now in
@@ -156,12 +163,12 @@ emitted_left v (Text stretch) now =
 emitted_left v Probe now =
     let P : View → Type 0 = KeepsEnds v in
     let sent = record v { sending = after_sent v.sending (end_of (probe_stretch v)); resend = resend_probed v.resend } in
-    either View P (brings_new_octets v (probe_stretch v)) (after_new_octets sent) sent (λ new. (refl, refl)) (λ old. (refl, refl))
-emitted_left v Ack now = (refl, refl)
-emitted_left v KeepAlive now = (refl, refl)
+    either View P (brings_new_octets v (probe_stretch v)) (after_new_octets sent) sent (λ new. (refl, refl, refl)) (λ old. (refl, refl, refl))
+emitted_left v Ack now = (refl, refl, refl)
+emitted_left v KeepAlive now = (refl, refl, refl)
 
 pub first_left : (v : View) (o : Option Due) (now : Moment) → KeepsEnds v (after_first v o now)
-first_left v None now = (refl, refl)
+first_left v None now = (refl, refl, refl)
 first_left v (Some due) now = emitted_left v due now
 
 emits_left : (v : View) (now : Moment) → IsSound v → Left v (after_event v (Emits now))
@@ -208,15 +215,16 @@ pub end_stays : (v : View) (e : Event) → IsSound v
     ⊎ ((now : Moment) × (e ≡ Ticks now) × (has_come v.timers.retransmission now ≡ true)))
 end_stays v e sound =
     let here = there v sound in
-    let over = stops v sound v.sending.nxt refl in
+    let over = stops v v.resend.recover v.sending.nxt sound.recover refl in
     by_event (λ e w. Left v w ⊎ Notes v e) v (record {
       same = λ e. inl here;
       asks = λ e asked. inl here;
+      silent = λ now. inl here;
       heard = λ s now lives. timed_left v s now sound;
       over = λ now ends. inl over;
       given_up = λ now waits expired. inl over;
       acts = λ now. by (Left v (clocked false (after_timers (after_silence v now) now) now) ⊎ Notes v (Ticks now)) (has_come v.timers.retransmission now) (λ comes. inr (inr (now, refl, comes)))
-          (λ early. inl (acts_left (after_silence v now) now (asked_sound v (alive_after v now) sound) early));
+          (λ early. inl (acts_left (after_silence v now) now (silent_sound v now sound) early));
       emits = λ now. inl (emits_left v now sound);
       sends = λ octets taken now takes. inl here;
       reads = λ len. inl here;
@@ -287,7 +295,7 @@ none_below v s now on runs some =
     (λ moves opened goes. clash (is_recovering x.congestion) (and_right (repairs x.congestion.control) (is_recovering x.congestion) (and_left (goes_on x.congestion) (nat_lt 0 x.resend.recover) goes)) kept)
     (λ stays twice. clash (counts_duplicates v) (and_right (is_duplicate v s) (counts_duplicates v) twice) uncounted)
     (λ stays reports. clash (v.resend.recover == 0) (more_counts v s x reports).all more)
-    (λ moves opened reports. clash (v.resend.recover == 0) (more_counts v s x reports).all more))
+    (λ moves opened reports. clash (v.resend.recover == 0) (more_counts v s x reports).all more) (λ moves opened whole ends. refl))
 
 pub none_by_probes : (v : View) (s : Segment) (now : Moment) → IsSound v → repairs v.congestion.control ≡ true → probes v ≡ true → IsDuplicate v s → (after_segment_at v s now).congestion ≡ v.congestion
 none_by_probes v s now sound on asks twice =
@@ -396,12 +404,12 @@ part_resends v s now sound opened on plain fits moved alive some =
     let part : (goes_on x.congestion && nat_lt 0 x.resend.recover) ≡ true =
     both (goes_on x.congestion) (nat_lt 0 x.resend.recover) (ap goes_on (window_kept v s) ∙ on) (lt-ltb 0 x.resend.recover (omega (arith, some, recover))) in
     let other : Signal = if b.is_duplicate then Counts (Duplicate (outstanding x.sending)) else if reports_more b x then Counts (report_event (told b x)) else Nothing in
-    let whole : Signal = whole_signal (told b x) n (reports_more b x) in
-    let acks : Signal = if is_opening b.state then Begins else acknowledged_signal (told b x) n (reports_more b x) in
+    let whole : Signal = whole_signal b (told b x) n (reports_more b x) in
+    let acks : Signal = if is_opening b.state then Begins else acknowledged_signal b (told b x) n (reports_more b x) in
     let event : congestion_event_of b x ≡ Counts (PartialAck n) =
     ap (λ t. if t then Nothing else if is_moved b x then acks else other) lives
     ∙ ap (λ t. if t then acks else other) moves
-    ∙ ap (λ t. if t then Begins else acknowledged_signal (told b x) n (reports_more b x)) opened
+    ∙ ap (λ t. if t then Begins else acknowledged_signal b (told b x) n (reports_more b x)) opened
     ∙ ap₂ (λ t r. if t then (if r then Nothing else Counts (PartialAck n)) else whole) part (heard_selects v s (past_opening v.state opened).0 ∙ plain) in
     let resend : resend_after b x now ≡ resend_first (resend_told b x now) (outstanding x.sending) = ap (λ g. resend_signalled (resend_told b x now) g x.congestion (outstanding x.sending)) event in
     let k = goes_after v s sound opened lives in

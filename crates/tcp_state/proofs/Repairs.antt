@@ -1,15 +1,15 @@
 -- Why what is reported is not sent again, and what reports let go out.
-use Rattle.std.proofs.Common.{◌≡◌, ℕ, ◌+◌, ◌-◌, ◌<◌, ◌≤◌, ◌==◌, ◌&&◌, ◌||◌, not, nat_lt, nat_le, min, true, false, if◌then◌else◌, List, [], ◌∷◌, length, Some, arith, refl, sym, ◌∙◌, ap, ap₂, subst, ◌⊎◌, inl, inr, Bool, None, is_some, ◌≢◌}
-use Rattle.std.specs.Option.{unwrap_or, option_or}
+use Rattle.std.proofs.Common.{◌≡◌, ℕ, ◌+◌, ◌-◌, ◌<◌, ◌≤◌, ◌==◌, ◌&&◌, ◌||◌, not, nat_lt, nat_le, min, true, false, if◌then◌else◌, List, [], ◌∷◌, length, Some, arith, refl, sym, ◌∙◌, ap, ap₂, subst, ◌⊎◌, inl, inr, Bool, None, is_some, ◌≢◌, max, suc}
+use Rattle.std.specs.Option.{option_or}
 use Rattle.std.proofs.lemmas.Bool.{leb-true, eqb-true, ltb-true, lt-ltb, le-ltb}
 use Rattle.std.proofs.lemmas.Bool.Decides.{leb_tells}
 use Rattle.stream_buf.specs.declared.ranges.Range.{Range}
 use Rattle.stream_buf.specs.Ranges.{AreApart, covered, with_range}
 use Rattle.stream_buf.specs.declared.receive.TheConstants.{MOST_RANGES}
-use Rattle.stream_buf.specs.Scoreboard.{with_report, is_taken, is_reported, is_lost, unreported, lost_end, reported_end, passed}
+use Rattle.stream_buf.specs.Scoreboard.{with_report, is_taken, is_reported, is_lost, unreported, lost_end, reported_end, passed, tells_loss as tells_enough}
 use Rattle.stream_buf.proofs.Reports.{gap_unreported, len_unreported, lost_before}
 use Rattle.congestion.specs.Control.{repairs, is_selective}
-use Rattle.congestion.specs.Window.{Window, is_recovering, goes_on, third_is_next, allowed, after_duplicate, after_third, after_loss}
+use Rattle.congestion.specs.Window.{Window, is_recovering, goes_on, third_is_next, allowed, after_duplicate, after_third}
 use Rattle.congestion.specs.Events.{Event as WindowEvent, after_event as after_window_event}
 use Rattle.congestion.specs.Events.Event.{NewAck, PartialAck, Duplicate, Loss, Expiry}
 use Rattle.clock.specs.declared.moment.Moment.{Moment}
@@ -22,20 +22,19 @@ use Rattle.tcp_halves.proofs.Choices.{either, by, clash, both, and_left, and_rig
 use Rattle.tcp_state.specs.declared.arrival.Before.{Before}
 use Rattle.tcp_state.specs.declared.emission.Due.TheVariants.{Rst, Syn, Text}
 use Rattle.tcp_state.specs.declared.emission.Stretch.{Stretch}
-use Rattle.tcp_state.specs.Resend.{Resend, stopped, resend_lost, resend_ends}
+use Rattle.tcp_state.specs.Resend.{Resend, resend_lost, resend_ends}
 use Rattle.tcp_state.specs.View.{View, IsSound, is_opening, is_closed, is_at_end}
 use Rattle.tcp_state.specs.Congestion.{Signal, after_signal}
 use Rattle.tcp_state.specs.Congestion.Signal.{Begins, Counts, Both, Nothing}
 use Rattle.tcp_state.specs.New.{sends_new, sends_fin}
 use Rattle.tcp_state.specs.Selective.{selects, repairs_gaps, counts_pipe, loss_end, pipe, allowance, place_of, with_blocks, repaired_end}
 use Rattle.tcp_state.specs.Due.{first_due, ack_due, new_due, again_from, again, again_at, is_missing, goes_by_reports, goes_by_windows, goes_again, new_octets, fin_alone, end_of, numbers_of}
-use Rattle.tcp_state.specs.Arrival.{is_receiving, beyond_fin, after_new_ack, after_ack, after_window, after_text, after_heard, before, is_moved, is_rejected, is_counted_duplicate, counts_reports, reported_by, reports_more, told, told_behind, behind_ack, is_partial, tells_loss, report_event, whole_signal, is_report, reports_loss, acknowledged_signal, congestion_event_of, resend_signalled, resend_told, resend_after, timed_by, is_duplicate, counts_duplicates}
+use Rattle.tcp_state.specs.Arrival.{after_heard, before, is_moved, is_rejected, is_counted_duplicate, counts_reports, reported_by, reports_more, told, told_behind, behind_ack, is_partial, came_twice, tells_loss, report_event, whole_signal, is_report, reports_loss, acknowledged_signal, congestion_event_of, resend_signalled, resend_told, resend_after, timed_by, is_duplicate, counts_duplicates}
 use Rattle.tcp_state.specs.Edges.{Event, Hears, after_event, Ticks, Emits, Sends, Receives, Shuts, SetsNoDelay, SetsKeepAlive, Closes, Aborts, Unreachable, LosesHop, congestion_event_by}
-use Rattle.tcp_state.proofs.Segments.{by_ack, by_fin, by_hearing}
 use Rattle.clock.specs.Moments.{has_come}
 use Rattle.tcp_state.specs.Alive.{after_silence}
 use Rattle.tcp_state.specs.Timing.{KeepsTime, probes, clocked, retransmission_expired, probe_expired, after_timers, after_tick, gives_up}
-use Rattle.tcp_state.proofs.Clocked.{by_others, after_paced, told_moved, told_still, signalled, reports_none}
+use Rattle.tcp_state.proofs.Clocked.{by_others, heard_paced, after_paced, told_moved, told_still, signalled, reports_none}
 use Rattle.tcp_state.proofs.Congestion.{window_kept}
 use Rattle.tcp_state.proofs.Places.{at_una_goes}
 use Rattle.tcp_state.proofs.Scores.{blocks_score, heard_scores}
@@ -44,8 +43,9 @@ use Rattle.tcp_state.proofs.Recovering.{first_left, goes_after}
 use Rattle.tcp_state.proofs.Emissions.{by_due}
 use Rattle.tcp_state.proofs.Events.{by_event}
 use Rattle.tcp_state.proofs.NewNumbers.{keeps_window, keeps_cwnd}
+use Rattle.tcp_state.proofs.TailProbes.{nothing_lost}
 use Rattle.tcp_state.proofs.Selects.{silent_unselected, more_counts, more_opened, counted_selects_none}
-use Rattle.tcp_state.proofs.Signals.{event_is, window_by, heard_is, counts_report}
+use Rattle.tcp_state.proofs.Signals.{event_is, window_by, heard_is, heard_selects, opened_tells}
 use Rattle.tcp_state.proofs.Scores.{heard_leaves}
 
 -- No octet that goes out again is reported.
@@ -91,6 +91,7 @@ unasked_none v e unasked none =
     by_event (λ e w. w.resend.reported ≡ []) v (record {
       same = λ e. none;
       asks = λ e asked. none;
+      silent = λ now. none;
       heard = λ s now lives. timed_none v s now unasked none;
       over = λ now ends. refl;
       given_up = λ now waits expired. refl;
@@ -113,32 +114,41 @@ unasked_none v e unasked none =
         (either View P (has_come v.timers.retransmission now) (retransmission_expired v) _ (λ comes. refl) (λ late. either View P (has_come v.timers.probe now) (probe_expired v now) v (λ probes. none) (λ rests. none)))
         (λ w owes left. left) (λ w left. left)
 
--- .. and no loss is told
-pub none_lost : (v : View) (e : Event) (flight : ℕ) → selects v ≡ false → congestion_event_by v e ≢ Counts (Loss flight)
-none_lost v (Hears s now) flight unasked =
-    let P : Signal → Type 0 = λ g. g ≢ Counts (Loss flight) in
+-- .. and no loss is told, nor do two things count at once
+abbrev LosesNone : Signal → Type 0
+LosesNone g = ((flight : ℕ) → g ≢ Counts (Loss flight)) × ((first behind : WindowEvent) → g ≢ Both first behind)
+
+abbrev nothing : LosesNone Nothing
+nothing = (λ flight e. cc, λ first behind e. cc)
+
+pub none_lost : (v : View) (e : Event) → selects v ≡ false → LosesNone (congestion_event_by v e)
+none_lost v (Hears s now) unasked =
     let b = before v s in
     let x = after_heard v s in
     let known = covered x.resend.reported in
     let same : with_blocks x.resend.reported x.sending b.blocks ≡ x.resend.reported = ap (with_blocks x.resend.reported x.sending) (silent_unselected v s unasked) in
     let none : reports_more b x ≡ false =
     ap (λ r. b.counts_reports && nat_lt known (covered r)) same ∙ ap (λ t. b.counts_reports && t) (le-ltb known known (omega arith)) ∙ and_false b.counts_reports in
-    either Signal P (is_closed v.state || is_rejected v s) Nothing (congestion_event_of b x) (λ unheard e. cc)
-    (λ hears. signalled b x P (λ e. cc) (λ e. cc) (λ moves opened whole e. cc) (λ moves opened goes e. cc) (λ stays twice e. cc) (λ stays more. clash (reports_more b x) more none))
-none_lost v (Ticks now) flight unasked =
-    let P : Signal → Type 0 = λ g. g ≢ Counts (Loss flight) in
-    either Signal P (is_at_end v now || gives_up v now) Nothing _ (λ ends e. cc)
-    (λ goes. either Signal P (has_come v.timers.retransmission now) (Counts (Expiry (outstanding v.sending))) Nothing (λ comes e. cc) (λ early e. cc))
-none_lost v (Emits now) flight unasked = λ e. cc
-none_lost v (Sends taken now) flight unasked = λ e. cc
-none_lost v (Receives len) flight unasked = λ e. cc
-none_lost v (Shuts now) flight unasked = λ e. cc
-none_lost v (SetsNoDelay on now) flight unasked = λ e. cc
-none_lost v (SetsKeepAlive every now) flight unasked = λ e. cc
-none_lost v (Closes now) flight unasked = λ e. cc
-none_lost v (Aborts now) flight unasked = λ e. cc
-none_lost v (Unreachable number) flight unasked = λ e. cc
-none_lost v (LosesHop now) flight unasked = λ e. cc
+    let fresh = selects x && nat_lt 0 b.tail && (x.resend.tail == 0) in
+    either Signal LosesNone (is_closed v.state || is_rejected v s) Nothing (congestion_event_of b x) (λ unheard. nothing)
+    (λ hears. signalled b x LosesNone nothing (λ flight e. cc, λ first behind e. cc) (λ moves opened whole. (λ flight e. cc, λ first behind e. cc)) (λ moves opened goes. (λ flight e. cc, λ first behind e. cc)) (λ stays twice. (λ flight e. cc, λ first behind e. cc))
+    (λ stays more. clash (reports_more b x) more none) (λ moves opened more. clash (reports_more b x) more none)
+    (λ moves opened whole ends.
+    let asked = and_left (selects x) (nat_lt 0 b.tail) (and_left (selects x && nat_lt 0 b.tail) (x.resend.tail == 0) (and_left fresh (not (is_recovering x.congestion)) (and_left (fresh && not (is_recovering x.congestion)) (not (came_twice x b.blocks)) ends))) in
+    clash (selects x) asked (heard_selects v s (opened_tells v.state opened).0 ∙ unasked)))
+none_lost v (Ticks now) unasked =
+    either Signal LosesNone (is_at_end v now || gives_up v now) Nothing _ (λ ends. nothing)
+    (λ goes. either Signal LosesNone (has_come v.timers.retransmission now) (Counts (Expiry (outstanding v.sending))) Nothing (λ comes. (λ flight e. cc, λ first behind e. cc)) (λ early. nothing))
+none_lost v (Emits now) unasked = nothing
+none_lost v (Sends taken now) unasked = nothing
+none_lost v (Receives len) unasked = nothing
+none_lost v (Shuts now) unasked = nothing
+none_lost v (SetsNoDelay on now) unasked = nothing
+none_lost v (SetsKeepAlive every now) unasked = nothing
+none_lost v (Closes now) unasked = nothing
+none_lost v (Aborts now) unasked = nothing
+none_lost v (Unreachable number) unasked = nothing
+none_lost v (LosesHop now) unasked = nothing
 
 pub expiry_forgets : (v : View) (now : Moment) → IsSound v → KeepsTime v → has_come v.timers.retransmission now ≡ true → is_closed (after_tick v now).state ≡ false → (after_tick v now).resend.reported ≡ []
 expiry_forgets v now sound keeps comes lives = (goes_again_all v now sound keeps comes lives).reported
@@ -189,7 +199,7 @@ loss_event v s is other lives =
     let loss = and_right (is_report v s) (tells_loss (told_behind b x)) is in
     let tells : Signal = if reports_more b x then Counts (report_event (told b x)) else Nothing in
     let repeats : Signal = if is_counted_duplicate v s then Counts (Duplicate flight) else tells in
-    let acks : Signal = acknowledged_signal (told b x) n (reports_more b x) in
+    let acks : Signal = acknowledged_signal b (told b x) n (reports_more b x) in
     let acked : Signal = if is_opening v.state then Begins else acks in
     let part : is_partial x ≡ false = ap (λ c. goes_on c && nat_lt 0 x.resend.recover) (window_kept v s)
     ∙ ap (λ t. repairs v.congestion.control && t && nat_lt 0 x.resend.recover) (more_counts v s x more).runs ∙ ap (λ t. t && nat_lt 0 x.resend.recover) (and_false (repairs v.congestion.control)) in
@@ -199,8 +209,8 @@ loss_event v s is other lives =
     comes
     ∙ ap (λ t. if t then acked else repeats) moves
     ∙ ap (λ t. if t then Begins else acks) (more_opened v s x more)
-    ∙ ap (λ t. if t then (if selects x then Nothing else Counts (PartialAck n)) else whole_signal (told b x) n (reports_more b x)) part
-    ∙ ap (whole_signal (told b x) n) more
+    ∙ ap (λ t. if t then (if selects x then Nothing else Counts (PartialAck n)) else whole_signal b (told b x) n (reports_more b x)) part
+    ∙ ap (whole_signal b (told b x) n) more
     ∙ ap (λ t. Both (NewAck n flight) (if t then Loss flight else Duplicate flight)) (ap tells_loss (sym (told_moved b x moves)) ∙ loss)))
     (λ stays. inl (
     comes
@@ -293,11 +303,11 @@ reports_are_counted v s now hears runs all unprobed alive grown =
     let ack = NewAck n (outstanding x.sending) in
     let done : Q (congestion_event_of b x) =
     either Signal Q (is_closed x.state) Nothing _ (λ closed. clash (is_closed x.state) closed lives)
-    (λ on. either Signal Q (is_moved b x) (if is_opening v.state then Begins else acknowledged_signal (told b x) n (reports_more b x)) _
-    (λ moves. either Signal Q (is_opening v.state) Begins (acknowledged_signal (told b x) n (reports_more b x)) (λ opens. clash (is_opening v.state) opens (more_opened v s x more))
-    (λ opened. either Signal Q (is_partial x) _ (whole_signal (told b x) n (reports_more b x))
+    (λ on. either Signal Q (is_moved b x) (if is_opening v.state then Begins else acknowledged_signal b (told b x) n (reports_more b x)) _
+    (λ moves. either Signal Q (is_opening v.state) Begins (acknowledged_signal b (told b x) n (reports_more b x)) (λ opens. clash (is_opening v.state) opens (more_opened v s x more))
+    (λ opened. either Signal Q (is_partial x) _ (whole_signal b (told b x) n (reports_more b x))
     (λ goes. clash (is_recovering x.congestion) (and_right (repairs x.congestion.control) (is_recovering x.congestion) (and_left (goes_on x.congestion) (nat_lt 0 x.resend.recover) goes)) kept)
-    (λ whole. either Signal Q (reports_more b x) (Both ack (report_event (behind_ack (told b x) n))) (Counts ack) (λ is. report_counted (after_window_event v.congestion ack) (behind_ack (told b x) n) refl) (λ none. clash (reports_more b x) more none))))
+    (λ whole. either Signal Q (reports_more b x) (Both ack (report_event (behind_ack (told b x) n))) _ (λ is. report_counted (after_window_event v.congestion ack) (behind_ack (told b x) n) refl) (λ none. clash (reports_more b x) more none))))
     (λ stays. either Signal Q (is_counted_duplicate v s) (Counts (Duplicate (outstanding x.sending))) _ (λ twice. counted v.congestion (outstanding x.sending) runs)
     (λ other. either Signal Q (reports_more b x) (Counts (report_event (told b x))) Nothing (λ is. report_counted v.congestion (told b x) runs) (λ none. clash (reports_more b x) more none)))) in
     subst (λ (c : Window). 0 < c.duplicates) (sym (window_by v (Hears s now) (congestion_event_of b x) (event_is v s now hears))) done
@@ -311,7 +321,11 @@ reports_lose v s now sound hears runs all unprobed alive grown lost =
     let w = after_event v (Hears s now) in
     let more = grown_more v s now hears runs all unprobed grown in
     let behind : loss_end (told_behind b x) ≡ loss_end (told b x) = either View (λ y. loss_end y ≡ loss_end (told b x)) (is_moved b x) (behind_ack (told b x) (length v.sending.held - length x.sending.held)) (told b x) (λ moves. refl) (λ stays. refl) in
-    let same : loss_end w ≡ loss_end (told b x) = ap (λ (y : View). lost_end y.sending.smss w.resend.reported) (heard_is v s now hears) ∙ ap (lost_end x.sending.smss) (reported_now v s now hears) in
+    let at = heard_is v s now hears in
+    let probed = heard_paced b x now (λ p. p.tail ≡ x.resend.tail) refl refl refl in
+    let tail : w.resend.tail ≡ x.resend.tail = ap (λ (y : View). y.resend.tail) at ∙ after_paced b x now (λ p. p.tail ≡ x.resend.tail) probed probed (λ r. probed) probed in
+    let same : loss_end w ≡ loss_end (told b x) = ap (λ (y : View). if nat_lt 0 w.resend.tail then reported_end w.resend.reported else lost_end y.sending.smss w.resend.reported) at
+    ∙ ap₂ (λ n rs. if nat_lt 0 n then reported_end rs else lost_end x.sending.smss rs) tail (reported_now v s now hears) in
     let tells : tells_loss (told_behind b x) ≡ true = let y = told_behind b x in or_right (third_is_next y.congestion) (nat_lt 0 (loss_end y)) (lt-ltb 0 (loss_end y) (omega (arith, lost, same, behind))) in
     let other : is_counted_duplicate v s ≡ false = by (is_counted_duplicate v s ≡ false) (is_counted_duplicate v s)
     (λ twice. clash (reports_more b x) more (reports_none b x (silent_unselected v s (counted_selects_none v (and_right (is_duplicate v s) (counts_duplicates v) twice)))))
@@ -354,15 +368,29 @@ new_room v stretch sound counts first new some =
     subst (λ n. end_of stretch ≤ n) (ap (λ b. if b then v.congestion.cwnd + outstanding v.sending - pipe v else allowed v.congestion) counts) (keeps_cwnd v stretch sound first new some) in
     omega (arith, at, few, some)
 
+-- what is lost stands before what is reported
+lost_within : (smss : ℕ) (reported : List Range) (from : ℕ) → AreApart from reported → lost_end smss reported ≤ reported_end reported
+lost_within smss [] from apart = omega arith
+lost_within smss (r ∷ rs) from apart =
+    let later = lost_within smss rs (suc r.end) apart.2 in
+    let some = apart.1 in
+    either ℕ (λ n. n ≤ max r.end (reported_end rs)) (tells_enough smss rs) (lost_end smss rs) _ (λ tells. omega (arith, later))
+    (λ fewer. either ℕ (λ n. n ≤ max r.end (reported_end rs)) (tells_enough smss (r ∷ rs)) r.start 0 (λ tells. omega (arith, some)) (λ none. omega arith))
+
 pub lost_missing : (v : View) (place : ℕ) → IsSound v → is_reported v.resend.reported place ≡ false → is_lost v.sending.smss v.resend.reported place ≡ true → is_missing v place ≡ true
 lost_missing v place sound unreported_place lost =
     or_left (nat_lt place (loss_end v)) (nat_lt place (reported_end v.resend.reported) && not (sends_new v || sends_fin v))
-    (lost_before v.sending.smss v.resend.reported 1 place sound.resend.reported.apart unreported_place ∙ lost)
+    (either ℕ (λ n. nat_lt place n ≡ true) (nat_lt 0 v.resend.tail) (reported_end v.resend.reported) (lost_end v.sending.smss v.resend.reported)
+    (λ probed. let before = ltb-true place (lost_end v.sending.smss v.resend.reported) lost_by in let last = lost_within v.sending.smss v.resend.reported 1 sound.resend.reported.apart in lt-ltb place (reported_end v.resend.reported) (omega (arith, before, last)))
+    (λ none. lost_by))
+  where
+    lost_by : nat_lt place (lost_end v.sending.smss v.resend.reported) ≡ true
+    lost_by = lost_before v.sending.smss v.resend.reported 1 place sound.resend.reported.apart unreported_place ∙ lost
 
 pub pipe_unreported : (v : View) → v.resend.reported ≡ [] → is_recovering v.congestion ≡ false → pipe v ≡ outstanding v.sending
 pipe_unreported v none runs =
     let left : (place : ℕ) → unreported v.resend.reported place ≡ place = λ place. ap (λ rs. unreported rs place) none in
-    let lost : loss_end v ≡ 0 = ap (lost_end v.sending.smss) none in
+    let lost = nothing_lost v none in
     let again : repaired_end v ≡ 0 = either ℕ (λ n. n ≡ 0) (is_recovering v.congestion) _ 0 (λ on. clash (is_recovering v.congestion) on runs) (λ off. refl) in
     omega (arith, left (outstanding v.sending), left (loss_end v), left (repaired_end v), lost, again)
 

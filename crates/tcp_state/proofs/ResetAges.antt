@@ -69,6 +69,7 @@ ages : (v : View) (e : Event) → IsSound v → Ages v e (after_event v e)
 ages v e sound = by_event (Ages v) v (record {
   same = λ e. inl refl;
   asks = λ e alive. inl refl;
+  silent = λ now. inl refl;
   heard = λ s now lives. heard v s now (live v sound lives);
   over = λ now ends. inl refl;
   given_up = λ now waits expired. inl refl;

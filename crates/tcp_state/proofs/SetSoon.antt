@@ -176,6 +176,7 @@ sets_soon : (v : View) (e : Event) → SetsSoon v e (after_event v e)
 sets_soon v = by_event (SetsSoon v) v (record {
   same = λ e. inl refl;
   asks = λ e alive. inl refl;
+  silent = λ now. inl refl;
   heard = λ s now lives. inr (inr (now, refl, λ few least. heard_soon v s now least few));
   over = λ now ends. inr (inl refl);
   given_up = λ now waits expired. inr (inl refl);

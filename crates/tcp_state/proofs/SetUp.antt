@@ -84,6 +84,7 @@ pub least_stays : (v : View) (e : Event) → (after_event v e).resend.timeout.le
 least_stays v e = by_event (λ e w. w.resend.timeout.least ≡ v.resend.timeout.least) v (record {
   same = λ e. refl;
   asks = λ e alive. refl;
+  silent = λ now. refl;
   heard = λ s now lives. heard_leaves v s now;
   over = λ now ends. refl;
   given_up = λ now waits expired. refl;
@@ -111,7 +112,7 @@ plainly_none v (Hears s now) octets plain =
     (λ moves opened goes. clash (repairs v.congestion.control)
     (ap (λ c. repairs c.control) (sym (window_kept v s)) ∙ and_left (repairs x.congestion.control) (is_recovering x.congestion) (and_left (goes_on x.congestion) (nat_lt 0 x.resend.recover) goes)) plain)
     (λ stays twice e. cc)
-    (λ stays more. either WindowEvent (λ e. Counts e ≢ Counts (PartialAck octets)) (tells_loss (told b x)) (Loss (outstanding x.sending)) (Duplicate (outstanding x.sending)) (λ loss e. cc) (λ early e. cc)) (λ moves opened more e. cc))
+    (λ stays more. either WindowEvent (λ e. Counts e ≢ Counts (PartialAck octets)) (tells_loss (told b x)) (Loss (outstanding x.sending)) (Duplicate (outstanding x.sending)) (λ loss e. cc) (λ early e. cc)) (λ moves opened more e. cc) (λ moves opened whole ends e. cc))
 plainly_none v (Ticks now) octets plain =
     let P : Signal → Type 0 = λ g. g ≢ Counts (PartialAck octets) in
     either Signal P (is_at_end v now || gives_up v now) Nothing _ (λ ends e. cc)

@@ -28,7 +28,7 @@ use Rattle.tcp_state.specs.declared.calls.Refusal.TheVariants.{ETIMEDOUT}
 use Rattle.tcp_state.specs.Timing.{gives_up, after_expiries, after_tick}
 use Rattle.tcp_state.specs.Alive.{after_silence}
 use Rattle.tcp_state.specs.Reporting.{noted}
-use Rattle.tcp_state.specs.Arrival.{owing_ack, may_delay, beyond_end, is_acceptable_to, is_read, is_read_on, is_of_fin, fin_acknowledged, after_new_ack as after_acknowledging, after_establishment, after_ack, after_window, is_receiving, after_text, after_fin, after_segment, brings_more, is_lost, after_lost, after_heard, is_rejected, before, octets_outstanding, is_duplicate, is_moved, congestion_event_of, told, behind_ack, whole_signal, reports_more, tells_loss, report_event, is_report, reports_loss, timed_by, acknowledged_signal, counts_duplicates, is_counted_duplicate}
+use Rattle.tcp_state.specs.Arrival.{owing_ack, may_delay, beyond_end, is_acceptable_to, is_read, is_read_on, is_of_fin, fin_acknowledged, after_new_ack as after_acknowledging, after_establishment, after_ack, after_window, is_receiving, after_text, after_fin, after_segment, brings_more, is_lost, after_lost, after_heard, is_rejected, before, octets_outstanding, is_duplicate, is_moved, congestion_event_of, told, behind_ack, whole_signal, reports_more, tells_loss, report_event, is_report, reports_loss, timed_by, acknowledged_signal, counts_duplicates, is_counted_duplicate, came_twice, repairs_tail, blocks_told}
 use Rattle.tcp_state.specs.Edges.{Event, Hears, Ticks, Emits, Sends, Receives, Shuts, SetsNoDelay, SetsKeepAlive, Closes, Aborts, Unreachable, LosesHop, after_event, congestion_event_by}
 use Rattle.tcp_state.specs.Counted.{HasOctetOut, IsDuplicate}
 use Rattle.tcp_state.proofs.Segments.{IsRead, by_ack, by_fin, by_hearing, reads, read_tells, reading_sends, not_rejected}
@@ -37,7 +37,7 @@ use Rattle.tcp_state.proofs.Congestion.{moves_by_events, window_kept}
 
 -- A duplicate ACK.
 
-opened_tells : (t : State) → is_opening t ≡ false → (is_syn_sent t ≡ false) × (is_syn_received t ≡ false)
+pub opened_tells : (t : State) → is_opening t ≡ false → (is_syn_sent t ≡ false) × (is_syn_received t ≡ false)
 opened_tells SynSent e = cc
 opened_tells SynReceived e = cc
 opened_tells _ e = (refl, refl)
@@ -207,12 +207,12 @@ pub is_moved_by : (v : View) (s : Segment) → (after_heard v s).sending.una ≢
 is_moved_by v s moved = elim (eqb_tells v.sending.una (after_heard v s).sending.una) [ inl same ↦ absurd (moved (sym same.1)) | inr other ↦ ap not other.0 ]
 
 moved_event : (v : View) (s : Segment) (now : Moment) → (after_event v (Hears s now)).sending.una ≢ v.sending.una → is_closed (after_event v (Hears s now)).state ≡ false
-    → congestion_event_by v (Hears s now) ≡ (let b = before v s in let x = after_heard v s in if is_opening v.state then Begins else acknowledged_signal (told b x) (length v.sending.held - length x.sending.held) (reports_more b x))
+    → congestion_event_by v (Hears s now) ≡ (let b = before v s in let x = after_heard v s in if is_opening v.state then Begins else acknowledged_signal b (told b x) (length v.sending.held - length x.sending.held) (reports_more b x))
 moved_event v s now moved alive =
     let x = after_heard v s in
     let hears = moved_hears v s now moved in
     let at = heard_is v s now hears in
-    let event : Signal = if is_opening v.state then Begins else acknowledged_signal (told (before v s) x) (length v.sending.held - length x.sending.held) (reports_more (before v s) x) in
+    let event : Signal = if is_opening v.state then Begins else acknowledged_signal (before v s) (told (before v s) x) (length v.sending.held - length x.sending.held) (reports_more (before v s) x) in
     let other : Signal = if is_counted_duplicate v s then Counts (Duplicate (outstanding x.sending)) else if reports_more (before v s) x then Counts (report_event (told (before v s) x)) else Nothing in
     event_is v s now hears
     ∙ ap (λ b. if b then Nothing else if is_moved (before v s) x then event else other) (sym (ap (λ (w : View). is_closed w.state) at) ∙ alive)
@@ -222,7 +222,7 @@ pub begins_at_opening : (v : View) (s : Segment) (now : Moment) → is_opening v
     → (after_event v (Hears s now)).congestion ≡ initial_window v.congestion.control (after_event v (Hears s now)).sending.smss (after_event v (Hears s now)).resend.syn_resent
 begins_at_opening v s now opening moved alive =
     let x = after_heard v s in
-    window_by v (Hears s now) Begins (moved_event v s now moved alive ∙ ap (λ b. if b then Begins else acknowledged_signal (told (before v s) x) (length v.sending.held - length x.sending.held) (reports_more (before v s) x)) opening)
+    window_by v (Hears s now) Begins (moved_event v s now moved alive ∙ ap (λ b. if b then Begins else acknowledged_signal (before v s) (told (before v s) x) (length v.sending.held - length x.sending.held) (reports_more (before v s) x)) opening)
 
 -- so many octets are held no longer as it acknowledges
 
@@ -295,14 +295,14 @@ partial_told v s now moved =
 
 acked_event : (v : View) (s : Segment) (now : Moment) (partial : Bool) → is_opening v.state ≡ false → (after_event v (Hears s now)).sending.una ≢ v.sending.una → is_closed (after_event v (Hears s now)).state ≡ false
     → Partial v (after_event v (Hears s now)) ≡ partial
-    → congestion_event_by v (Hears s now) ≡ (let n = length v.sending.held - length (after_heard v s).sending.held in if partial then (if selects v then Nothing else Counts (PartialAck n)) else whole_signal (told (before v s) (after_heard v s)) n (reports_more (before v s) (after_heard v s)))
+    → congestion_event_by v (Hears s now) ≡ (let n = length v.sending.held - length (after_heard v s).sending.held in if partial then (if selects v then Nothing else Counts (PartialAck n)) else whole_signal (before v s) (told (before v s) (after_heard v s)) n (reports_more (before v s) (after_heard v s)))
 acked_event v s now partial opened moved alive is =
     let x = after_heard v s in
     let n = length v.sending.held - length x.sending.held in
-    let whole : Signal = whole_signal (told (before v s) x) n (reports_more (before v s) x) in
+    let whole : Signal = whole_signal (before v s) (told (before v s) x) n (reports_more (before v s) x) in
     let part : (recovers_on x.congestion && nat_lt 0 x.resend.recover) ≡ partial = ap (λ c. recovers_on c && nat_lt 0 x.resend.recover) (window_kept v s) ∙ partial_told v s now moved ∙ is in
     let rules : selects x ≡ selects v = heard_selects v s (opened_tells v.state opened).0 in
-    moved_event v s now moved alive ∙ ap (λ b. if b then Begins else acknowledged_signal (told (before v s) x) n (reports_more (before v s) x)) opened
+    moved_event v s now moved alive ∙ ap (λ b. if b then Begins else acknowledged_signal (before v s) (told (before v s) x) n (reports_more (before v s) x)) opened
     ∙ ap₂ (λ b r. if b then (if r then Nothing else Counts (PartialAck n)) else whole) part rules
 
 -- what it counts for
@@ -315,15 +315,37 @@ acked_octets v s now opened moved alive =
     let una : (after_event v (Hears s now)).sending.una ≡ x.sending.una = ap (λ (w : View). w.sending.una) at in
     (frees v s opened (sym (ap (λ (w : View). is_closed w.state) at) ∙ alive) (λ same. moved (una ∙ same)) ∙ ap (λ n. min (past n v.sending.una) (length v.sending.held)) (sym una), sym (ap (λ (w : View). outstanding w.sending) at))
 
+-- one that reports nothing that counts
+alone_event : (v : View) (s : Segment) → is_report v s ≡ false
+    → (let x = after_heard v s in let n = length v.sending.held - length x.sending.held in let ack = NewAck n (outstanding x.sending) in
+    whole_signal (before v s) (told (before v s) x) n (reports_more (before v s) x) ≡ (if repairs_tail v s then Both (Loss v.resend.tail) ack else Counts ack))
+alone_event v s quiet = let x = after_heard v s in ap (whole_signal (before v s) (told (before v s) x) (length v.sending.held - length x.sending.held)) quiet
+
 pub counts_octets : (v : View) (s : Segment) (now : Moment) → is_opening v.state ≡ false → (after_event v (Hears s now)).sending.una ≢ v.sending.una → is_closed (after_event v (Hears s now)).state ≡ false
-    → is_report v s ≡ false → (recovers_on v.congestion && nat_lt 0 (after_event v (Hears s now)).resend.recover) ≡ false
+    → is_report v s ≡ false → repairs_tail v s ≡ false → (recovers_on v.congestion && nat_lt 0 (after_event v (Hears s now)).resend.recover) ≡ false
     → (after_event v (Hears s now)).congestion ≡ after_new_ack v.congestion (min (past (after_event v (Hears s now)).sending.una v.sending.una) (length v.sending.held)) (outstanding (after_event v (Hears s now)).sending)
-counts_octets v s now opened moved alive quiet whole =
+counts_octets v s now opened moved alive quiet other whole =
     let n = length v.sending.held - length (after_heard v s).sending.held in
     let counts = acked_octets v s now opened moved alive in
     window_by v (Hears s now) (Counts (NewAck n (outstanding (after_heard v s).sending)))
-    (acked_event v s now false opened moved alive whole ∙ ap (whole_signal (told (before v s) (after_heard v s)) n) quiet)
+    (acked_event v s now false opened moved alive whole ∙ alone_event v s quiet ∙ ap (λ t. if t then Both (Loss v.resend.tail) (NewAck n (outstanding (after_heard v s).sending)) else Counts (NewAck n (outstanding (after_heard v s).sending))) other)
     ∙ ap₂ (after_new_ack v.congestion) counts.0 counts.1
+
+-- .. one that ends a probe of the tail pays for that
+pub counts_tail : (v : View) (s : Segment) (now : Moment) → is_opening v.state ≡ false → (after_event v (Hears s now)).sending.una ≢ v.sending.una → is_closed (after_event v (Hears s now)).state ≡ false
+    → is_report v s ≡ false → repairs_tail v s ≡ true
+    → (after_event v (Hears s now)).congestion ≡ after_new_ack (after_loss v.congestion v.resend.tail) (min (past (after_event v (Hears s now)).sending.una v.sending.una) (length v.sending.held)) (outstanding (after_event v (Hears s now)).sending)
+counts_tail v s now opened moved alive quiet pays =
+    let x = after_heard v s in
+    let w = after_event v (Hears s now) in
+    let n = length v.sending.held - length x.sending.held in
+    let counts = acked_octets v s now opened moved alive in
+    let fresh = selects x && nat_lt 0 v.resend.tail && (x.resend.tail == 0) in
+    let runs : is_recovering v.congestion ≡ false = ap is_recovering (sym (window_kept v s)) ∙ not_true (is_recovering x.congestion) (and_right fresh (not (is_recovering x.congestion)) (and_left (fresh && not (is_recovering x.congestion)) (not (came_twice x (blocks_told v s))) pays)) in
+    let whole : (recovers_on v.congestion && nat_lt 0 w.resend.recover) ≡ false = ap (λ t. repairs v.congestion.control && t && nat_lt 0 w.resend.recover) runs ∙ ap (λ t. t && nat_lt 0 w.resend.recover) (and_false (repairs v.congestion.control)) in
+    window_by v (Hears s now) (Both (Loss v.resend.tail) (NewAck n (outstanding x.sending)))
+    (acked_event v s now false opened moved alive whole ∙ alone_event v s quiet ∙ ap (λ t. if t then Both (Loss v.resend.tail) (NewAck n (outstanding x.sending)) else Counts (NewAck n (outstanding x.sending))) pays)
+    ∙ ap₂ (after_new_ack (after_loss v.congestion v.resend.tail)) counts.0 counts.1
 
 pub counts_partly : (v : View) (s : Segment) (now : Moment) → is_opening v.state ≡ false → (after_event v (Hears s now)).sending.una ≢ v.sending.una → is_closed (after_event v (Hears s now)).state ≡ false
     → (recovers_on v.congestion && nat_lt 0 (after_event v (Hears s now)).resend.recover) ≡ true → selects v ≡ false
@@ -358,7 +380,7 @@ counts_report v s now same alive is other hears =
     let still : is_moved b x ≡ false = ap not (eq-eqb v.sending.una x.sending.una (sym same ∙ ap (λ (w : View). w.sending.una) at)) in
     let tells : Signal = if reports_more b x then Counts (report_event (told b x)) else Nothing in
     let repeats : Signal = if is_counted_duplicate v s then Counts (Duplicate flight) else tells in
-    let acked : Signal = if is_opening v.state then Begins else acknowledged_signal (told b x) (length v.sending.held - length x.sending.held) (reports_more b x) in
+    let acked : Signal = if is_opening v.state then Begins else acknowledged_signal b (told b x) (length v.sending.held - length x.sending.held) (reports_more b x) in
     window_by v (Hears s now) (Counts (report_event (told b x)))
     (event_is v s now hears
     ∙ ap (λ t. if t then Nothing else if is_moved b x then acked else repeats) (sym (ap (λ (w : View). is_closed w.state) at) ∙ alive)
@@ -387,7 +409,7 @@ counts_both v s now moved alive is =
     let loss = tells_loss (behind_ack (told b x) n) in
     let counts = acked_octets v s now opened moved alive in
     window_by v (Hears s now) (Both (NewAck n flight) (if loss then Loss flight else Duplicate flight))
-    (acked_event v s now false opened moved alive (ap (λ t. t && nat_lt 0 w.resend.recover) runs) ∙ ap (whole_signal (told b x) n) is)
+    (acked_event v s now false opened moved alive (ap (λ t. t && nat_lt 0 w.resend.recover) runs) ∙ ap (whole_signal b (told b x) n) is)
     ∙ report_makes acked flight loss
     ∙ ap (λ t. if t then after_loss acked flight else after_duplicate acked flight) (sym (ap₂ (λ t u. t && tells_loss u) is (told_moved b x moves)))
     ∙ ap₂ (λ octets f. let c = after_new_ack v.congestion octets f in if reports_loss v s then after_loss c f else after_duplicate c f) counts.0 counts.1
@@ -400,7 +422,7 @@ counts_duplicate v s now sound d counts =
     let seen = after_window v s in
     let stays = window_stays v s in
     let same : (v.sending.una == seen.sending.una) ≡ true = eq-eqb v.sending.una seen.sending.una (sym stays.0) in
-    let acked : Signal = if is_opening v.state then Begins else acknowledged_signal (told (before v s) seen) (length v.sending.held - length seen.sending.held) (reports_more (before v s) seen) in
+    let acked : Signal = if is_opening v.state then Begins else acknowledged_signal (before v s) (told (before v s) seen) (length v.sending.held - length seen.sending.held) (reports_more (before v s) seen) in
     window_by v (Hears s now) (Counts (Duplicate (past v.sending.nxt v.sending.una)))
     (event_is v s now hears
     ∙ ap (congestion_event_of (before v s)) (only_window v s sound d)

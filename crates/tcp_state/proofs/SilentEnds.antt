@@ -69,6 +69,7 @@ seen_by_event : (v : View) (e : Event) → IsSound v → is_closed v.state ≡ f
 seen_by_event v e sound lives = by_event (λ e w. IsSilentEnd w → is_read_closed v.state ≡ true) v (record {
   same = λ e. still v v refl lives;
   asks = λ e alive. still v (record v { alive = alive }) refl lives;
+  silent = λ now. still v (after_silence v now) refl lives;
   heard = λ s now comes k. seen_by_heard v s lives sound.connection (record { closed = k.closed; quiet = k.quiet; kept = k.kept });
   over = λ now ends k. seen_at_end v.state v.released v.since now ends k.kept;
   given_up = λ now waits expired k. let told = k.quiet in cc;

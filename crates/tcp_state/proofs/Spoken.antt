@@ -97,6 +97,7 @@ spoken : (v : View) (e : Event) → Spoken v e (after_event v e)
 spoken v = by_event (λ e w. Spoken v e w) v (record {
   same = λ e. inl refl;
   asks = λ e alive. inl refl;
+  silent = λ now. inl refl;
   heard = λ s now lives. inl (heard_spoke v s);
   over = λ now ends. inl refl;
   given_up = λ now waits expired. inl refl;
@@ -187,6 +188,7 @@ pub waits_to_speak : (v : View) (e : Event) → is_opening v.state ≡ false →
 waits_to_speak v e opened was = by_event (λ e w. WaitsToSpeak w) v (record {
   same = λ e lives. inl was;
   asks = λ e alive lives. inl was;
+  silent = λ now lives. inl was;
   heard = λ s now lives after. inl (heard_waits v s was after);
   over = λ now ends lives. cc;
   given_up = λ now waits expired lives. cc;

@@ -135,6 +135,7 @@ pub others_leave : (v : View) (e : Event) → is_closed (after_event v e).state 
 others_leave v e = by_event (λ e w. is_closed w.state ≡ false → LeavesBy v e w) v (record {
   same = λ e on. inr (refl, inl refl);
   asks = λ e alive on. inr (refl, inl refl);
+  silent = λ now on. inr (refl, inl refl);
   heard = λ s now lives on. inl (s, now, refl);
   over = λ now ends closed. let bad : true ≡ false = closed in cc;
   given_up = λ now waits expired closed. let bad : true ≡ false = closed in cc;

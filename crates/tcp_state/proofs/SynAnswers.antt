@@ -17,6 +17,7 @@ use Rattle.tcp_halves.specs.Halves.{Sending}
 use Rattle.tcp_halves.specs.Windows.{window_in}
 use Rattle.tcp_halves.specs.Stream.{outstanding, is_new_ack}
 use Rattle.tcp_state.specs.View.{View, IsSound, is_opening, is_syn_sent, is_syn_received, is_closed, is_over, is_write_closed, after_reset}
+use Rattle.tcp_state.specs.Tail.{tail_by}
 use Rattle.tcp_state.specs.Resend.{mark_past}
 use Rattle.tcp_state.specs.Timing.{probes}
 use Rattle.tcp_state.specs.Alive.{heard_now}
@@ -151,7 +152,7 @@ refused v s now sound is quiet =
       held = refl;
       readable = none_listed v.receiving.readable (subst (λ t. length v.receiving.readable ≤ (if is_opening t then 0 else v.receiving.size)) is sound.readable);
       due = silent (record v { alive = heard_now v.alive now }) timed.resend quiet (marks_kept b w now (inr (ap is_opening is)) (repeats_none v s (ap is_opening is)) (silent_opening v s (ap is_opening is))) (ap (λ b. b && probes (record w { resend = resend })) (probes_kept b w now));
-      timer = ap (λ t. sooner (sooner (next_of t) None) None) (at_rest v resend (is_moved b w) now sound.nxt);
+      timer = ap (λ t. sooner (sooner (next_of t) None) (sooner None (tail_by timed t.retransmission))) (at_rest v resend (is_moved b w) now sound.nxt);
     }
 
 by_no_listener : (acts passive received : Bool) → passive ≡ false → (acts && passive && received) ≡ false

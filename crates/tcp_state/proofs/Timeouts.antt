@@ -205,6 +205,7 @@ pub others_keep : (v : View) (e : Event) → ((after_event v e).resend.timeout �
 others_keep v e = by_event (λ e w. (w.resend.timeout ≡ v.resend.timeout) ⊎ Moved v e w) v (record {
   same = λ e. inl refl;
   asks = λ e alive. inl refl;
+  silent = λ now. inl refl;
   heard = λ s now lives. heard_by v s now;
   over = λ now ends. inl refl;
   given_up = λ now waits expired. inl refl;

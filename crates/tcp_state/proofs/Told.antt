@@ -123,6 +123,7 @@ pub in_steps : (v : View) (e : Event) → IsSound v → is_syn_sent v.state ≡ 
 in_steps v e sound past_opening small = by_event (λ e w. Steps v w) v (record {
   same = λ e. inl refl;
   asks = λ e alive. inl refl;
+  silent = λ now. inl refl;
   heard = λ s now lives. inl (heard_edge v s past_opening);
   over = λ now ends. inl refl;
   given_up = λ now waits expired. inl refl;

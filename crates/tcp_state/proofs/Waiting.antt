@@ -13,6 +13,7 @@ use Rattle.tcp_halves.specs.Stream.{outstanding}
 use Rattle.tcp_halves.specs.Windows.{sendable, is_worth_sending}
 use Rattle.tcp_state.specs.View.{View, IsSound, is_opening, is_closed, awaits_fin_ack, ends_at}
 use Rattle.tcp_state.specs.Alive.{alive_at}
+use Rattle.tcp_state.specs.Tail.{tail_at}
 use Rattle.tcp_state.specs.Congestion.{KeepsCongestion}
 use Rattle.tcp_state.specs.Timing.{KeepsTime, has_unacknowledged, probes, deadline}
 use Rattle.tcp_state.specs.New.{sends_new, sends_fin, waits_no_longer}
@@ -38,17 +39,17 @@ sooner_right (Some m) (Some n) e = sooner_left (Some m) (Some n) refl
 retransmission_told : (v : View) → is_some v.timers.retransmission ≡ true → is_some (deadline v) ≡ true
 retransmission_told v runs =
     let t = v.timers in
-    sooner_left (sooner (next_of t) (ends_at v)) (alive_at v) (sooner_left (next_of t) (ends_at v) (sooner_left (sooner t.retransmission t.probe) (sooner t.delayed_ack t.overriding) (sooner_left t.retransmission t.probe runs)))
+    sooner_left (sooner (next_of t) (ends_at v)) (sooner (alive_at v) (tail_at v)) (sooner_left (next_of t) (ends_at v) (sooner_left (sooner t.retransmission t.probe) (sooner t.delayed_ack t.overriding) (sooner_left t.retransmission t.probe runs)))
 
 probe_told : (v : View) → is_some v.timers.probe ≡ true → is_some (deadline v) ≡ true
 probe_told v runs =
     let t = v.timers in
-    sooner_left (sooner (next_of t) (ends_at v)) (alive_at v) (sooner_left (next_of t) (ends_at v) (sooner_left (sooner t.retransmission t.probe) (sooner t.delayed_ack t.overriding) (sooner_right t.retransmission t.probe runs)))
+    sooner_left (sooner (next_of t) (ends_at v)) (sooner (alive_at v) (tail_at v)) (sooner_left (next_of t) (ends_at v) (sooner_left (sooner t.retransmission t.probe) (sooner t.delayed_ack t.overriding) (sooner_right t.retransmission t.probe runs)))
 
 override_told : (v : View) → is_some v.timers.overriding ≡ true → is_some (deadline v) ≡ true
 override_told v runs =
     let t = v.timers in
-    sooner_left (sooner (next_of t) (ends_at v)) (alive_at v) (sooner_left (next_of t) (ends_at v) (sooner_right (sooner t.retransmission t.probe) (sooner t.delayed_ack t.overriding) (sooner_right t.delayed_ack t.overriding runs)))
+    sooner_left (sooner (next_of t) (ends_at v)) (sooner (alive_at v) (tail_at v)) (sooner_left (next_of t) (ends_at v) (sooner_right (sooner t.retransmission t.probe) (sooner t.delayed_ack t.overriding) (sooner_right t.delayed_ack t.overriding runs)))
 
 -- what is outstanding and not probed with runs the retransmission timer
 outstanding_told : (v : View) → KeepsTime v → (outstanding v.sending == 0) ≡ false → probes v ≡ false → is_some (deadline v) ≡ true

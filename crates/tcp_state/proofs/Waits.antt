@@ -58,6 +58,7 @@ pub begins_with_event : (v : View) (e : Event) → WaitsForEnd (after_event v e)
 begins_with_event v e = by_event (λ e w. WaitsForEnd w.state → v.state ≢ w.state → moment_of e ≡ Some w.since) v (record {
   same = λ e waits apart. absurd (apart refl);
   asks = λ e alive waits apart. absurd (apart refl);
+  silent = λ now waits apart. absurd (apart refl);
   heard = λ s now lives waits apart. ap Some (sym (begun v (after_heard v s) s now waits apart));
   over = λ now ends waits apart. never_waits waits;
   given_up = λ now going expired waits apart. never_waits waits;
@@ -149,6 +150,7 @@ moves : (v : View) (e : Event) → WaitsForEnd v.state → Moves v e (after_even
 moves v e waits = by_event (λ e w. Moves v e w) v (record {
   same = λ e stays. inl refl;
   asks = λ e alive stays. inl refl;
+  silent = λ now stays. inl refl;
   heard = λ s now lives stays. by (Still s now) (repeats_fin v s)
       (λ again. inr (inl (s, now, refl, in_time_wait s again, fin_again v s again)))
       (λ new. inl (same_moment v s now waits stays new));

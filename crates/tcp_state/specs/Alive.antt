@@ -8,6 +8,7 @@ use Rattle.tcp_state.specs.declared.resend.TheConstants.{MOST_EXPIRIES, MOST_INT
 use Rattle.tcp_state.specs.declared.state.State.{State}
 use Rattle.tcp_state.specs.declared.state.State.TheVariants.{Established, FinWait2, CloseWait}
 use Rattle.tcp_state.specs.View.{View}
+use Rattle.tcp_state.specs.Tail.{tail_after}
 
 -- its caller wants to know from this moment on, after so many milliseconds each; or no more
 abbrev pub asked : Option ℕ → Moment → KeepAlive
@@ -58,8 +59,9 @@ unanswered_again a timeout now = record a { since = now; wait = next_wait a time
 abbrev pub alive_after : View → Moment → KeepAlive
 alive_after v now = if is_silent v now then unanswered_again v.alive v.resend.timeout.rto now else v.alive
 
+-- .. and the tail of what is outstanding is probed, where nothing is heard of that for too long
 abbrev pub after_silence : View → Moment → View
-after_silence v now = record v { alive = alive_after v now }
+after_silence v now = record v { alive = alive_after v now; resend = tail_after v now }
 
 -- the next silence doesn't end the connection: no peer is asked, or it was asked fewer than twelve times since it last said something
 abbrev pub IsPatient : View → Type 0

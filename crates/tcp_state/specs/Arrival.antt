@@ -1,5 +1,5 @@
 -- What an arriving segment makes of a connection, step by step (RFC 9293 section 3.10.7).
-use Rattle.std.specs.Prelude.{ℕ, ◌+◌, ◌-◌, ◌%◌, ◌^◌, ◌==◌, ◌&&◌, ◌||◌, not, nat_lt, min, Bool, true, false, if◌then◌else◌, List, [], length, Option, Some, None, is_some}
+use Rattle.std.specs.Prelude.{ℕ, ◌+◌, ◌-◌, ◌%◌, ◌^◌, ◌==◌, ◌&&◌, ◌||◌, not, nat_lt, min, Bool, true, false, if◌then◌else◌, List, [], ◌∷◌, length, Option, Some, None, is_some}
 use Rattle.tcp_state.specs.declared.calls.Refusal.{Refusal}
 use Rattle.tcp_state.specs.declared.calls.Refusal.TheVariants.{ECONNREFUSED, ECONNRESET}
 use Rattle.ipv4.specs.declared.addr.Endpoint.{Endpoint}
@@ -299,6 +299,7 @@ before v s = record {
   counts_reports = counts_reports v;
   blocks = blocks_told v s;
   held = length v.sending.held;
+  tail = v.resend.tail;
 }
 
 abbrev pub since_after : Before → View → Moment → Moment
@@ -343,17 +344,29 @@ report_event w = if tells_loss w then Loss (outstanding w.sending) else Duplicat
 abbrev pub behind_ack : View → ℕ → View
 behind_ack w octets = record w { congestion = after_event w.congestion (NewAck octets (outstanding w.sending)) }
 
-abbrev pub whole_signal : View → ℕ → Bool → Signal
-whole_signal w octets more = let ack = NewAck octets (outstanding w.sending) in if more then Both ack (report_event (behind_ack w octets)) else Counts ack
+-- An ACK of all that was outstanding at a probe of the tail, in no recovery: that probe brought what was lost, unless the first block of the ACK tells that its octets came twice (RFC 8985 section 7.4.2, RFC 2883). The window pays for that loss as for any other, by what was in flight then.
+abbrev pub came_twice : View → List Block → Bool
+came_twice w [] = false
+came_twice w (block ∷ rest) = not (is_before w.sending.una block.right.0)
 
-abbrev pub acknowledged_signal : View → ℕ → Bool → Signal
-acknowledged_signal w octets more = if is_partial w then (if selects w then Nothing else Counts (PartialAck octets)) else whole_signal w octets more
+abbrev pub ends_tail : Before → View → Bool
+ends_tail b w = selects w && nat_lt 0 b.tail && (w.resend.tail == 0) && not (is_recovering w.congestion) && not (came_twice w b.blocks)
+
+abbrev pub whole_signal : Before → View → ℕ → Bool → Signal
+whole_signal b w octets more =
+    let ack = NewAck octets (outstanding w.sending) in
+    if more then Both ack (report_event (behind_ack w octets))
+    else if ends_tail b w then Both (Loss b.tail) ack
+    else Counts ack
+
+abbrev pub acknowledged_signal : Before → View → ℕ → Bool → Signal
+acknowledged_signal b w octets more = if is_partial w then (if selects w then Nothing else Counts (PartialAck octets)) else whole_signal b w octets more
 
 -- What a segment that was heard is to the congestion window: its beginning, where it acknowledges our SYN; an ACK of new octets; or a duplicate one or a report that counts, which an ACK of new octets may be, too. To what is CLOSED it is nothing.
 abbrev pub signal_of : Before → View → Bool → Signal
 signal_of b w more =
     if is_closed w.state then Nothing
-    else if is_moved b w then (if is_opening b.state then Begins else acknowledged_signal w (b.held - length w.sending.held) more)
+    else if is_moved b w then (if is_opening b.state then Begins else acknowledged_signal b w (b.held - length w.sending.held) more)
     else if b.is_duplicate then Counts (Duplicate (outstanding w.sending))
     else if more then Counts (report_event w)
     else Nothing
@@ -365,6 +378,10 @@ congestion_event_of b w = signal_of b (told b w) (reports_more b w)
 abbrev pub is_report : View → Segment → Bool
 is_report v s = reports_more (before v s) (after_heard v s)
 
+-- an ACK that ends a probe of the tail, and is paid for
+abbrev pub repairs_tail : View → Segment → Bool
+repairs_tail v s = ends_tail (before v s) (after_heard v s)
+
 abbrev pub told_behind : Before → View → View
 told_behind b w = if is_moved b w then behind_ack (told b w) (b.held - length w.sending.held) else told b w
 
@@ -372,7 +389,7 @@ abbrev pub reports_loss : View → Segment → Bool
 reports_loss v s = is_report v s && tells_loss (told_behind (before v s) (after_heard v s))
 
 -- The third duplicate ACK in a row tells that the segment at SND.UNA is lost (RFC 5681 section 3.2), and a partial ACK that the next one is, too (RFC 6582 section 3.2, step 3): it goes out again. So it does
--- where reports tell that it is lost; and behind it what else they tell of, up to the end of that recovery (RFC 6675 section 5).
+-- where reports tell that it is lost; and behind it what else they tell of, up to the end of that recovery (RFC 6675 section 5). A loss that is repaired already sends nothing again.
 abbrev pub resend_counted : Resend → Event → Window → ℕ → Resend
 resend_counted p (Duplicate flight) window outstanding = if third_is_next window then resend_lost p (repairs window.control) outstanding else p
 resend_counted p (Loss flight) window outstanding = resend_lost p true outstanding
@@ -382,6 +399,7 @@ resend_counted p _ window outstanding = p
 
 abbrev pub resend_signalled : Resend → Signal → Window → ℕ → Resend
 resend_signalled p (Counts event) window outstanding = resend_counted p event window outstanding
+resend_signalled p (Both (Loss flight) behind) window outstanding = p
 resend_signalled p (Both first behind) window outstanding = resend_counted (resend_counted p first window outstanding) behind (after_event window first) outstanding
 resend_signalled p _ window outstanding = p
 

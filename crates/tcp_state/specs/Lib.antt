@@ -31,3 +31,4 @@ pub mod Counted
 pub mod Duties
 pub mod Progress
 pub mod Info
+pub mod Tail

@@ -33,6 +33,8 @@ pub record Resend : Type 0 where
   pub small : ℕ
   -- the number behind all that was outstanding when a recovery began or the timer expired, as a distance past SND.UNA; 0 where all of it is acknowledged ("recover", RFC 6582 section 3.2)
   pub recover : ℕ
+  -- the number behind all that was outstanding when the last segment went out once more as a probe, as a distance past SND.UNA; 0 where none did, or all of it is acknowledged ("TLP.end_seq", RFC 8985 section 7)
+  pub tail : ℕ
   -- what the peer reports that it keeps ahead of a gap, by distances past SND.UNA (RFC 6675 section 3)
   pub reported : List Range
 
@@ -62,12 +64,13 @@ first_resend least = record {
   resent = 0;
   small = 0;
   recover = 0;
+  tail = 0;
   reported = [];
 }
 
 -- nothing is outstanding or waits any longer
 abbrev pub stopped : Resend → Resend
-stopped p = record p { mark = None; once = false; timed = None; interval = p.timeout.rto; owes_probe = false; overridden = false; small = 0; recover = 0; reported = [] }
+stopped p = record p { mark = None; once = false; timed = None; interval = p.timeout.rto; owes_probe = false; overridden = false; small = 0; recover = 0; tail = 0; reported = [] }
 
 -- What goes out.
 
@@ -111,7 +114,7 @@ recover_noted p repairs outstanding = if repairs then outstanding else p.recover
 
 -- the retransmission timer: all that is outstanding goes out again, from SND.UNA on, and the timeout backs off (RFC 6298 sections 5.4 and 5.5); what was reported is forgotten, since the peer may have let it go (RFC 2018 section 8)
 abbrev pub resend_expired : Resend → Bool → ℕ → Resend
-resend_expired p repairs outstanding = record p { mark = mark_past 0 outstanding; once = false; timeout = after_expiry p.timeout; expiries = suc p.expiries; recover = recover_noted p repairs outstanding; reported = [] }
+resend_expired p repairs outstanding = record p { mark = mark_past 0 outstanding; once = false; timeout = after_expiry p.timeout; expiries = suc p.expiries; recover = recover_noted p repairs outstanding; tail = 0; reported = [] }
 
 -- the probe timer: a probe is due, and the next wait is twice as long, a minute at most (RFC 9293 section 3.8.6.1)
 abbrev pub resend_probes : Resend → Resend
@@ -119,13 +122,13 @@ resend_probes p = record p { owes_probe = true; interval = min MOST_INTERVAL (2 
 
 -- Acknowledgements.
 
--- so many numbers are acknowledged, and so many are outstanding still: the mark stays at its number, or moves with SND.UNA; and so do the end of the last small segment, that of a recovery, and what is reported
+-- so many numbers are acknowledged, and so many are outstanding still: the mark stays at its number, or moves with SND.UNA; and so do the end of the last small segment, those of a recovery and of a probe of the tail, and what is reported
 abbrev pub mark_left : Option ℕ → ℕ → ℕ → Option ℕ
 mark_left None gained outstanding = None
 mark_left (Some distance) gained outstanding = mark_past (distance - gained) outstanding
 
 abbrev pub mark_moved : Resend → ℕ → ℕ → Resend
-mark_moved p gained outstanding = record p { mark = mark_left p.mark gained outstanding; small = p.small - gained; recover = p.recover - gained; reported = passed gained p.reported }
+mark_moved p gained outstanding = record p { mark = mark_left p.mark gained outstanding; small = p.small - gained; recover = p.recover - gained; tail = p.tail - gained; reported = passed gained p.reported }
 
 -- the segment at SND.UNA goes out again, that alone (RFC 5681 section 3.2, RFC 6582 section 3.2, step 3)
 abbrev pub resend_first : Resend → ℕ → Resend
@@ -137,7 +140,7 @@ resend_lost p repairs outstanding = record (resend_first p outstanding) { recove
 
 -- nothing is outstanding
 abbrev pub unmarked : Resend → Resend
-unmarked p = record p { mark = None; small = 0; recover = 0; reported = [] }
+unmarked p = record p { mark = None; small = 0; recover = 0; tail = 0; reported = [] }
 
 -- a recovery by reports is over: nothing goes out again by its mark
 abbrev pub resend_ends : Resend → Resend

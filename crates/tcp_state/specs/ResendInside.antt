@@ -16,5 +16,6 @@ resend_view p = record {
   resent = p.resent;
   small = p.small;
   recover = p.recover;
+  tail = p.tail;
   reported = p.reported;
 }

@@ -18,6 +18,7 @@ use Rattle.tcp_state.specs.Selective.{allowance}
 use Rattle.tcp_state.specs.New.{waits_no_longer, sends_new, sends_fin}
 use Rattle.tcp_state.specs.View.{View, is_opening, is_syn_received, is_closed, awaits_fin_ack, ends_at, is_at_end, after_stop, after_reset}
 use Rattle.tcp_state.specs.Alive.{alive_at, is_silent, after_silence}
+use Rattle.tcp_state.specs.Tail.{tail_at}
 
 -- When each timer runs.
 
@@ -152,7 +153,7 @@ after_timers v now = override_expired (delayed_ack_expired (after_expiry v now) 
 abbrev pub after_expiries : View → Moment → View
 after_expiries v now = if has_come (next_of v.timers) now then clocked false (after_timers v now) now else v
 
--- A tick ends the connection whose wait is over, and tells nobody, and the one that is given up; else it asks a peer that said nothing for too long, and lets the timers act that have come.
+-- A tick ends the connection whose wait is over, and tells nobody, and the one that is given up; else it asks a peer that said nothing for too long, or sends the last segment again of which nothing was heard, and lets the timers act that have come.
 abbrev pub after_tick : View → Moment → View
 after_tick v now =
     if is_at_end v now then after_stop v
@@ -172,4 +173,4 @@ tick_fate v now =
 
 -- the moment at which a tick does something
 abbrev pub deadline : View → Option Moment
-deadline v = sooner (sooner (next_of v.timers) (ends_at v)) (alive_at v)
+deadline v = sooner (sooner (next_of v.timers) (ends_at v)) (sooner (alive_at v) (tail_at v))

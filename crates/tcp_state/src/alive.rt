@@ -1,7 +1,7 @@
 //! Whether the peer is still there, where nothing comes from it and nothing of ours waits for it (SO_KEEPALIVE, RFC 9293 section 3.8.4, RFC 1122 section 4.2.3.6).
 
 ghost use Rattle.std.specs.Prelude.{◌≡◌, ◌||◌, None};
-ghost use Rattle.tcp_state.specs.Alive.{asked, heard_now, wait_of, next_wait, unanswered_again, after_set_keepalive, may_rest, rests, alive_at, is_silent, after_silence, is_alive_due};
+ghost use Rattle.tcp_state.specs.Alive.{asked, heard_now, wait_of, next_wait, unanswered_again, after_set_keepalive, may_rest, rests, alive_at, is_silent, alive_after, after_silence, is_alive_due};
 
 use crate::connection::Connection;
 use crate::resend::{MOST_EXPIRIES, MOST_INTERVAL};
@@ -117,9 +117,17 @@ impl Connection {
         }
     }
 
-    /// A probe of the peer is due where nothing came for so long.
+    /// A probe of the peer is due where nothing came for so long, and one of the tail of what is outstanding.
     pub(crate) fn tick_silence(&mut self, now: Moment)
         ensures { self.new ≡ after_silence self.old now }
+    {
+        self.tick_rest(now);
+        self.tick_tail(now);
+    }
+
+    /// A probe of the peer is due where nothing came for so long while nothing of ours waits.
+    fn tick_rest(&mut self, now: Moment)
+        ensures { self.new ≡ record self.old { alive = alive_after self.old now } }
     {
         if self.is_silent(now) {
             self.alive.note_silence(self.resend.timeout(), now);

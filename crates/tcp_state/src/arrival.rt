@@ -2,7 +2,7 @@
 
 ghost use Rattle.std.specs.Prelude.{◌≡◌, ◌≤◌, ◌-◌, [], length, min, true, false, ◌&&◌, ◌||◌, not, if◌then◌else◌, IsTrue, ◌==◌};
 ghost use Rattle.tcp_state.specs.View.{is_opening, is_syn_sent, is_syn_received, is_closed, awaits_fin_ack, after_reset};
-ghost use Rattle.tcp_state.specs.Arrival.{after_segment, scales_with, after_first_syn, after_syn_ack, owing_ack, after_establishment, after_ack, is_read_on, after_window, after_text, after_acknowledging_segment, after_acceptable_segment, ends_by_syn, is_acceptable_to, fin_acknowledged, after_new_ack, after_fin, reset_error, after_rst_in_syn_sent, after_rst, is_acting_reset, ends_by_reset, is_right_syn_ack, is_simultaneous_syn, after_simultaneous_syn, fate, after_segment_at, after_heard, is_lost, is_read, brings_more, after_lost, repeats_fin, is_rejected, ends_opening, is_of_fin, may_delay, answers_probe, octets_outstanding, is_duplicate, counts_duplicates, before, is_moved, resend_heard, signal_of, report_event, whole_signal, resend_signalled, timed_by, begins_wait};
+ghost use Rattle.tcp_state.specs.Arrival.{after_segment, scales_with, after_first_syn, after_syn_ack, owing_ack, after_establishment, after_ack, is_read_on, after_window, after_text, after_acknowledging_segment, after_acceptable_segment, ends_by_syn, is_acceptable_to, fin_acknowledged, after_new_ack, after_fin, reset_error, after_rst_in_syn_sent, after_rst, is_acting_reset, ends_by_reset, is_right_syn_ack, is_simultaneous_syn, after_simultaneous_syn, fate, after_segment_at, after_heard, is_lost, is_read, brings_more, after_lost, repeats_fin, is_rejected, ends_opening, is_of_fin, may_delay, answers_probe, octets_outstanding, is_duplicate, counts_duplicates, before, is_moved, resend_heard, signal_of, report_event, came_twice, ends_tail, whole_signal, resend_signalled, timed_by, begins_wait};
 ghost use Rattle.congestion.specs.Events.{after_event};
 ghost use Rattle.congestion.specs.Events.Event.{PartialAck, Duplicate};
 ghost use Rattle.congestion.specs.Control.{is_selective};
@@ -46,6 +46,8 @@ pub(crate) struct Before {
     pub(crate) blocks: Blocks,
     /// How many octets were held.
     held: u32,
+    /// The number behind all that was outstanding when a probe of the tail went out, as a distance past SND.UNA as it was; 0 where none did, or all of it was acknowledged.
+    tail: u32,
 }
 
 impl Connection {
@@ -79,6 +81,7 @@ impl Connection {
             counts_reports: self.counts_reports(),
             blocks: self.blocks_told(segment),
             held: self.sender.held_len() as u32,
+            tail: self.resend.tail(),
         }
     }
 
@@ -220,7 +223,7 @@ impl Connection {
         if self.is_partial() {
             self.note_partial(octets);
         } else {
-            self.note_whole(octets, reports_more);
+            self.note_whole(before, octets, reports_more);
         }
     }
 
@@ -235,16 +238,43 @@ impl Connection {
     }
 
     /// An ACK of so many new octets came that ends the recovery, if one runs; what it reports counts behind it.
-    fn note_whole(&mut self, octets: u32, reports_more: bool)
+    fn note_whole(&mut self, before: &Before, octets: u32, reports_more: bool)
         ensures { self.new ≡ record self.old {
-          resend = resend_signalled self.old.resend (whole_signal self.old octets reports_more) self.old.congestion (outstanding self.old.sending);
-          congestion = after_signal self.old.congestion (whole_signal self.old octets reports_more) self.old.sending.smss self.old.resend.syn_resent;
+          resend = resend_signalled self.old.resend (whole_signal before.now self.old octets reports_more) self.old.congestion (outstanding self.old.sending);
+          congestion = after_signal self.old.congestion (whole_signal before.now self.old octets reports_more) self.old.sending.smss self.old.resend.syn_resent;
         } }
     {
+        let outstanding = self.sender.outstanding();
+        if !reports_more && self.ends_tail(before) {
+            self.congestion.lost(before.tail);
+            self.congestion.acked(octets, outstanding);
+            return;
+        }
         self.end_repair();
-        self.congestion.acked(octets, self.sender.outstanding());
+        self.congestion.acked(octets, outstanding);
         if reports_more {
             self.note_report();
+        }
+    }
+
+    /// Whether an ACK tells that a probe of the tail brought what was lost.
+    fn ends_tail(&self, before: &Before) -> bool
+        ensures { result ≡ ends_tail before.now self.now }
+    {
+        self.selects()
+            && before.tail > 0
+            && self.resend.tail() == 0
+            && !self.congestion.is_recovering()
+            && !self.came_twice(&before.blocks)
+    }
+
+    /// Whether the first block of an ACK tells that octets came twice (RFC 2883 section 4).
+    fn came_twice(&self, blocks: &Blocks) -> bool
+        ensures { result ≡ came_twice self.now blocks.now }
+    {
+        match blocks.as_slice().first() {
+            Some(block) => !self.sender.una().is_before(block.right),
+            None => false,
         }
     }
 

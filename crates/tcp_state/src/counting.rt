@@ -20,7 +20,7 @@ ghost use Rattle.tcp_state.specs.declared.state.State.{State};
 ghost use Rattle.tcp_state.specs.View.{View, IsSound, is_opening, is_syn_received, is_closed, opened_actively};
 ghost use Rattle.tcp_state.specs.Alive.{IsPatient};
 ghost use Rattle.tcp_state.specs.Timing.{KeepsTime};
-ghost use Rattle.tcp_state.specs.Arrival.{opened_passively, is_duplicate, counts_duplicates, is_counted_duplicate, is_report, reports_loss, is_rejected, after_heard};
+ghost use Rattle.tcp_state.specs.Arrival.{opened_passively, is_duplicate, counts_duplicates, is_counted_duplicate, is_report, reports_loss, is_rejected, after_heard, repairs_tail};
 ghost use Rattle.tcp_state.specs.Due.{first_due, octets_of};
 ghost use Rattle.tcp_state.specs.Edges.{Event, after_event, fate_by, moment_of, state_after};
 ghost use Rattle.tcp_state.specs.Said.{segment_of};
@@ -61,14 +61,17 @@ pub fn sizes_are_the_peers()
 {}
 
 /// What an event is to the congestion window (RFC 5681 sections 2, 3.1 and 3.2, RFC 6582 section 3.2). Where our SYN is acknowledged, the window begins; later an acknowledgement that moves SND.UNA counts for as many
-/// octets as it acknowledges, so without our FIN, and is a partial one where a recovery goes on whose end it doesn't reach, and reports don't rule; a duplicate one, where it moves nothing and counts, or a report that counts, which counts behind the acknowledgement where it comes with one (RFC 6675 section 2); and an expiry of the retransmission timer. No
+/// octets as it acknowledges, so without our FIN, and is a partial one where a recovery goes on whose end it doesn't reach, and reports don't rule; a duplicate one, where it moves nothing and counts, or a report that counts, which counts behind the acknowledgement where it comes with one (RFC 6675 section 2); one that ends a probe of the tail pays before for the loss that this repaired (RFC 8985 section 7.4); and an expiry of the retransmission timer. No
 /// other event moves the window, nor one that ends the connection.
 pub fn the_congestion_window_counts_octets()
     ensures begins { (v : View) (s : Segment) (now : Moment) → is_opening v.state ≡ true → (after_event v (Event.Hears s now)).sending.una ≢ v.sending.una → is_closed (after_event v (Event.Hears s now)).state ≡ false
         → (after_event v (Event.Hears s now)).congestion ≡ initial_window v.congestion.control (after_event v (Event.Hears s now)).sending.smss (after_event v (Event.Hears s now)).resend.syn_resent }
     ensures acknowledged { (v : View) (s : Segment) (now : Moment) → is_opening v.state ≡ false → (after_event v (Event.Hears s now)).sending.una ≢ v.sending.una → is_closed (after_event v (Event.Hears s now)).state ≡ false
-        → is_report v s ≡ false → (goes_on v.congestion && nat_lt 0 (after_event v (Event.Hears s now)).resend.recover) ≡ false
+        → is_report v s ≡ false → repairs_tail v s ≡ false → (goes_on v.congestion && nat_lt 0 (after_event v (Event.Hears s now)).resend.recover) ≡ false
         → (after_event v (Event.Hears s now)).congestion ≡ after_new_ack v.congestion (min (past (after_event v (Event.Hears s now)).sending.una v.sending.una) (length v.sending.held)) (outstanding (after_event v (Event.Hears s now)).sending) }
+    ensures tail { (v : View) (s : Segment) (now : Moment) → is_opening v.state ≡ false → (after_event v (Event.Hears s now)).sending.una ≢ v.sending.una → is_closed (after_event v (Event.Hears s now)).state ≡ false
+        → is_report v s ≡ false → repairs_tail v s ≡ true
+        → (after_event v (Event.Hears s now)).congestion ≡ after_new_ack (after_loss v.congestion v.resend.tail) (min (past (after_event v (Event.Hears s now)).sending.una v.sending.una) (length v.sending.held)) (outstanding (after_event v (Event.Hears s now)).sending) }
     ensures partly { (v : View) (s : Segment) (now : Moment) → is_opening v.state ≡ false → (after_event v (Event.Hears s now)).sending.una ≢ v.sending.una → is_closed (after_event v (Event.Hears s now)).state ≡ false
         → (goes_on v.congestion && nat_lt 0 (after_event v (Event.Hears s now)).resend.recover) ≡ true → selects v ≡ false
         → (after_event v (Event.Hears s now)).congestion ≡ after_partial_ack v.congestion (min (past (after_event v (Event.Hears s now)).sending.una v.sending.una) (length v.sending.held)) }

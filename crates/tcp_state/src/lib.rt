@@ -14,6 +14,7 @@ mod ending;
 mod hop;
 mod info;
 pub mod laws;
+pub mod probing;
 pub mod progress;
 pub mod recovery;
 pub mod repair;
@@ -23,6 +24,7 @@ mod resend;
 mod selective;
 pub mod silence;
 mod state;
+mod tail;
 pub mod telling;
 mod timing;
 

@@ -16,13 +16,14 @@ ghost use Rattle.tcp_state.specs.declared.emission.Due.{Due};
 ghost use Rattle.tcp_state.specs.declared.emission.Stretch.{Stretch};
 ghost use Rattle.tcp_state.specs.View.{View, IsSound, is_opening, is_closed, opened_actively};
 ghost use Rattle.tcp_state.specs.Timing.{KeepsTime, probes};
-ghost use Rattle.tcp_state.specs.Congestion.Signal.{Counts};
+ghost use Rattle.tcp_state.specs.Congestion.Signal.{Counts, Both};
 ghost use Rattle.tcp_state.specs.Selective.{selects, repairs_gaps, counts_pipe, pipe, allowance, loss_end};
 ghost use Rattle.tcp_state.specs.Network.{in_network};
 ghost use Rattle.tcp_state.specs.Due.{first_due, again, is_missing, numbers_of};
 ghost use Rattle.tcp_state.specs.Arrival.{opened_passively, is_counted_duplicate, is_rejected, reports_loss, after_heard};
 ghost use Rattle.tcp_state.specs.Duties.{acknowledges};
 ghost use Rattle.tcp_state.specs.Edges.{Event, after_event, congestion_event_by};
+ghost use Rattle.congestion.specs.Events.{Event as WindowEvent};
 
 /// What is reported is not sent again before an expiry (RFC 2018 section 5.1): no octet of a segment that goes out again is reported. An expiry forgets what was, for the peer may have let it go (section 8).
 pub fn what_is_reported_is_not_sent_again()
@@ -48,7 +49,7 @@ pub fn nothing_is_reported_unasked()
     ensures opened { (room : Room) (local peer : Endpoint) (isn : ℕ) (now : Moment) → (opened_actively room local peer isn now).resend.reported ≡ [] }
     ensures accepted { (room : Room) (local peer : Endpoint) (isn : ℕ) (syn : Segment) (now : Moment) → (opened_passively room local peer isn syn now).resend.reported ≡ [] }
     ensures stays { (v : View) (e : Event) → selects v ≡ false → v.resend.reported ≡ [] → (after_event v e).resend.reported ≡ [] }
-    ensures losses { (v : View) (e : Event) (flight : ℕ) → selects v ≡ false → congestion_event_by v e ≢ Counts (Loss flight) }
+    ensures losses { (v : View) (e : Event) → selects v ≡ false → ((flight : ℕ) → congestion_event_by v e ≢ Counts (Loss flight)) × ((first behind : WindowEvent) → congestion_event_by v e ≢ Both first behind) }
 {}
 
 /// A report that tells the loss of what is at SND.UNA begins a recovery up to all that is outstanding, and sends that first segment again, whatever is in the network (RFC 6675 section 5, steps 4.1 and 4.3).

@@ -1,6 +1,6 @@
 //! What goes out again, and what the clock measures of a round trip (RFC 6298, RFC 9293 sections 3.8.1 and 3.8.6.1).
 
-ghost use Rattle.std.specs.Prelude.{◌≡◌, ◌<◌, ◌&&◌, if◌then◌else◌, true, false, None, ◌||◌, nat_lt};
+ghost use Rattle.std.specs.Prelude.{◌≡◌, ◌<◌, ◌&&◌, if◌then◌else◌, true, false, None, Some, ◌||◌, nat_lt};
 ghost use Rattle.stream_buf.specs.Ranges.{range};
 ghost use Rattle.stream_buf.specs.Scoreboard.{with_report};
 ghost use Rattle.tcp_state.specs.Resend.{IsSoundResend, is_alone, resend_ends, first_resend, stopped, mark_past, resend_again, resend_syn_again, resend_sent, resend_probed, resend_expired, resend_probes, mark_moved, recover_noted, resend_first, resend_lost, unmarked, is_timed_by, resend_acknowledged};
@@ -54,6 +54,8 @@ pub(crate) struct Resend {
     small: u32,
     /// The number behind all that was outstanding when a recovery began or the timer expired, as a distance past SND.UNA; 0 where all of it is acknowledged (RFC 6582 section 3.2).
     recover: u32,
+    /// The number behind all that was outstanding when the last segment went out once more as a probe, as a distance past SND.UNA; 0 where none did, or all of it is acknowledged (RFC 8985 section 7).
+    tail: u32,
     /// What the peer reports that it keeps ahead of a gap, by distances past SND.UNA (RFC 6675 section 3).
     reported: Scoreboard,
 }
@@ -90,6 +92,7 @@ impl Resend {
             resent: 0,
             small: 0,
             recover: 0,
+            tail: 0,
             reported: Scoreboard::new(),
         }
     }
@@ -171,6 +174,13 @@ impl Resend {
         self.recover
     }
 
+    /// The number behind all that was outstanding when the last segment went out once more as a probe, as a distance past SND.UNA; 0 where none did, or all of it is acknowledged.
+    pub(crate) fn tail(&self) -> u32
+        ensures { result ≡ self.now.tail }
+    {
+        self.tail
+    }
+
     /// Whether no more than one segment goes out again from the mark, within whatever the network takes.
     pub(crate) fn once(&self) -> bool
         ensures { result ≡ self.now.once }
@@ -206,6 +216,7 @@ impl Resend {
         self.overridden = false;
         self.small = 0;
         self.recover = 0;
+        self.tail = 0;
         self.reported.clear();
     }
 
@@ -227,6 +238,7 @@ impl Resend {
         }
         self.small = self.small.saturating_sub(gained);
         self.recover = self.recover.saturating_sub(gained);
+        self.tail = self.tail.saturating_sub(gained);
         self.reported.pass(gained);
     }
 
@@ -260,6 +272,16 @@ impl Resend {
         }
     }
 
+    /// The last segment goes out again, that alone, of so many numbers that are outstanding: a probe of the tail (RFC 8985 section 7.3).
+    pub(crate) fn mark_tail(&mut self, place: u32, outstanding: u32)
+        ensures after { self.new ≡ record self.old { mark = Some place; once = true; tail = outstanding } }
+        ensures resend_view { IsSoundResend self.new }
+    {
+        self.mark = Some(place);
+        self.once = true;
+        self.tail = outstanding;
+    }
+
     /// Nothing is outstanding.
     pub(crate) fn unmark(&mut self)
         ensures after { self.new ≡ unmarked self.old }
@@ -268,6 +290,7 @@ impl Resend {
         self.mark = None;
         self.small = 0;
         self.recover = 0;
+        self.tail = 0;
         self.reported.clear();
     }
 
@@ -365,6 +388,7 @@ impl Resend {
         self.timeout.expire();
         self.expiries += 1;
         self.note_recover(repairs, outstanding);
+        self.tail = 0;
         self.reported.clear();
     }
 

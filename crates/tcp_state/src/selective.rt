@@ -38,7 +38,12 @@ impl Connection {
     pub(crate) fn loss_end(&self) -> u32
         ensures { result ≡ loss_end self.now }
     {
-        self.resend.reported().lost_end(self.sender.smss() as u16)
+        let reported = self.resend.reported();
+        if self.resend.tail() > 0 {
+            reported.reported_end()
+        } else {
+            reported.lost_end(self.sender.smss() as u16)
+        }
     }
 
     /// The distance past SND.UNA behind what went out again in the recovery that runs (`HighRxt`).

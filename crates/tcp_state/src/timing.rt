@@ -170,7 +170,7 @@ impl Connection {
         Fate::Stays
     }
 
-    /// Asks a peer that said nothing for too long, and lets the timers act whose moment has come.
+    /// Asks a peer that said nothing for too long, sends the last segment again of which nothing was heard, and lets the timers act whose moment has come.
     fn tick_on(&mut self, now: Moment)
         requires { gives_up self.old now ≡ false }
         ensures { self.new ≡ after_expiries (after_silence self.old now) now }
@@ -273,7 +273,10 @@ impl Connection {
     pub fn deadline(&self) -> Option<Moment>
         ensures { result ≡ deadline self.now }
     {
-        sooner(sooner(self.timers.next(), self.ends_at()), self.alive_at())
+        sooner(
+            sooner(self.timers.next(), self.ends_at()),
+            sooner(self.alive_at(), self.tail_at()),
+        )
     }
 }
 

@@ -97,6 +97,7 @@ unsent-on c sound u =
     (record {
       same = λ e other. inl u;
       asks = λ e alive other. inl u;
+      silent = λ now other. inl u;
       heard = λ s now lives other. heard-silent c s sound u;
       over = λ now ends other. inr refl;
       given_up = λ now waits gives other. inr refl;
