@@ -1,47 +1,11 @@
 //! Losses that are repaired by what the peer's acknowledgements report (RFC 2018, RFC 6675), segment by segment.
 
-use super::ends::{ACK, CALLER, End, LISTENER, SYN};
-use super::selective::Event::{Acknowledged, Brings, Expires, Reports, Writes};
-use clock::Moment;
-use inet_sum::sum;
-use std::alloc::Global;
-use std::process::Abort;
-use tcp_segment::{Block, Blocks, Flags, Head, Seq};
-use tcp_state::Fate::Stays;
-use tcp_state::{Buffers, CAPACITY, Connection, Control, MOST_SEGMENT, Manner, Recovery};
-
-/// The octets of a full segment, and those with its header.
-const SEGMENT: u32 = 1_460;
-
-const WITH_HEADER: usize = 1_480;
-
-/// The largest window that is not scaled.
-const WIDE: u16 = 65_535;
-
-/// The initial number of the peer.
-const PEER: u32 = 7;
-
-/// Places in the stream: the first of a range, and the one behind its last.
-type Ranges = &'static [(u32, u32)];
-
-/// What happens at the end that sends.
-#[derive(Clone, Copy)]
-enum Event {
-    /// Its caller writes so many segments.
-    Writes(usize),
-    /// An ACK comes of so many segments in order, with a block of each of these ranges, which count in segments.
-    Acknowledged(u32, Ranges),
-    /// An ACK comes of so many segments in order, with a block of each of these ranges, which count in octets.
-    Reports(u32, Ranges),
-    /// The same of no segment, which has this window and brings so many octets, two at most.
-    Brings(u16, usize, Ranges),
-    /// The clock comes to this moment, in milliseconds.
-    Expires(u64),
-}
-
-/// What happens, the segments that go out then, each by how many stand before it in the stream, and the congestion window and the slow start threshold
-/// after that, in octets.
-type Row = (Event, &'static [u32], u32, u32);
+use super::courses::Event::{Acknowledged, Brings, Expires, Reports, Writes};
+use super::courses::{
+    FIRST_NUMBERS, Opening, Ranges, Row, WIDE, begun, goes, number_at, sent, windows,
+};
+use tcp_segment::Seq;
+use tcp_state::Recovery;
 
 /// What happens at an end whose peer's SYN says that selective acknowledgements are taken, or doesn't, and which acknowledges with this window.
 struct Run {
@@ -496,201 +460,20 @@ const RUNS: [Run; 18] = [
     },
 ];
 
-/// The number of the first octet: the numbers go on behind 4294967295 with 0 nowhere, or in segment 0; before, in and behind segment 3; in segment 5; behind
-/// segment 11; or in segment 12.
-const FIRST_NUMBERS: [u32; 8] = [
-    0,
-    4_294_966_566,
-    4_294_962_916,
-    4_294_962_186,
-    4_294_961_456,
-    4_294_959_995,
-    4_294_949_776,
-    4_294_949_775,
-];
-
-/// The number at a place that counts in units of so many octets.
-fn number_at(first: u32, place: u32, unit: u32) -> Seq {
-    Seq(first.wrapping_add(place.saturating_mul(unit)))
-}
-
-/// A block of each of these ranges, which count in units of so many octets.
-fn blocks_of(first: u32, ranges: &[(u32, u32)], unit: u32) -> Blocks {
-    let mut blocks = Blocks::NONE;
-    for (left, right) in ranges {
-        blocks.push(Block {
-            left: number_at(first, *left, unit),
-            right: number_at(first, *right, unit),
-        });
-    }
-    blocks
-}
-
-/// A header of the peer's.
-fn peers_head(number: u32, acknowledgement: Seq, flags: Flags, window: u16) -> Head {
-    Head {
-        source: LISTENER.port,
-        destination: CALLER.port,
-        number: Seq(number),
-        acknowledgement,
-        flags,
-        window,
-        scales: false,
-        sacks: false,
-        blocks: Blocks::NONE,
-    }
-}
-
-/// A segment of the peer comes with so many octets, two at most.
-fn hears(end: &mut End, now: u64, head: &Head, count: usize) -> bool {
-    let mut frame = [0; MOST_SEGMENT];
-    let (begin, count) = (head.len(), count.min(2));
-    let payload_sum = sum(&frame[begin..begin + count]);
-    let len = head.emit(LISTENER.addr, CALLER.addr, count, payload_sum, &mut frame);
-    end.hear(now, &frame[..len]) == Some(Stays)
-}
-
-/// An end calls that takes selective acknowledgements, and is answered by a SYN that says so, too, or doesn't. Its first octet has this number.
-fn opened(rt: &impl Abort, alloc: Global, first: u32, sacks: bool) -> End {
-    let manner = Manner {
-        scales: false,
-        minshall: false,
-        control: Control {
-            recovery: Recovery::Selective,
-            first_segments: 10,
-            ..Control::PLAIN
-        },
-        least_timeout: 1_000,
-    };
-    let buffers = Buffers::new(alloc, CAPACITY, manner).expect(rt, "memory for two buffers");
-    let isn = Seq(first.wrapping_sub(1));
-    let mut end = End::new(Connection::active(buffers, CALLER, LISTENER, isn, Moment(0)));
-    assert!(rt; end.emit(0) == Some(28));
-    let syn_ack = Head {
+/// An end that takes reports calls, and has an answer in no time.
+const fn reporting(sacks: bool) -> Opening {
+    Opening {
+        recovery: Recovery::Selective,
         sacks,
-        ..peers_head(PEER, Seq(first), Flags { ack: true, ..SYN }, WIDE)
-    };
-    assert!(rt; hears(&mut end, 0, &syn_ack, 0));
-    assert!(rt; end.emit(0) == Some(20));
-    end
-}
-
-/// So many segments are written.
-fn writes(end: &mut End, now: u64, count: usize) -> bool {
-    for _ in 0..count {
-        if end.connection.send(Moment(now), &[0; SEGMENT as usize]) != Ok(SEGMENT as usize) {
-            return false;
-        }
+        round: 0,
     }
-    true
-}
-
-/// The peer acknowledges so far, with these blocks and this window, and so many octets come with that.
-fn acknowledges(
-    end: &mut End,
-    now: u64,
-    acknowledgement: Seq,
-    blocks: Blocks,
-    window: u16,
-    count: usize,
-) -> bool {
-    let head = Head {
-        blocks,
-        ..peers_head(PEER.wrapping_add(1), acknowledgement, ACK, window)
-    };
-    hears(end, now, &head, count)
-}
-
-/// The number and the length of what goes out; None where nothing does.
-fn sent(end: &mut End, now: u64) -> Option<(u32, usize)> {
-    let len = end.emit(now)?;
-    let (number, _, _, _) = end.header()?;
-    Some((number, len))
-}
-
-/// These segments go out, each of them full, and nothing else is due.
-fn sends(end: &mut End, now: u64, first: u32, segments: &[u32]) -> bool {
-    for place in segments {
-        let Seq(number) = number_at(first, *place, SEGMENT);
-        if sent(end, now) != Some((number, WITH_HEADER)) {
-            return false;
-        }
-    }
-    end.connection.due().is_none()
-}
-
-/// The congestion window and the slow start threshold.
-fn windows(end: &End) -> (u32, u32) {
-    let info = end.connection.info();
-    (info.cwnd, info.ssthresh)
-}
-
-/// An end, the number of its first octet, and the moment.
-#[derive(Drop)]
-struct Course {
-    end: End,
-    first: u32,
-    now: u64,
-}
-
-impl Course {
-    /// Something happens at an end whose peer acknowledges with this window.
-    fn happens(&mut self, event: &Event, window: u16) -> bool {
-        let (first, now) = (self.first, self.now);
-        match event {
-            Writes(count) => writes(&mut self.end, now, *count),
-            Acknowledged(count, ranges) => {
-                let acknowledgement = number_at(first, *count, SEGMENT);
-                let blocks = blocks_of(first, ranges, SEGMENT);
-                acknowledges(&mut self.end, now, acknowledgement, blocks, window, 0)
-            }
-            Reports(count, ranges) => {
-                let acknowledgement = number_at(first, *count, SEGMENT);
-                let blocks = blocks_of(first, ranges, 1);
-                acknowledges(&mut self.end, now, acknowledgement, blocks, window, 0)
-            }
-            Brings(window, count, ranges) => {
-                let blocks = blocks_of(first, ranges, 1);
-                acknowledges(&mut self.end, now, Seq(first), blocks, *window, *count)
-            }
-            Expires(moment) => {
-                self.now = *moment;
-                self.end.connection.tick(Moment(*moment)) == Stays
-            }
-        }
-    }
-}
-
-/// Plays some rows.
-fn goes(rt: &impl Abort, course: &mut Course, name: &str, window: u16, rows: &[Row]) {
-    let first = course.first;
-    for (row, (event, segments, cwnd, ssthresh)) in rows.iter().enumerate() {
-        assert!(rt;
-            course.happens(event, window),
-            "{name} from {first}: row {row}"
-        );
-        assert!(rt;
-            sends(&mut course.end, course.now, first, segments),
-            "{name} from {first}: row {row}, segments"
-        );
-        assert!(rt;
-            windows(&course.end) == (*cwnd, *ssthresh),
-            "{name} from {first}: row {row}, windows"
-        );
-    }
-}
-
-/// An end of its own is played with, whose first octet has this number.
-fn begun(rt: &impl Abort, alloc: Global, first: u32, sacks: bool) -> Course {
-    let end = opened(rt, alloc, first, sacks);
-    Course { end, first, now: 0 }
 }
 
 #[test]
 fn losses_are_repaired_by_reports(rt: HostRuntime) {
     for run in &RUNS {
         for first in FIRST_NUMBERS {
-            let mut course = begun(&rt, rt.alloc(), first, run.sacks);
+            let mut course = begun(&rt, rt.alloc(), first, reporting(run.sacks));
             goes(&rt, &mut course, run.name, run.window, run.rows);
         }
     }
@@ -733,7 +516,7 @@ const BEHIND: &[Row] = &[
 fn what_is_not_outstanding_is_not_reported(rt: HostRuntime) {
     for (name, ranges) in IGNORED {
         for first in FIRST_NUMBERS {
-            let mut course = begun(&rt, rt.alloc(), first, true);
+            let mut course = begun(&rt, rt.alloc(), first, reporting(true));
             goes(&rt, &mut course, name, WIDE, BEFORE);
             let told: [Row; 4] = [
                 (Acknowledged(2, ranges), &[], 17_520, 65_535),
@@ -760,7 +543,7 @@ const PARTS: [(u32, usize); 5] = [
 #[test]
 fn what_is_reported_does_not_go_out_again(rt: HostRuntime) {
     for first in FIRST_NUMBERS {
-        let mut course = begun(&rt, rt.alloc(), first, true);
+        let mut course = begun(&rt, rt.alloc(), first, reporting(true));
         let rows: [Row; 1] = [(Writes(24), &[0, 1, 2, 3, 4, 5, 6, 7, 8, 9], 14_600, 65_535)];
         goes(&rt, &mut course, "a part of a segment", WIDE, &rows);
         assert!(rt; course.happens(&Reports(0, &[(1_960, 14_600)]), WIDE));
