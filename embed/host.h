@@ -77,7 +77,8 @@ extern "C" {
 /* How losses are repaired (`recovery` of struct host_config). Plain is RFC 5681 section 3.2 alone: of several segments that a window loses, one comes
  * again at once, and the others by timeouts. NewReno brings one again in each round trip (RFC 6582), sends on at the first two duplicate acknowledgements
  * (RFC 3042), and has the window grow by the octets that are acknowledged (RFC 3465). Selective is as NewReno where the peer takes no selective
- * acknowledgements; else acknowledgements report what is kept ahead of a gap (RFC 2018), and what the peer reports rules what goes out again (RFC 6675). */
+ * acknowledgements; else acknowledgements report what is kept ahead of a gap (RFC 2018), what the peer reports rules what goes out again (RFC 6675), and
+ * after two silent round trips the last segment does (RFC 8985 section 7). */
 #define HOST_RECOVERY_PLAIN 0
 #define HOST_RECOVERY_NEW_RENO 1
 #define HOST_RECOVERY_SELECTIVE 2

@@ -45,8 +45,8 @@ class Kind(enum.IntEnum):
 
 class Recovery(enum.IntEnum):
     """How losses are repaired: PLAIN is RFC 5681 section 3.2 alone, NEW_RENO that with RFC 6582, 3042 and 3465. SELECTIVE is as NEW_RENO where the
-    peer takes no selective acknowledgements; else acknowledgements report what is kept ahead of a gap (RFC 2018), and what the peer reports rules
-    what goes out again (RFC 6675)."""
+    peer takes no selective acknowledgements; else acknowledgements report what is kept ahead of a gap (RFC 2018), what the peer reports rules
+    what goes out again (RFC 6675), and after two silent round trips the last segment does (RFC 8985 section 7)."""
 
     PLAIN = 0
     NEW_RENO = 1
