@@ -120,7 +120,7 @@ void wire_push(enum end end, size_t len)
     frame->from = end;
     frame->arrives = moment + load.delay;
     frame->len = len;
-    frame->is_lost = loses && drawn(&chance[end]) % 100 < load.loss;
+    frame->is_lost = loses && (drawn(&chance[end]) >> 32) % 100 < load.loss;
     wire_count++;
     if (end == NEAR) {
         count_resent(frame->octets);
