@@ -16,7 +16,7 @@ static void begin(struct tap *tap)
     const struct host_endpoint peer = tap->options.peer;
     struct host_endpoint pair[2];
     const int64_t id = host_socket(&tap->host, HOST_KIND_TCP);
-    int64_t done = id < 0 ? id : bind_random(&tap->host, (uint64_t)id);
+    int64_t done = id < 0 ? id : bind_dynamic(&tap->host, (uint64_t)id, tap->options.addr, &peer);
     if (done >= 0) {
         const bool opens = host_would_connect(&tap->host, (uint64_t)id, peer.addr, peer.port, pair) == 1;
         done = host_connect(&tap->host, tap->now, opens ? fresh_isn(pair) : 0, (uint64_t)id, peer.addr, peer.port);

@@ -1,9 +1,5 @@
-/* Numbers that nobody off the link can guess: initial sequence numbers by RFC 6528, and the first of the dynamic ports by RFC 6056. */
-#include "tap.h"
-
-#include <stdlib.h>
-#include <sys/random.h>
-#include <time.h>
+/* Initial sequence numbers and dynamic ports: isn.h says of what. */
+#include "isn.h"
 
 static uint64_t rotated(uint64_t word, int by)
 {
@@ -33,7 +29,7 @@ static uint64_t little_endian(const uint8_t *octets, size_t count)
     return word;
 }
 
-uint64_t siphash(const uint8_t secret[16], const uint8_t *octets, size_t len)
+uint64_t isn_siphash(const uint8_t secret[ISN_SECRET_SIZE], const uint8_t *octets, size_t len)
 {
     const uint64_t k0 = little_endian(secret, 8), k1 = little_endian(secret + 8, 8);
     uint64_t v[4] = {k0 ^ 0x736f6d6570736575, k1 ^ 0x646f72616e646f6d, k0 ^ 0x6c7967656e657261, k1 ^ 0x7465646279746573};
@@ -51,47 +47,32 @@ uint64_t siphash(const uint8_t secret[16], const uint8_t *octets, size_t len)
     return v[0] ^ v[1] ^ v[2] ^ v[3];
 }
 
-void draw(void *octets, size_t len)
+/* Puts a number of so many octets behind others, in network order: where it ends. */
+static size_t put(uint8_t *octets, size_t at, uint32_t number, size_t count)
 {
-    if (getrandom(octets, len, 0) != (ssize_t)len) {
-        perror("tap: getrandom");
-        exit(1);
+    while (count-- > 0) {
+        octets[at++] = (uint8_t)(number >> (8 * count));
     }
+    return at;
 }
 
-uint32_t isn_of(const uint8_t secret[16], const struct host_endpoint pair[2], uint64_t microseconds)
+uint32_t isn_of(const uint8_t secret[ISN_SECRET_SIZE], const struct host_endpoint pair[2], uint64_t microseconds)
 {
     uint8_t octets[12];
+    size_t at = 0;
     for (int end = 0; end < 2; end++) {
-        for (int i = 0; i < 4; i++) {
-            octets[6 * end + i] = (uint8_t)(pair[end].addr >> (24 - 8 * i));
-        }
-        octets[6 * end + 4] = (uint8_t)(pair[end].port >> 8);
-        octets[6 * end + 5] = (uint8_t)pair[end].port;
+        at = put(octets, at, pair[end].addr, 4);
+        at = put(octets, at, pair[end].port, 2);
     }
-    return (uint32_t)(microseconds / 4 + siphash(secret, octets, sizeof octets));
+    return (uint32_t)(microseconds / 4 + isn_siphash(secret, octets, at));
 }
 
-uint32_t fresh_isn(const struct host_endpoint pair[2])
+/* One hash has both of the RFC, of bits that have nothing to do with one another: the low ones are the offset, the highest four the place in the table. The
+   octets are fewer than those of isn_of, so the same secret serves both. */
+uint16_t isn_port(const uint8_t secret[ISN_SECRET_SIZE], uint32_t local, const struct host_endpoint *peer, struct isn_ports *ports)
 {
-    static uint8_t secret[16];
-    static bool is_drawn;
-    struct timespec at;
-    if (!is_drawn) {
-        draw(secret, sizeof secret);
-        is_drawn = true;
-    }
-    clock_gettime(CLOCK_MONOTONIC, &at);
-    return isn_of(secret, pair, (uint64_t)at.tv_sec * 1000000 + (uint64_t)at.tv_nsec / 1000);
-}
-
-int64_t bind_random(struct host *host, uint64_t id)
-{
-    int64_t done = HOST_EADDRINUSE;
-    for (int tries = 0; tries < 64 && done == HOST_EADDRINUSE; tries++) {
-        uint16_t port;
-        draw(&port, sizeof port);
-        done = host_bind(host, id, 0, (uint16_t)(DYNAMIC_FIRST | port));
-    }
-    return done;
+    uint8_t octets[10];
+    const size_t at = put(octets, put(octets, 0, local, 4), peer->addr, 4);
+    const uint64_t hash = isn_siphash(secret, octets, put(octets, at, peer->port, 2));
+    return (uint16_t)(ISN_PORT_FIRST + (hash + ports->next[hash >> 60]++) % ISN_PORTS);
 }

@@ -16,8 +16,7 @@ enum {
     FRAME_MOST = 2048,    /* room for a frame of the device; the host drops one of more than 1,514 octets */
     FORWARDS = 4,         /* how many --forward there may be */
     CONNECTIONS = 64,     /* how many connections are served at once */
-    POLLED = CONNECTIONS + 2,
-    DYNAMIC_FIRST = 49152 /* of the dynamic ports, the last 16,384 */
+    POLLED = CONNECTIONS + 2
 };
 
 #define NEVER UINT64_MAX
@@ -116,16 +115,10 @@ struct work {
 
 extern const struct work serving, connecting, forwarding;
 
-/* SipHash-2-4 of these octets, by a secret. */
-uint64_t siphash(const uint8_t secret[16], const uint8_t *octets, size_t len);
-/* Octets of the system's random source; without it the program ends. */
-void draw(void *octets, size_t len);
-/* The initial sequence number of a connection between two ends at this time (RFC 6528): a clock of 4 microseconds, and a hash by a secret. */
-uint32_t isn_of(const uint8_t secret[16], const struct host_endpoint pair[2], uint64_t microseconds);
-/* The same now, by a secret of this run. */
+/* The initial sequence number of a connection between two ends now (RFC 6528), by a secret of this run; without a random source the program ends. */
 uint32_t fresh_isn(const struct host_endpoint pair[2]);
-/* Binds a socket to one of the dynamic ports at random (RFC 6056): as host_bind. */
-int64_t bind_random(struct host *host, uint64_t id);
+/* Binds a socket to a dynamic port for a connection from our address to this peer (RFC 6056 section 3.3.4), by the same secret: as host_bind. */
+int64_t bind_dynamic(struct host *host, uint64_t id, uint32_t local, const struct host_endpoint *peer);
 /* Ends the run with status 1, and a line on standard error. */
 void fail(struct tap *tap, const char *what, const char *why);
 /* A line on standard error, where --verbose asks for it. */
