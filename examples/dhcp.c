@@ -330,6 +330,7 @@ static void run(const struct wire *wire, struct host *host, struct lease *lease)
     uint64_t asked = 0, next = lease->since + (uint64_t)lease->seconds * 500, since = lease->since;
     uint32_t xid;
 
+    host_tick(host, wire_now());
     wire_draw(&xid, sizeof xid);
     host_bind(host, id, HOST_ADDR_ANY, CLIENT_PORT);
     while (wire_now() < end_of(lease) && hear_renewal(wire, host, id, xid, asked, lease)) {

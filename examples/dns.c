@@ -215,6 +215,7 @@ static enum outcome ask_once(const struct wire *wire, struct host *host, uint32_
     int64_t len;
     size_t at;
 
+    host_tick(host, wire_now()); /* host_sendto takes no moment: that of the last tick counts */
     wire_draw(&number, sizeof number);
     if (id < 0 || host_sendto(host, (uint64_t)id, server, 53, message, make_query(name, number, message)) < 0)
         return FAILED;
