@@ -6,17 +6,19 @@ import os, random, sys
 
 sys.path.insert(0, os.path.join(os.path.dirname(os.path.abspath(__file__)), "..", "embed"))
 from host import Host, Recovery
+from isn import SECRET_SIZE, isn_of
 
 dice, frames, now = random.Random(1), 0, 0
 octets = dice.randbytes(200_000)
-link = {"10.0.0.0/24": None}
+link, peer = {"10.0.0.0/24": None}, ("10.0.0.2", 80)
+secret = dice.randbytes(SECRET_SIZE)  # a program on a real link takes secrets.token_bytes
 real = {"recovery": Recovery.SELECTIVE, "first_segments": 10, "least_timeout": 200, "first_threshold": 1 << 30}
 with Host("02:00:00:00:00:01", "10.0.0.1", link, **real) as a, Host("02:00:00:00:00:02", "10.0.0.2", link, **real) as b:
     listener = b.socket()
     b.bind(listener, ("0.0.0.0", 80))
     b.listen(listener, 1)
     caller = a.socket()
-    a.connect(now, dice.getrandbits(32), caller, ("10.0.0.2", 80))
+    a.connect(now, isn_of(secret, a.would_connect(caller, peer), 1000 * now), caller, peer)
     left, read, accepted, last = octets, b"", None, None
     while last != b"":
         for one, other in (a, b), (b, a):
@@ -24,7 +26,7 @@ with Host("02:00:00:00:00:01", "10.0.0.1", link, **real) as a, Host("02:00:00:00
             while frame := one.next_frame(now):
                 frames += 1
                 if frames % 10 != 0:
-                    other.deliver(now, dice.getrandbits(32), frame)
+                    other.deliver(now, isn_of(secret, other.would_open(frame), 1000 * now), frame)
         try:
             left = left[a.send(caller, left) :]
             if not left:
