@@ -51,10 +51,10 @@ struct isn_ports {
 /* A dynamic port for a connection from our address `local` to `peer`, by RFC 6056 section 3.3.4 (double-hash port selection); each call goes on to the
  * next. Where host_bind answers HOST_EADDRINUSE of it, call again, 64 times at most: a host has no more sockets.
  *
- * Why that: to one peer the ports go through all ISN_PORTS in turn, from a place that only the secret tells. So the same two ends come again as late as
- * can be (section 3.3.3 has this too, and a port at random, of sections 3.3.1 and 3.3.2, hasn't), and a peer that sees its own ports learns nothing of
- * those to others, and with 16 counters in place of the one of section 3.3.3 little of how many connections the program opens. The peer itself foretells
- * its next port. Who guards against that, as a resolver must (RFC 5452 section 9.2), draws each port: ISN_PORT_FIRST | number. */
+ * Why that: to one peer the ports go up in turn, from a place that only the secret tells, so the same two ends come again after ISN_PORTS calls at the
+ * soonest. By section 3.3.3 they do too, but its one counter shows each peer how many connections the program opens; here 16 share them. By ports at
+ * random, of sections 3.3.1 and 3.3.2, they may come again at once. A peer foretells its own next port, and none of another's. Who must have each one
+ * unforeseen by all, as a resolver (RFC 5452 section 9.2), draws it: ISN_PORT_FIRST | number. */
 uint16_t isn_port(const uint8_t secret[ISN_SECRET_SIZE], uint32_t local, const struct host_endpoint *peer, struct isn_ports *ports);
 
 #ifdef __cplusplus

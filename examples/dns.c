@@ -135,7 +135,7 @@ static bool is_answer(const uint8_t *message, size_t len, uint16_t id, const str
     return true;
 }
 
-/* Goes over the records of an answer: takes the addresses of `name`, and where it is an alias writes what for to `alias`. False where a record isn't whole. */
+/* Goes over the records of an answer: takes the addresses of `name`, and where it is an alias writes what for to `alias`. False where one isn't whole. */
 static bool read_records(const uint8_t *message, size_t len, size_t at, const struct name *name, struct found *found, struct name *alias)
 {
     size_t left;

@@ -77,7 +77,8 @@ static void begin_tls(struct client *client, const char *name, const char *autho
 
     client->in = BIO_new(BIO_s_mem());
     client->out = BIO_new(BIO_s_mem());
-    if (context != NULL && (authorities == NULL ? SSL_CTX_set_default_verify_paths(context) : SSL_CTX_load_verify_locations(context, authorities, NULL)) == 1)
+    if (context != NULL &&
+        (authorities == NULL ? SSL_CTX_set_default_verify_paths(context) : SSL_CTX_load_verify_locations(context, authorities, NULL)) == 1)
         client->tls = SSL_new(context);
     SSL_CTX_free(context); /* client->tls keeps it */
     if (client->tls == NULL || client->in == NULL || client->out == NULL || SSL_set1_host(client->tls, name) != 1 ||

@@ -30,12 +30,14 @@ static uint8_t *forged(const uint8_t *octets, size_t *len)
     uint8_t *block = malloc(size == 0 ? 1 : size);
     size_t i;
 
-    if (block == NULL)
+    if (block == NULL) {
         exit(1);
+    }
     memset(block, (int)below(256), size);
     memcpy(block, octets, size < *len ? size : *len);
-    for (i = below(6); i > 0 && size > 0; i--)
+    for (i = below(6); i > 0 && size > 0; i--) {
         block[below(below(2) == 0 || size < 60 ? size : 60)] = (uint8_t)(below(2) == 0 ? telling[below(sizeof telling)] : below(256));
+    }
     *len = size;
     return size == 0 ? realloc(block, 1) : block;
 }
@@ -73,8 +75,9 @@ static bool is_read(void)
     block = forged(message, &len);
     holds = is_answer(block, len, 0x1234, &name, &at) && read_answer(block, len, at, &name, &found) == FOUND;
     free(block);
-    if (name.len > sizeof name.octets || found.count > ADDRESSES)
+    if (name.len > sizeof name.octets || found.count > ADDRESSES) {
         abort();
+    }
     return holds;
 }
 #else
@@ -116,8 +119,9 @@ static bool is_read(void)
     if (is_frame) {
         block = forged(frame, &len);
         if (below(2) == 0 && len >= 34 && len - 14 >= 4 * (block[14] & 15U)) { /* its sum is right again, and its length may be another */
-            if (below(4) == 0)
+            if (below(4) == 0) {
                 put(block + 16, (uint32_t)below(len), 2);
+            }
             put(block + 24, 0, 2);
             put(block + 24, ~sum_of(block + 14, 4 * (block[14] & 15U), 0), 2);
         }
@@ -126,8 +130,9 @@ static bool is_read(void)
         size = MESSAGE_SIZE;
         message = block = forged(frame + FRAME_SIZE - MESSAGE_SIZE, &size);
     }
-    if (message != NULL)
+    if (message != NULL) {
         type = read_message(&wire, message, size, 0x12345678, &lease);
+    }
     free(block);
     return type == OFFER;
 }
@@ -137,12 +142,14 @@ int main(int argc, char **argv)
 {
     uint64_t count, i, read = 0;
 
-    if (argc != 3)
+    if (argc != 3) {
         return 2;
+    }
     chance = strtoull(argv[1], NULL, 10) * 2 + 1;
     count = strtoull(argv[2], NULL, 10);
-    for (i = 0; i < count; i++)
+    for (i = 0; i < count; i++) {
         read += is_read();
+    }
     printf("messages: of %llu that were forged %llu were read\n", (unsigned long long)count, (unsigned long long)read);
     return count > 1000 && (read == 0 || read == count);
 }
