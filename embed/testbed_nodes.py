@@ -1,0 +1,270 @@
+"""The nodes of a `testbed` network that are no hosts: links, switches, routers and probes. None has code of the stack."""
+
+from __future__ import annotations
+
+import ipaddress
+import random
+import struct
+from typing import Any, Callable, Dict, List, NamedTuple, Optional, Protocol, Tuple, Union
+
+from testbed_frames import ARP, ICMP, IPV4, REPLY, REQUEST, Datagram, arp, checksum, ethernet, icmp_error, read_ipv4
+from testbed_tasks import MILLISECOND
+
+__all__ = ["Link", "Node", "Port", "Probe", "Router", "Switch"]
+
+SECOND = 1000 * MILLISECOND
+# The ICMP errors, by type, that a router makes, and those that no error may be about (RFC 792, RFC 1122 section 3.2.2).
+UNREACHABLE, TIME_EXCEEDED = 3, 11
+ERRORS = (3, 4, 5, 11, 12)
+# How many datagrams wait at a router for the MAC of one neighbour.
+MOST_WAITING = 16
+
+
+class Ground(Protocol):
+    """What a node needs of its network."""
+
+    clock: int
+    dice: random.Random
+
+    def at(self, clock: int, act: Callable[[], None]) -> None:
+        """Has something happen at a moment."""
+
+    def seen(self, link: Link, frame: bytes) -> None:
+        """A frame enters a link."""
+
+    def new_mac(self) -> bytes:
+        """A MAC that no other node has."""
+
+
+class Node(Protocol):
+    """What a link may join."""
+
+    def port(self) -> Port:
+        """A port for the link."""
+
+
+class Port:
+    """Where a node takes frames from a link and gives them to it."""
+
+    def __init__(self, receive: Callable[[bytes], None]) -> None:
+        self.receive = receive
+        self.link: Optional[Link] = None
+        # Until when the link is busy with what was sent from here.
+        self.busy = 0
+
+    def send(self, frame: bytes) -> None:
+        """A frame goes out; where there is no link it is lost."""
+        if self.link is not None:
+            self.link.carry(self, frame)
+
+
+class Link:
+    """A link of two ports: Network.link has what its numbers mean. They may be changed at any time, so `loss = 1` cuts it. `lost` counts frames."""
+
+    def __init__(
+        self,
+        ground: Ground,
+        one: Union[Node, Port],
+        other: Union[Node, Port],
+        delay: float,
+        loss: float,
+        repeat: float,
+        reorder: float,
+        rate: Optional[float],
+        queue: Optional[float],
+    ) -> None:
+        if not all(0 <= share <= 1 for share in (loss, repeat, reorder)):
+            raise ValueError("loss, repeat and reorder are 0 to 1")
+        if delay < 0 or (queue or 0) < 0 or (rate is not None and rate <= 0):
+            raise ValueError("a delay and a queue are not negative, and a rate is positive")
+        ends = [it if isinstance(it, Port) else it.port() for it in (one, other)]
+        if ends[0] is ends[1] or any(end.link for end in ends):
+            raise ValueError("a port has one link, and a link has two ports")
+        for end in ends:
+            end.link = self
+        self._ground, self._ends = ground, ends
+        self.delay, self.loss, self.repeat, self.reorder, self.rate, self.queue = delay, loss, repeat, reorder, rate, queue
+        self.lost = 0
+
+    def carry(self, source: Port, frame: bytes) -> None:
+        """A frame goes out of one of its ports; the dice decide what becomes of it, three throws a frame."""
+        self._ground.seen(self, frame)
+        dice, clock = self._ground.dice, self._ground.clock
+        lost, twice, late = [dice.random() < share for share in (self.loss, self.repeat, self.reorder)]
+        begin = max(clock, source.busy)
+        if self.queue is not None and begin - clock > self.queue * MILLISECOND:
+            self.lost += 1
+            return
+        source.busy = begin if self.rate is None else begin + round(8 * len(frame) * SECOND / self.rate)
+        if lost:
+            self.lost += 1
+            return
+        target = self._ends[1] if source is self._ends[0] else self._ends[0]
+        delay = round(self.delay * MILLISECOND)
+        arrival = source.busy + delay + (dice.randrange(max(delay, MILLISECOND)) + 1 if late else 0)
+        for _ in range(2 if twice else 1):
+            self._ground.at(arrival, lambda: target.receive(frame))
+
+
+class Switch:
+    """A switch: it learns on which port a MAC is, and what is for others it sends out of all ports but the one where it came."""
+
+    def __init__(self) -> None:
+        self._ports: List[Port] = []
+        self._known: Dict[bytes, Port] = {}
+
+    def port(self) -> Port:
+        """A new port."""
+        port = Port(lambda frame: self._receive(port, frame))
+        self._ports.append(port)
+        return port
+
+    def _receive(self, source: Port, frame: bytes) -> None:
+        if len(frame) < 14:
+            return
+        target, sender = frame[:6], frame[6:12]
+        if not sender[0] & 1:  # that of a group is no sender's
+            self._known[sender] = source
+        known = self._known.get(target)
+        for port in self._ports if known is None else [known]:
+            if port is not source:
+                port.send(frame)
+
+
+class Probe:
+    """An end of a link without a host. `frames` has the moment of each that arrived, in milliseconds, and the frame."""
+
+    def __init__(self, ground: Ground) -> None:
+        self._ground, self._port = ground, Port(self._receive)
+        self.frames: List[Tuple[float, bytes]] = []
+
+    def port(self) -> Port:
+        """Its one port."""
+        return self._port
+
+    def send(self, frame: Any) -> None:
+        """Sends octets, or what `bytes` makes octets of, as a packet of scapy. Outside of tasks it goes out when the network runs."""
+        octets = bytes(frame)
+        self._ground.at(self._ground.clock, lambda: self._port.send(octets))
+
+    def _receive(self, frame: bytes) -> None:
+        self.frames.append((self._ground.clock / MILLISECOND, frame))
+
+
+class _Side:
+    """A router's interface: its address, its MAC, and what it knows of the neighbours there."""
+
+    def __init__(self, own: ipaddress.IPv4Interface, mac: bytes) -> None:
+        self.addr, self.network, self.mac = int(own.ip), own.network, mac
+        self.port = Port(lambda frame: None)
+        self.neighbours: Dict[int, bytes] = {}
+        self.waiting: Dict[int, List[bytes]] = {}
+        self.asked: Dict[int, int] = {}
+
+    def send(self, mac: bytes, datagram: bytes) -> None:
+        """A datagram goes to a neighbour."""
+        self.port.send(ethernet(mac, self.mac, IPV4, datagram))
+
+
+class _Route(NamedTuple):
+    prefix: ipaddress.IPv4Network
+    side: _Side
+    gateway: Optional[int]
+
+
+class Router:
+    """A router of IPv4 (RFC 791, RFC 826): the longest prefix counts, the time to live falls by one, and a sender is told of what can't go on (RFC 792).
+    It cuts nothing and skips options. `forwarded` and `dropped` count datagrams."""
+
+    def __init__(self, ground: Ground) -> None:
+        self._ground = ground
+        self._routes: List[_Route] = []
+        self.forwarded = self.dropped = 0
+
+    def port(self, addr: str) -> Port:
+        """A new port with an address, `"10.0.1.254/24"`, and a route to its network."""
+        side = _Side(ipaddress.IPv4Interface(addr), self._ground.new_mac())
+        side.port.receive = lambda frame: self._receive(side, frame)
+        self._routes.append(_Route(side.network, side, None))
+        return side.port
+
+    def route(self, prefix: str, gateway: str) -> None:
+        """Has what is for a prefix go by a gateway. ValueError where that is on no network of a port."""
+        hop = ipaddress.IPv4Address(gateway)
+        for route in self._routes:
+            if route.gateway is None and hop in route.prefix:
+                self._routes.append(_Route(ipaddress.IPv4Network(prefix), route.side, int(hop)))
+                return
+        raise ValueError(f"{gateway} is on no network of a port")
+
+    def _receive(self, side: _Side, frame: bytes) -> None:
+        kind = int.from_bytes(frame[12:14], "big")
+        if kind == ARP:
+            self._hear(side, frame[14:42])
+        elif kind == IPV4 and frame[:6] == side.mac:
+            self._forward(side, frame[14:])
+
+    def _hear(self, side: _Side, packet: bytes) -> None:
+        """An ARP packet: its sender is learnt, a request for our address answered, and what waited for the sender goes out."""
+        if len(packet) < 28 or packet[:6] != b"\0\1\x08\0\6\4":
+            return
+        operation, mac, sender, _, target = struct.unpack("!H6sI6sI", packet[6:])
+        if target != side.addr or ipaddress.IPv4Address(sender) not in side.network:
+            return
+        side.neighbours[sender] = mac
+        if operation == REQUEST:
+            side.port.send(arp(REPLY, side.mac, side.addr, mac, sender))
+        for datagram in side.waiting.pop(sender, []):
+            side.send(mac, datagram)
+
+    def _forward(self, side: _Side, octets: bytes) -> None:
+        datagram = read_ipv4(octets)
+        if datagram is None or checksum(octets[: datagram.head]):
+            self.dropped += 1
+        elif datagram.ttl <= 1:
+            self._tell(side, TIME_EXCEEDED, datagram)
+        elif not self._give(datagram.target, _aged(datagram)):
+            self._tell(side, UNREACHABLE, datagram)
+        else:
+            self.forwarded += 1
+
+    def _give(self, target: int, octets: bytes) -> bool:
+        """A datagram goes towards an address, once the MAC of the next hop is known. Whether a route leads there."""
+        address = ipaddress.IPv4Address(target)
+        routes = [route for route in self._routes if address in route.prefix]
+        if not routes:
+            return False
+        route = max(routes, key=lambda it: it.prefix.prefixlen)
+        side, hop = route.side, target if route.gateway is None else route.gateway
+        if hop in side.neighbours:
+            side.send(side.neighbours[hop], octets)
+        else:
+            waiting = side.waiting.setdefault(hop, [])
+            waiting.append(octets)
+            del waiting[:-MOST_WAITING]
+            self._ask(side, hop)
+        return True
+
+    def _ask(self, side: _Side, hop: int) -> None:
+        """Asks for a MAC, once a second for as long as something waits for it."""
+        clock = self._ground.clock
+        if hop not in side.waiting or clock < side.asked.get(hop, -SECOND) + SECOND:
+            return
+        side.asked[hop] = clock
+        side.port.send(arp(REQUEST, side.mac, side.addr, bytes(6), hop))
+
+    def _tell(self, side: _Side, kind: int, datagram: Datagram) -> None:
+        """An error goes to the sender of a datagram, unless none may be about it."""
+        self.dropped += 1
+        is_error = datagram.protocol == ICMP and datagram.payload[:1] and datagram.payload[0] in ERRORS
+        if not is_error and not datagram.offset:
+            self._give(datagram.source, icmp_error(side.addr, kind, 0, datagram.octets))
+
+
+def _aged(datagram: Datagram) -> bytes:
+    """The datagram with its time to live one less, and the checksum of its header made anew."""
+    head = bytearray(datagram.octets[: datagram.head])
+    head[8] -= 1
+    head[10:12] = bytes(2)
+    head[10:12] = struct.pack("!H", checksum(bytes(head)))
+    return bytes(head) + datagram.payload
