@@ -189,10 +189,7 @@ class Tls:
                 self.object.unwrap()
             except (ssl.SSLError, ValueError):
                 pass  # the peer hasn't told its end, or the handshake is not over
-            try:
-                self.station.turn().try_send(self._socket.id, self._out.read())
-            except OSError:
-                pass  # the connection is over
+            self._tell()
             self._socket.close()
 
     def _shaken(self) -> Generator[Wait, None, Tls]:
@@ -211,6 +208,13 @@ class Tls:
             part = left[:CHUNK]
             left = left[(yield from self._drive(lambda: self.object.write(part))) :]
 
+    def _tell(self) -> None:
+        """Gives what the TLS object has to say last, where there is room for it and the connection isn't over."""
+        try:
+            self.station.turn().try_send(self._socket.id, self._out.read())
+        except OSError:
+            pass
+
     def _drive(self, call: Callable[[], T]) -> Generator[Wait, None, T]:
         """What a call of the TLS object answers, with the octets between it and the socket moved as it wants."""
         while True:
@@ -220,6 +224,9 @@ class Tls:
                 answer = call()
             except ssl.SSLWantReadError:
                 wants = True
+            except ssl.SSLError:
+                self._tell()
+                raise
             if self._out.pending:
                 yield from self._socket.sendall(self._out.read())
             if not wants:
