@@ -2,22 +2,23 @@
 
 from __future__ import annotations
 
+import errno
 import ipaddress
 import random
 import struct
-from typing import Any, Callable, Dict, List, NamedTuple, Optional, Protocol, Tuple, Union
+from typing import Any, Callable, Dict, Generator, List, NamedTuple, Optional, Protocol, Tuple, Union
 
 from testbed_frames import ARP, ICMP, IPV4, REPLY, REQUEST, Datagram, arp, checksum, ethernet, icmp_error, read_ipv4
-from testbed_tasks import MILLISECOND
+from testbed_tasks import MILLISECOND, Call, Crowd, Wait
 
 __all__ = ["Link", "Node", "Port", "Probe", "Router", "Switch"]
 
 SECOND = 1000 * MILLISECOND
-# The ICMP errors, by type, that a router makes, and those that no error may be about (RFC 792, RFC 1122 section 3.2.2).
-UNREACHABLE, TIME_EXCEEDED = 3, 11
+# The ICMP errors that a router makes, by type and code, and the types that no error may be about (RFC 792, RFC 1122 section 3.2.2).
+UNREACHABLE, NETWORK, HOST, TIME_EXCEEDED = 3, 0, 1, 11
 ERRORS = (3, 4, 5, 11, 12)
-# How many datagrams wait at a router for the MAC of one neighbour.
-MOST_WAITING = 16
+# How many datagrams wait at a router for the MAC of one neighbour, and how often it asks for that.
+MOST_WAITING, REQUESTS = 16, 3
 
 
 class Ground(Protocol):
@@ -135,8 +136,9 @@ class Probe:
     """An end of a link without a host. `frames` has the moment of each that arrived, in milliseconds, and the frame."""
 
     def __init__(self, ground: Ground) -> None:
-        self._ground, self._port = ground, Port(self._receive)
+        self._ground, self._port, self._crowd = ground, Port(self._receive), Crowd()
         self.frames: List[Tuple[float, bytes]] = []
+        self._read = 0
 
     def port(self) -> Port:
         """Its one port."""
@@ -147,19 +149,32 @@ class Probe:
         octets = bytes(frame)
         self._ground.at(self._ground.clock, lambda: self._port.send(octets))
 
+    def recv(self, timeout: Optional[float] = None) -> Call[bytes]:
+        """The next frame that arrives, or that arrived and was not read so. TimeoutError after `timeout` milliseconds."""
+        return Call(self._next(timeout))
+
+    def _next(self, timeout: Optional[float]) -> Generator[Wait, None, bytes]:
+        limit = None if timeout is None else self._ground.clock + round(timeout * MILLISECOND)
+        while self._read == len(self.frames):
+            if limit is not None and self._ground.clock >= limit:
+                raise TimeoutError(errno.ETIMEDOUT, "no frame arrived in time")
+            yield Wait(self._crowd, lambda: self._read < len(self.frames), limit)
+        self._read += 1
+        return self.frames[self._read - 1][1]
+
     def _receive(self, frame: bytes) -> None:
         self.frames.append((self._ground.clock / MILLISECOND, frame))
+        self._crowd.tell()
 
 
 class _Side:
-    """A router's interface: its address, its MAC, and what it knows of the neighbours there."""
+    """A router's interface: its address, its MAC, the MACs of its neighbours, and the datagrams that wait for one."""
 
     def __init__(self, own: ipaddress.IPv4Interface, mac: bytes) -> None:
         self.addr, self.network, self.mac = int(own.ip), own.network, mac
         self.port = Port(lambda frame: None)
         self.neighbours: Dict[int, bytes] = {}
         self.waiting: Dict[int, List[bytes]] = {}
-        self.asked: Dict[int, int] = {}
 
     def send(self, mac: bytes, datagram: bytes) -> None:
         """A datagram goes to a neighbour."""
@@ -174,7 +189,7 @@ class _Route(NamedTuple):
 
 class Router:
     """A router of IPv4 (RFC 791, RFC 826): the longest prefix counts, the time to live falls by one, and a sender is told of what can't go on (RFC 792).
-    It cuts nothing and skips options. `forwarded` and `dropped` count datagrams."""
+    It cuts nothing, skips options and takes nothing for itself. `forwarded` and `dropped` count datagrams."""
 
     def __init__(self, ground: Ground) -> None:
         self._ground = ground
@@ -202,7 +217,7 @@ class Router:
         if kind == ARP:
             self._hear(side, frame[14:42])
         elif kind == IPV4 and frame[:6] == side.mac:
-            self._forward(side, frame[14:])
+            self._forward(frame[14:])
 
     def _hear(self, side: _Side, packet: bytes) -> None:
         """An ARP packet: its sender is learnt, a request for our address answered, and what waited for the sender goes out."""
@@ -217,48 +232,57 @@ class Router:
         for datagram in side.waiting.pop(sender, []):
             side.send(mac, datagram)
 
-    def _forward(self, side: _Side, octets: bytes) -> None:
+    def _forward(self, octets: bytes) -> None:
         datagram = read_ipv4(octets)
-        if datagram is None or checksum(octets[: datagram.head]):
+        if datagram is None or checksum(octets[: datagram.head]) or any(datagram.target == route.side.addr for route in self._routes):
             self.dropped += 1
-        elif datagram.ttl <= 1:
-            self._tell(side, TIME_EXCEEDED, datagram)
-        elif not self._give(datagram.target, _aged(datagram)):
-            self._tell(side, UNREACHABLE, datagram)
+            return
+        route = self._route_to(datagram.target)
+        if datagram.ttl <= 1:
+            self._tell(TIME_EXCEEDED, 0, datagram)
+        elif route is None:
+            self._tell(UNREACHABLE, NETWORK, datagram)
         else:
             self.forwarded += 1
+            self._give(route, datagram.target, _aged(datagram))
 
-    def _give(self, target: int, octets: bytes) -> bool:
-        """A datagram goes towards an address, once the MAC of the next hop is known. Whether a route leads there."""
+    def _route_to(self, target: int) -> Optional[_Route]:
         address = ipaddress.IPv4Address(target)
-        routes = [route for route in self._routes if address in route.prefix]
-        if not routes:
-            return False
-        route = max(routes, key=lambda it: it.prefix.prefixlen)
+        return max((route for route in self._routes if address in route.prefix), key=lambda it: it.prefix.prefixlen, default=None)
+
+    def _give(self, route: _Route, target: int, octets: bytes) -> None:
+        """A datagram goes to the next hop on its way, once the MAC of that is known."""
         side, hop = route.side, target if route.gateway is None else route.gateway
         if hop in side.neighbours:
             side.send(side.neighbours[hop], octets)
+        elif hop in side.waiting:
+            side.waiting[hop].append(octets)
+            del side.waiting[hop][:-MOST_WAITING]
         else:
-            waiting = side.waiting.setdefault(hop, [])
-            waiting.append(octets)
-            del waiting[:-MOST_WAITING]
-            self._ask(side, hop)
-        return True
+            side.waiting[hop] = [octets]
+            self._ask(side, hop, REQUESTS)
 
-    def _ask(self, side: _Side, hop: int) -> None:
-        """Asks for a MAC, once a second for as long as something waits for it."""
-        clock = self._ground.clock
-        if hop not in side.waiting or clock < side.asked.get(hop, -SECOND) + SECOND:
+    def _ask(self, side: _Side, hop: int, left: int) -> None:
+        """Asks for a MAC while something waits for it, so many times, a second apart; then the senders of what waits are told."""
+        if hop not in side.waiting:
             return
-        side.asked[hop] = clock
-        side.port.send(arp(REQUEST, side.mac, side.addr, bytes(6), hop))
+        if left:
+            side.port.send(arp(REQUEST, side.mac, side.addr, bytes(6), hop))
+            self._ground.at(self._ground.clock + SECOND, lambda: self._ask(side, hop, left - 1))
+            return
+        for octets in side.waiting.pop(hop):
+            datagram = read_ipv4(octets)
+            if datagram is not None:
+                self.forwarded -= 1
+                self._tell(UNREACHABLE, HOST, datagram)
 
-    def _tell(self, side: _Side, kind: int, datagram: Datagram) -> None:
-        """An error goes to the sender of a datagram, unless none may be about it."""
+    def _tell(self, kind: int, code: int, datagram: Datagram) -> None:
+        """A datagram is dropped, of which its sender is told by an error, unless none may be about it."""
         self.dropped += 1
+        route = self._route_to(datagram.source)
         is_error = datagram.protocol == ICMP and datagram.payload[:1] and datagram.payload[0] in ERRORS
-        if not is_error and not datagram.offset:
-            self._give(datagram.source, icmp_error(side.addr, kind, 0, datagram.octets))
+        if route is not None and not is_error and not datagram.offset:
+            self._give(route, datagram.source, icmp_error(route.side.addr, kind, code, datagram.octets))
 
 
 def _aged(datagram: Datagram) -> bytes:

@@ -3,6 +3,7 @@
 from __future__ import annotations
 
 import errno
+import functools
 import io
 import os
 import socket as system
@@ -19,7 +20,7 @@ if TYPE_CHECKING:
 __all__ = ["BlockingListener", "BlockingSocket", "Datagrams", "Listener", "Socket", "Tls"]
 
 T = TypeVar("T")
-# How many octets go at once through TLS, and into a connection.
+# How many octets go through TLS at once.
 CHUNK = 65536
 
 
@@ -96,11 +97,14 @@ class Socket(_Socket):
         return True
 
     def _sendall(self, octets: Octets) -> Generator[Wait, None, None]:
-        left = memoryview(octets)
+        left = memoryview(octets).cast("B")
         while left:
-            part = left[: 16 * CHUNK]
-            taken = yield from self._wait_for(Ready.WRITE | Ready.FAILED, lambda host: host.try_send(self.id, part))
+            taken = yield from self._wait_for(Ready.WRITE | Ready.FAILED, functools.partial(self._give, left))
             left = left[taken:]
+
+    def _give(self, left: memoryview, host: Host) -> Optional[int]:
+        """How many of these octets the connection takes; None where it has no room."""
+        return host.try_send(self.id, left[: max(host.send_room(self.id), 1)])
 
 
 class Listener(_Socket):
@@ -203,10 +207,10 @@ class Tls:
             return b""
 
     def _sendall(self, octets: Octets) -> Generator[Wait, None, None]:
-        left = memoryview(octets)
+        left = memoryview(octets).cast("B")
         while left:
-            part = left[:CHUNK]
-            left = left[(yield from self._drive(lambda: self.object.write(part))) :]
+            taken = yield from self._drive(functools.partial(self.object.write, left[:CHUNK]))
+            left = left[taken:]
 
     def _tell(self) -> None:
         """Gives what the TLS object has to say last, where there is room for it and the connection isn't over."""

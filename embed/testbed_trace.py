@@ -5,7 +5,7 @@ from __future__ import annotations
 import csv
 import dataclasses
 import enum
-from typing import Any, List, Optional, Sequence, Tuple
+from typing import Any, List, Sequence, Tuple
 
 from host import Host, Info
 
@@ -74,8 +74,9 @@ class Trace:
 
     def _svg(self) -> str:
         last = max((moment for moment, _ in self.rows), default=0) or 1
+        tall = len(PANELS) * (HEIGHT + GAP) + GAP
         parts = [
-            f'<svg xmlns="http://www.w3.org/2000/svg" width="{WIDTH}" height="{len(PANELS) * (HEIGHT + GAP) + GAP}" font-family="sans-serif" font-size="12">',
+            f'<svg xmlns="http://www.w3.org/2000/svg" width="{WIDTH}" height="{tall}" font-family="sans-serif" font-size="12">',
             '<rect width="100%" height="100%" fill="white"/>',
         ]
         for number, (unit, names) in enumerate(PANELS):
@@ -95,12 +96,11 @@ class Trace:
             f'<text x="{LEFT + wide}" y="{bottom + 16}" text-anchor="end">{last} ms</text>',
         ]
         for place, (name, colour, points) in enumerate(zip(names, COLOURS, series)):
-            corners, before = [], None  # type: Tuple[List[str], Optional[str]]
+            corners: List[str] = []
+            y = ""
             for moment, value in points:
-                x, y = f"{LEFT + wide * moment / last:.1f}", f"{bottom - HEIGHT * value / most:.1f}"
-                corners += [f"{x},{before}"] if before is not None else []
-                corners.append(f"{x},{y}")
-                before = y
+                x, before, y = f"{LEFT + wide * moment / last:.1f}", y, f"{bottom - HEIGHT * value / most:.1f}"
+                corners += [f"{x},{before}", f"{x},{y}"] if before else [f"{x},{y}"]
             parts.append(f'<polyline fill="none" stroke="{colour}" points="{" ".join(corners)}"/>')
             parts.append(f'<text x="{LEFT + 10 + 90 * place}" y="{top - 6}" fill="{colour}">{name}</text>')
         return parts
