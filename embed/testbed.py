@@ -39,8 +39,9 @@ BlockingSocket's call runs the network until it is done.
 
     page = net.run(until=net.blocking(fetch))
 
-**TLS** runs over a socket by `ssl.MemoryBIO`, as `ssl` itself wraps sockets of the system only: `await Tls.over(socket, context, ...)`, or of a
-BlockingSocket `socket.tls(context, ...)`, which `http.client` takes like any other.
+**TLS** runs over a socket by `ssl.MemoryBIO` and `ssl.SSLObject`, as `SSLContext.wrap_socket` takes sockets of the system only: in tasks
+`await Tls.over(socket, context, server_hostname=...)`, and of a BlockingSocket `socket.tls(context, server_hostname=...)`, which `http.client` takes like
+any other.
 
 A refused call raises OSError as those of `host` do, and TimeoutError where a timeout ends. What a task raises comes out of `run`.
 """
@@ -86,7 +87,7 @@ __all__ = [
 T = TypeVar("T")
 
 # What docs/EMBEDDING.md recommends to a host that meets losses.
-REAL = {"recovery": Recovery.SELECTIVE, "first_segments": 10, "least_timeout": 200, "first_threshold": 1 << 30}
+REAL: Dict[str, Any] = {"recovery": Recovery.SELECTIVE, "first_segments": 10, "least_timeout": 200, "first_threshold": 1 << 30}
 # The dynamic ports (RFC 6335).
 FIRST_PORT, PORTS = 49152, 16384
 
@@ -133,7 +134,10 @@ class Network:
         """A host at `addr` (`"10.0.1.1/24"`; without a length it is 24), with a route to its own network, one to all else by `gateway`, and others as
         `routes` has them. The options are those of Host; losses are repaired as on a real network, unless they say otherwise."""
         own = ipaddress.IPv4Interface(addr if "/" in addr else f"{addr}/24")
-        known = {str(own.network): None, **({} if gateway is None else {"0.0.0.0/0": gateway}), **(routes or {})}
+        known: Dict[str, Optional[str]] = {str(own.network): None}
+        if gateway is not None:
+            known["0.0.0.0/0"] = gateway
+        known.update(routes or {})
         host = Host(self.new_mac(), str(own.ip), known, **{**REAL, **options})
         station = Station(self, host, str(own.ip), random.Random(self.dice.getrandbits(64)))
         self._stations.append(station)
@@ -361,7 +365,8 @@ class Station:
         """Binds to a port, or to a free one of the dynamic ports by the dice (RFC 6056)."""
         while True:
             try:
-                return self.turn().bind(id, ("0.0.0.0", port or FIRST_PORT + self._dice.randrange(PORTS)))
+                self.turn().bind(id, ("0.0.0.0", port or FIRST_PORT + self._dice.randrange(PORTS)))
+                return
             except OSError as error:
                 if port or error.errno != errno.EADDRINUSE:
                     raise

@@ -71,7 +71,7 @@ class Call(Generic[T]):
 
     def __del__(self) -> None:
         if self._steps is not None:
-            warnings.warn(f"nothing waited for the call {self._steps.__name__}, so it was never made", RuntimeWarning)
+            warnings.warn(f"nothing waited for the call {getattr(self._steps, '__name__', '')}, so it was never made", RuntimeWarning)
 
 
 class Task(Generic[T]):
@@ -131,7 +131,11 @@ class Task(Generic[T]):
             if wait.crowd is not None:
                 wait.crowd.join(self, wait)
             if wait.limit is not None:
-                self.network.at(wait.limit, lambda: self.resume() if self._wait is wait else None)
+                self.network.at(wait.limit, lambda: self._time_is_over(wait))
+
+    def _time_is_over(self, wait: Wait) -> None:
+        if self.waits(wait):
+            self.resume()
 
     def _end(self, result: Any, error: Optional[BaseException]) -> None:
         self.done, self._result, self._error = True, result, error

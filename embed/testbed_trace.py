@@ -52,7 +52,7 @@ class Trace:
         """Draws the congestion window, the octets in flight, the smoothed round trip and the timeout over time: by matplotlib, where it is there, in the
         format of the path's ending. Elsewhere it is a picture in SVG, and the path must end so: else ImportError."""
         try:
-            from matplotlib.figure import Figure
+            from matplotlib.figure import Figure  # type: ignore[import-not-found, unused-ignore]
         except ImportError:
             if not path.endswith(".svg"):
                 raise ImportError("without matplotlib the picture is one in SVG, whose path ends in .svg") from None

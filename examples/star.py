@@ -4,16 +4,21 @@ capture, how the first connection stood over time, and a picture of that.
 Run it by `python3 examples/star.py [FOLDER]`, once `embed/build` has made the library; without a folder the files go to `embed/out`. The same seed gives
 the same files."""
 
-import http.client, os, random, sys
+from __future__ import annotations
 
-EMBED = os.path.join(os.path.dirname(os.path.abspath(__file__)), "..", "embed")
-sys.path.insert(0, EMBED)
-from testbed import Network, decode
+import http.client
+import os
+import random
+import sys
+from typing import List, Tuple
+
+sys.path.insert(0, os.path.join(os.path.dirname(os.path.abspath(__file__)), "..", "embed"))
+from testbed import Link, Network, Socket, Station, Trace, decode
 
 SERVER, PAGE = "10.0.3.1", random.Random(1).getrandbits(2_400_000).to_bytes(300_000, "big")
 
 
-async def answer(socket):
+async def answer(socket: Socket) -> None:
     """Reads one request, up to its empty line, answers it, and waits for the client's end."""
     request = b""
     while b"\r\n\r\n" not in request:
@@ -24,7 +29,7 @@ async def answer(socket):
     socket.close()
 
 
-async def serve(net, station, traces):
+async def serve(net: Network, station: Station, traces: List[Trace]) -> None:
     """Serves each client in a task of its own, and has a trace of each connection."""
     listener = station.listen(80)
     while True:
@@ -33,20 +38,24 @@ async def serve(net, station, traces):
         net.task(answer(socket))
 
 
-def fetch(station):
+def fetch(station: Station) -> Tuple[int, bytes]:
     """Runs in a blocking task: plain Python, over a socket of the network."""
     connection = http.client.HTTPConnection(SERVER)
-    connection.sock = station.create_connection((SERVER, 80), timeout=60)
+    connection.sock = station.create_connection((SERVER, 80), timeout=60)  # type: ignore[assignment]
     connection.request("GET", "/")
     response = connection.getresponse()
     return response.status, response.read()
 
 
-def main(folder):
+def main(folder: str) -> None:
+    """Builds the network, runs it until both clients are served, and writes the files."""
     os.makedirs(folder, exist_ok=True)
     files = {kind: os.path.join(folder, f"star.{kind}") for kind in ("pcap", "csv", "svg")}
     with Network(seed=1) as net:
-        router, hosts, links, traces = net.router(), [], [], []
+        router = net.router()
+        hosts: List[Station] = []
+        links: List[Link] = []
+        traces: List[Trace] = []
         for number in (1, 2, 3):
             hosts.append(net.host(f"10.0.{number}.1/24", gateway=f"10.0.{number}.254"))
             side = router.port(f"10.0.{number}.254/24")
@@ -68,4 +77,4 @@ def main(folder):
 
 
 if __name__ == "__main__":
-    main(sys.argv[1] if len(sys.argv) > 1 else os.path.join(EMBED, "out"))
+    main(sys.argv[1] if len(sys.argv) > 1 else os.path.join(os.path.dirname(os.path.abspath(__file__)), "..", "embed", "out"))
