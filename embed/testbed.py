@@ -167,9 +167,9 @@ class Network:
         queue: Optional[float] = None,
     ) -> Link:
         """Joins two nodes, or ports of them. `delay` is in milliseconds. `loss`, `repeat` and `reorder` are shares, 0 to 1, of the frames that are lost,
-        come twice, and come late, so that later ones pass them: by up to the delay once more, and up to a millisecond at least. `rate` is in bits a
-        second, each way; a frame that would wait for it longer than `queue` milliseconds is lost. ValueError: a number is out of range, or a port has
-        a link."""
+        come twice, and come late, so that later ones may pass them: by up to the delay once more, or up to a millisecond if that is more. `rate` is in
+        bits a second, each way; a frame that would wait for it longer than `queue` milliseconds is lost. ValueError: a number is out of range, or a
+        port has a link."""
         return Link(self, one, other, delay, loss, repeat, reorder, rate, queue)
 
     def pcap(self, path: str, *links: Link) -> Capture:
