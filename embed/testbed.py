@@ -39,6 +39,8 @@ BlockingSocket's call runs the network until it is done.
 
     page = net.run(until=net.blocking(fetch))
 
+(A subclass whose `connect` sets `self.sock` so opens connections by itself, as `http.client` does where the server has closed one.)
+
 **TLS** runs over a socket by `ssl.MemoryBIO` and `ssl.SSLObject`, as `SSLContext.wrap_socket` takes sockets of the system only: in tasks
 `await Tls.over(socket, context, server_hostname=...)`, and of a BlockingSocket `socket.tls(context, server_hostname=...)`, which `http.client` takes like
 any other.
