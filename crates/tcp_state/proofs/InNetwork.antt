@@ -1,5 +1,5 @@
 -- Why what is in the network is counted place by place.
-use Rattle.std.proofs.Common.{◌≡◌, ℕ, zero, suc, ◌+◌, ◌-◌, ◌<◌, ◌≤◌, ◌&&◌, nat_lt, min, Bool, true, false, if◌then◌else◌, inl, inr, List, Option, Some, None, arith, refl, sym, ◌∙◌, ap}
+use Rattle.std.proofs.Common.{◌≡◌, ℕ, zero, suc, ◌+◌, ◌-◌, ◌<◌, ◌≤◌, ◌&&◌, ◌||◌, nat_lt, min, max, Bool, true, false, if◌then◌else◌, inl, inr, List, Option, Some, None, arith, refl, sym, ◌∙◌, ap, ap₂}
 use Rattle.std.specs.Option.{ForSome, unwrap_or}
 use Rattle.std.proofs.lemmas.Bool.{cases_Bool, cases_lt, lt-ltb, le-ltb}
 use Rattle.stream_buf.specs.declared.ranges.Range.{Range}
@@ -8,19 +8,40 @@ use Rattle.stream_buf.specs.Scoreboard.{is_reported, is_lost, unreported, lost_e
 use Rattle.stream_buf.proofs.Reports.{none_below, next_below, lost_before}
 use Rattle.congestion.specs.Window.{is_recovering}
 use Rattle.tcp_halves.specs.Stream.{outstanding}
-use Rattle.tcp_halves.proofs.Choices.{by}
+use Rattle.tcp_halves.proofs.Choices.{by, or_right}
 use Rattle.tcp_state.specs.View.{View, IsSound}
 use Rattle.tcp_state.specs.Selective.{loss_end, repaired_end, pipe}
 use Rattle.tcp_state.specs.Network.{is_taken_for_lost, went_again, times_of, in_network}
+
+-- A place stands before the later of two ends where it stands before one of them, and before the sooner where before both.
+before_max : (place a b : ℕ) → nat_lt place (max a b) ≡ (nat_lt place a || nat_lt place b)
+before_max place a b =
+    elim (cases_lt place a) [
+      | inl lt ↦ lt-ltb place (max a b) (omega (arith, lt)) ∙ sym (ap (λ t. t || nat_lt place b) (lt-ltb place a lt))
+      | inr le ↦ elim (cases_lt place b) [
+        | inl lt ↦ lt-ltb place (max a b) (omega (arith, lt)) ∙ sym (or_right (nat_lt place a) (nat_lt place b) (lt-ltb place b lt))
+        | inr more ↦ le-ltb place (max a b) (omega (arith, le, more)) ∙ sym (ap₂ (λ s t. s || t) (le-ltb place a le) (le-ltb place b more))
+      ]
+    ]
+
+before_min : (place a b : ℕ) → nat_lt place (min a b) ≡ (nat_lt place a && nat_lt place b)
+before_min place a b =
+    elim (cases_lt place a) [
+      | inr le ↦ le-ltb place (min a b) (omega (arith, le)) ∙ sym (ap (λ t. t && nat_lt place b) (le-ltb place a le))
+      | inl lt ↦ elim (cases_lt place b) [
+        | inl less ↦ lt-ltb place (min a b) (omega (arith, lt, less)) ∙ sym (ap₂ (λ s t. s && t) (lt-ltb place a lt) (lt-ltb place b less))
+        | inr more ↦ le-ltb place (min a b) (omega (arith, more)) ∙ sym (ap₂ (λ s t. s && t) (lt-ltb place a lt) (le-ltb place b more))
+      ]
+    ]
 
 -- What is lost stands before one end.
 pub lost_is_before : (v : View) (place : ℕ) → AreApart 1 v.resend.reported → is_reported v.resend.reported place ≡ false → nat_lt place (loss_end v) ≡ is_taken_for_lost v place
 lost_is_before v place apart missing =
     let last = reported_end v.resend.reported in
     let lost = lost_end v.sending.smss v.resend.reported in
-    by (nat_lt place (loss_end v) ≡ is_taken_for_lost v place) (nat_lt 0 v.resend.tail)
-    (λ probed. ap (λ b. nat_lt place (if b then last else lost)) probed ∙ sym (ap (λ b. if b then nat_lt place last else is_lost v.sending.smss v.resend.reported place) probed))
-    (λ none. ap (λ b. nat_lt place (if b then last else lost)) none ∙ lost_before v.sending.smss v.resend.reported 1 place apart missing ∙ sym (ap (λ b. if b then nat_lt place last else is_lost v.sending.smss v.resend.reported place) none))
+    before_max place lost (min v.resend.tail last)
+    ∙ ap (λ b. b || nat_lt place (min v.resend.tail last)) (lost_before v.sending.smss v.resend.reported 1 place apart missing)
+    ∙ ap (λ b. is_lost v.sending.smss v.resend.reported place || b) (before_min place v.resend.tail last)
 
 -- What went out again stands before another.
 again_is_before : (v : View) (place : ℕ) → nat_lt place (repaired_end v) ≡ went_again v place

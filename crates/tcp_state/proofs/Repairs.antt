@@ -324,8 +324,8 @@ reports_lose v s now sound hears runs all unprobed alive grown lost =
     let at = heard_is v s now hears in
     let probed = heard_paced b x now (λ p. p.tail ≡ x.resend.tail) refl refl refl in
     let tail : w.resend.tail ≡ x.resend.tail = ap (λ (y : View). y.resend.tail) at ∙ after_paced b x now (λ p. p.tail ≡ x.resend.tail) probed probed (λ r. probed) probed in
-    let same : loss_end w ≡ loss_end (told b x) = ap (λ (y : View). if nat_lt 0 w.resend.tail then reported_end w.resend.reported else lost_end y.sending.smss w.resend.reported) at
-    ∙ ap₂ (λ n rs. if nat_lt 0 n then reported_end rs else lost_end x.sending.smss rs) tail (reported_now v s now hears) in
+    let same : loss_end w ≡ loss_end (told b x) = ap (λ (y : View). max (lost_end y.sending.smss w.resend.reported) (min w.resend.tail (reported_end w.resend.reported))) at
+    ∙ ap₂ (λ n rs. max (lost_end x.sending.smss rs) (min n (reported_end rs))) tail (reported_now v s now hears) in
     let tells : tells_loss (told_behind b x) ≡ true = let y = told_behind b x in or_right (third_is_next y.congestion) (nat_lt 0 (loss_end y)) (lt-ltb 0 (loss_end y) (omega (arith, lost, same, behind))) in
     let other : is_counted_duplicate v s ≡ false = by (is_counted_duplicate v s ≡ false) (is_counted_duplicate v s)
     (λ twice. clash (reports_more b x) more (reports_none b x (silent_unselected v s (counted_selects_none v (and_right (is_duplicate v s) (counts_duplicates v) twice)))))
@@ -368,21 +368,10 @@ new_room v stretch sound counts first new some =
     subst (λ n. end_of stretch ≤ n) (ap (λ b. if b then v.congestion.cwnd + outstanding v.sending - pipe v else allowed v.congestion) counts) (keeps_cwnd v stretch sound first new some) in
     omega (arith, at, few, some)
 
--- what is lost stands before what is reported
-lost_within : (smss : ℕ) (reported : List Range) (from : ℕ) → AreApart from reported → lost_end smss reported ≤ reported_end reported
-lost_within smss [] from apart = omega arith
-lost_within smss (r ∷ rs) from apart =
-    let later = lost_within smss rs (suc r.end) apart.2 in
-    let some = apart.1 in
-    either ℕ (λ n. n ≤ max r.end (reported_end rs)) (tells_enough smss rs) (lost_end smss rs) _ (λ tells. omega (arith, later))
-    (λ fewer. either ℕ (λ n. n ≤ max r.end (reported_end rs)) (tells_enough smss (r ∷ rs)) r.start 0 (λ tells. omega (arith, some)) (λ none. omega arith))
-
 pub lost_missing : (v : View) (place : ℕ) → IsSound v → is_reported v.resend.reported place ≡ false → is_lost v.sending.smss v.resend.reported place ≡ true → is_missing v place ≡ true
 lost_missing v place sound unreported_place lost =
     or_left (nat_lt place (loss_end v)) (nat_lt place (reported_end v.resend.reported) && not (sends_new v || sends_fin v))
-    (either ℕ (λ n. nat_lt place n ≡ true) (nat_lt 0 v.resend.tail) (reported_end v.resend.reported) (lost_end v.sending.smss v.resend.reported)
-    (λ probed. let before = ltb-true place (lost_end v.sending.smss v.resend.reported) lost_by in let last = lost_within v.sending.smss v.resend.reported 1 sound.resend.reported.apart in lt-ltb place (reported_end v.resend.reported) (omega (arith, before, last)))
-    (λ none. lost_by))
+    (let before = ltb-true place (lost_end v.sending.smss v.resend.reported) lost_by in lt-ltb place (loss_end v) (omega (arith, before)))
   where
     lost_by : nat_lt place (lost_end v.sending.smss v.resend.reported) ≡ true
     lost_by = lost_before v.sending.smss v.resend.reported 1 place sound.resend.reported.apart unreported_place ∙ lost

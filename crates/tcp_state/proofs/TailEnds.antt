@@ -27,6 +27,7 @@ use Rattle.tcp_state.specs.Selective.{selects, repairs_gaps}
 use Rattle.tcp_state.specs.Due.{ack_due, again, again_at, again_from, goes_again, new_due, first_due}
 use Rattle.tcp_state.specs.Edges.{Event, Hears, Ticks, Emits, after_event}
 use Rattle.tcp_state.proofs.Clocked.{by_others, heard_paced, after_paced, reports_none}
+use Rattle.tcp_state.proofs.Deadlines.{none_comes}
 use Rattle.tcp_state.proofs.Events.{by_event}
 use Rattle.tcp_state.proofs.Minute.{by_live_tick}
 use Rattle.tcp_state.proofs.Places.{goes_plainly}
@@ -88,6 +89,18 @@ tail_stays v e sound =
       hopless = λ now gone. inl over;
     }) e
 
+-- an expiry forgets it
+expiry_forgets : (v : View) (now : Moment) → has_come v.timers.retransmission now ≡ true → (clocked false (after_timers v now) now).resend.tail ≡ 0
+expiry_forgets v now comes =
+    let P : View → Type 0 = λ w. w.resend.tail ≡ 0 in
+    by_others P v now
+    (either View P (has_come v.timers.retransmission now) (retransmission_expired v) _ (λ expires. refl) (λ early. clash (has_come v.timers.retransmission now) comes early))
+    (λ w owes gone. gone) (λ w gone. gone)
+
+pub forgotten_at_expiry : (v : View) (now : Moment) → has_come v.timers.retransmission now ≡ true → is_closed (after_event v (Ticks now)).state ≡ false → (after_event v (Ticks now)).resend.tail ≡ 0
+forgotten_at_expiry v now comes alive =
+    by_live_tick (λ w. w.resend.tail ≡ 0) v now alive (expiry_forgets (after_silence v now) now comes) (λ early. clash (has_come v.timers.retransmission now) comes (none_comes v now early))
+
 -- It goes out.
 
 record Marked (v w : View) : Type 0 where
@@ -132,9 +145,9 @@ tick_marks v now due none lives =
     (λ w owes m. keeps w (record w { owes_ack = owes }) refl refl refl refl refl refl refl refl m) (λ w m. keeps w _ refl refl refl refl refl refl refl refl m) in
     by_live_tick (Marked v) v now lives (keeps (after_timers quiet now) (clocked false (after_timers quiet now) now) refl refl refl refl refl refl refl refl acted) (λ not_come. marked)
 
-pub tail_goes_out : (v : View) (now : Moment) → IsSound v → is_tail_due v now ≡ true → expires v now ≡ false → outstanding v.sending - v.sending.smss < open_window v.sending v.congestion.cwnd → is_closed (after_event v (Ticks now)).state ≡ false
+pub tail_goes_out : (v : View) (now : Moment) → IsSound v → is_tail_due v now ≡ true → expires v now ≡ false → is_closed (after_event v (Ticks now)).state ≡ false
     → let w = after_event v (Ticks now) in (first_due w ≡ Some (Text (again w (outstanding v.sending - v.sending.smss)))) × (w.resend.once ≡ true) × (w.resend.tail ≡ outstanding v.sending) × (w.congestion ≡ v.congestion)
-tail_goes_out v now sound due none room lives =
+tail_goes_out v now sound due none lives =
     let w = after_event v (Ticks now) in
     let m = tick_marks v now due none lives in
     let a = due_awaits v now due in
@@ -146,7 +159,7 @@ tail_goes_out v now sound due none room lives =
     let large = a.large in
     let some = sound.segment_least in
     let within : place < outstanding w.sending = subst (λ (t : Sending). place < outstanding t) (sym m.sending) (omega (arith, large, some)) in
-    let fits : nat_lt place (open_window w.sending w.congestion.cwnd) ≡ true = ap₂ (λ (t : Sending) (c : Window). nat_lt place (open_window t c.cwnd)) m.sending m.congestion ∙ lt-ltb place (open_window v.sending v.congestion.cwnd) room in
+    let fits : nat_lt place (open_window w.sending w.congestion.cwnd) ≡ true = ap₂ (λ (t : Sending) (c : Window). nat_lt place (open_window t c.cwnd)) m.sending m.congestion ∙ lt-ltb place (open_window v.sending v.congestion.cwnd) a.fits in
     let plain : (repairs_gaps w && not w.resend.once) ≡ false = ap (λ b. repairs_gaps w && not b) m.once ∙ and_false (repairs_gaps w) in
     let goes : goes_again w place ≡ true = goes_plainly w place plain within (or_right (place == 0) (nat_lt place (open_window w.sending w.congestion.cwnd)) fits) in
     let from : again_from w (Some place) ≡ Some (Text (again w place)) = ap (λ n. if goes_again w n then Some (Text (again w n)) else None) gap ∙ ap (λ b. if b then Some (Text (again w place)) else None) goes in (
@@ -170,7 +183,8 @@ none_awaited v off = at v.timers.retransmission
 
 pub unasked_rests : (v : View) → selects v ≡ false → tail_at v ≡ None
 unasked_rests v unasked =
-    none_awaited v (ap (λ b. b && not (is_opening v.state) && not (is_recovering v.congestion) && (v.resend.recover == 0) && (v.resend.tail == 0) && (length v.resend.reported == 0) && not (is_some v.resend.mark) && nat_lt v.sending.smss (outstanding v.sending)) unasked)
+    none_awaited v (ap (λ b. b && not (is_opening v.state) && not (is_recovering v.congestion) && (v.resend.recover == 0) && (v.resend.tail == 0) && (length v.resend.reported == 0) && not (is_some v.resend.mark) && nat_lt v.sending.smss (outstanding v.sending)
+    && nat_lt (outstanding v.sending - v.sending.smss) (open_window v.sending v.congestion.cwnd)) unasked)
 
 pub once_alone : (v : View) → 0 < v.resend.tail → tail_at v ≡ None
 once_alone v out =

@@ -1,5 +1,5 @@
 -- What a probe of the tail leaves of a connection as it was.
-use Rattle.std.proofs.Common.{◌≡◌, ℕ, ◌∷◌, ◌-◌, ◌<◌, ◌≤◌, ◌==◌, ◌+◌, ◌&&◌, ◌||◌, not, nat_lt, Bool, true, false, if◌then◌else◌, List, [], length, Option, Some, None, is_some, arith, refl, sym, ◌∙◌, ap, subst}
+use Rattle.std.proofs.Common.{◌≡◌, ℕ, ◌∷◌, ◌-◌, ◌<◌, ◌≤◌, ◌==◌, ◌+◌, ◌&&◌, ◌||◌, not, nat_lt, Bool, true, false, if◌then◌else◌, List, [], length, Option, Some, None, min, max, is_some, arith, refl, sym, ◌∙◌, ap, subst}
 use Rattle.std.proofs.lemmas.Bool.{ltb-true, eqb-true}
 use Rattle.std.specs.Option.{ForSome, unwrap_or}
 use Rattle.clock.specs.declared.moment.Moment.{Moment}
@@ -15,7 +15,7 @@ use Rattle.tcp_state.specs.View.{View, IsSound, is_opening, awaits_fin_ack}
 use Rattle.tcp_state.specs.Selective.{selects, counts_pipe, loss_end, repaired_end, allowance}
 use Rattle.tcp_state.specs.Tail.{awaits_tail, tail_wait, tail_by, is_tail_due, tail_after}
 use Rattle.tcp_state.specs.Alive.{is_silent, unanswered_again, after_silence}
-use Rattle.tcp_halves.specs.Windows.{sendable, takes_all, takes_enough, is_worth_sending, waits_for_more}
+use Rattle.tcp_halves.specs.Windows.{open_window, sendable, takes_all, takes_enough, is_worth_sending, waits_for_more}
 use Rattle.tcp_state.specs.New.{passes_full, sends_new, sends_fin}
 use Rattle.tcp_state.specs.Timing.{KeepsTime, probes, awaits_more, awaits_first}
 use Rattle.tcp_state.specs.Congestion.{KeepsCongestion}
@@ -31,6 +31,7 @@ pub record AwaitsTail (v : View) : Type 0 where
   pub reported : v.resend.reported ≡ []
   pub mark : is_some v.resend.mark ≡ false
   pub large : v.sending.smss < outstanding v.sending
+  pub fits : outstanding v.sending - v.sending.smss < open_window v.sending v.congestion.cwnd
 
 none_listed : (rs : List Range) → (length rs == 0) ≡ true → rs ≡ []
 none_listed [] e = refl
@@ -46,7 +47,9 @@ awaits v on =
     let f = length v.resend.reported == 0 in
     let g = not (is_some v.resend.mark) in
     let h = nat_lt v.sending.smss (outstanding v.sending) in
-    let seven = and_left (a && b && c && d && e && f && g) h on in
+    let i = nat_lt (outstanding v.sending - v.sending.smss) (open_window v.sending v.congestion.cwnd) in
+    let eight = and_left (a && b && c && d && e && f && g && h) i on in
+    let seven = and_left (a && b && c && d && e && f && g) h eight in
     let six = and_left (a && b && c && d && e && f) g seven in
     let five = and_left (a && b && c && d && e) f six in
     let four = and_left (a && b && c && d) e five in
@@ -59,7 +62,8 @@ awaits v on =
       tail = and_right (a && b && c && d) e five;
       reported = none_listed v.resend.reported (and_right (a && b && c && d && e) f six);
       mark = not_true (is_some v.resend.mark) (and_right (a && b && c && d && e && f) g seven);
-      large = ltb-true v.sending.smss (outstanding v.sending) (and_right (a && b && c && d && e && f && g) h on);
+      large = ltb-true v.sending.smss (outstanding v.sending) (and_right (a && b && c && d && e && f && g) h eight);
+      fits = ltb-true (outstanding v.sending - v.sending.smss) (open_window v.sending v.congestion.cwnd) (and_right (a && b && c && d && e && f && g && h) i on);
     }
 
 pub due_awaits : (v : View) (now : Moment) → is_tail_due v now ≡ true → AwaitsTail v
@@ -163,8 +167,7 @@ marked_sound v p now k due sound is =
 
 -- nothing is lost where nothing is reported
 pub nothing_lost : (v : View) → v.resend.reported ≡ [] → loss_end v ≡ 0
-nothing_lost v none =
-    either ℕ (λ n. n ≡ 0) (nat_lt 0 v.resend.tail) (reported_end v.resend.reported) (lost_end v.sending.smss v.resend.reported) (λ probed. ap reported_end none) (λ other. ap (lost_end v.sending.smss) none)
+nothing_lost v none = ap (λ rs. max (lost_end v.sending.smss rs) (min v.resend.tail (reported_end rs))) none ∙ omega arith
 
 -- how much may be outstanding: nothing is reported where such a probe is due
 pub allowance_silent : (v : View) (now : Moment) → allowance (after_silence v now) ≡ allowance v
@@ -173,7 +176,7 @@ allowance_silent v now =
     let left = unreported v.resend.reported in
     let lost : loss_end quiet ≡ loss_end v = by (loss_end quiet ≡ loss_end v) (is_tail_due v now)
     (λ due. let none = (due_awaits v now due).reported in nothing_lost quiet none ∙ sym (nothing_lost v none))
-    (λ none. ap (λ (p : Resend). if nat_lt 0 p.tail then reported_end v.resend.reported else lost_end v.sending.smss v.resend.reported) (tail_rests v now none)) in
+    (λ none. ap (λ (p : Resend). max (lost_end v.sending.smss v.resend.reported) (min p.tail (reported_end v.resend.reported))) (tail_rests v now none)) in
     let again : repaired_end quiet ≡ repaired_end v = by (repaired_end quiet ≡ repaired_end v) (is_tail_due v now)
     (λ due. let runs = (due_awaits v now due).runs in ap (λ b. if b then unwrap_or quiet.resend.mark 0 else 0) runs ∙ sym (ap (λ b. if b then unwrap_or v.resend.mark 0 else 0) runs))
     (λ none. ap (λ (p : Resend). if is_recovering v.congestion then unwrap_or p.mark 0 else 0) (tail_rests v now none)) in

@@ -1,13 +1,13 @@
 -- What is in the network, place by place (RFC 6675 section 4, SetPipe).
-use Rattle.std.specs.Prelude.{ℕ, zero, suc, ◌+◌, ◌&&◌, nat_lt, Bool, if◌then◌else◌}
+use Rattle.std.specs.Prelude.{ℕ, zero, suc, ◌+◌, ◌&&◌, ◌||◌, nat_lt, Bool, if◌then◌else◌}
 use Rattle.std.specs.Option.{unwrap_or}
 use Rattle.stream_buf.specs.Scoreboard.{is_reported, is_lost, reported_end}
 use Rattle.congestion.specs.Window.{is_recovering}
 use Rattle.tcp_state.specs.View.{View}
 
--- what first went out at a place that isn't reported is lost, as far as reports tell (IsLost); or once a probe of the tail went out, where anything behind it is reported
+-- what first went out at a place that isn't reported is lost, as far as reports tell (IsLost); or where a probe of the tail followed it, and anything behind it is reported
 abbrev pub is_taken_for_lost : View → ℕ → Bool
-is_taken_for_lost v place = if nat_lt 0 v.resend.tail then nat_lt place (reported_end v.resend.reported) else is_lost v.sending.smss v.resend.reported place
+is_taken_for_lost v place = is_lost v.sending.smss v.resend.reported place || (nat_lt place v.resend.tail && nat_lt place (reported_end v.resend.reported))
 
 -- what stands there went out again in the recovery that runs: it stands before the resend mark (HighRxt)
 abbrev pub went_again : View → ℕ → Bool

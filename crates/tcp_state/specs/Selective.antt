@@ -1,5 +1,5 @@
 -- What goes out by what the peer reports that it keeps ahead of a gap (RFC 2018, RFC 6675).
-use Rattle.std.specs.Prelude.{ℕ, ◌+◌, ◌-◌, ◌==◌, ◌&&◌, ◌||◌, nat_lt, Bool, if◌then◌else◌, List, [], ◌∷◌}
+use Rattle.std.specs.Prelude.{ℕ, ◌+◌, ◌-◌, ◌==◌, ◌&&◌, ◌||◌, min, max, Bool, if◌then◌else◌, List, [], ◌∷◌}
 use Rattle.std.specs.Option.{unwrap_or}
 use Rattle.stream_buf.specs.declared.ranges.Range.{Range}
 use Rattle.stream_buf.specs.Ranges.{range}
@@ -32,10 +32,10 @@ abbrev pub with_blocks : List Range → Sending → List Block → List Range
 with_blocks reported s [] = reported
 with_blocks reported s (block ∷ rest) = with_blocks (with_report reported (outstanding s) (place_of s block)) s rest
 
--- Where what is lost ends, and what went out again in the recovery that runs (HighRxt), by distances past SND.UNA. Once a probe of the tail went out, what stands before anything that is reported is lost:
--- it went out two round trips before that probe (RFC 8985 sections 6.2 and 7.1).
+-- Where what is lost ends, and what went out again in the recovery that runs (HighRxt), by distances past SND.UNA. Once a probe of the tail went out, what was outstanding then
+-- and stands before anything that is reported is lost, too: it went out two round trips before that probe (RFC 8985 sections 6.2 and 7.1).
 abbrev pub loss_end : View → ℕ
-loss_end v = if nat_lt 0 v.resend.tail then reported_end v.resend.reported else lost_end v.sending.smss v.resend.reported
+loss_end v = max (lost_end v.sending.smss v.resend.reported) (min v.resend.tail (reported_end v.resend.reported))
 
 abbrev pub repaired_end : View → ℕ
 repaired_end v = if is_recovering v.congestion then unwrap_or v.resend.mark 0 else 0

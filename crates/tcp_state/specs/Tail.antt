@@ -7,17 +7,19 @@ use Rattle.retransmit.specs.declared.rto.Estimate.{Estimate}
 use Rattle.retransmit.specs.Timeout.{Timeout}
 use Rattle.congestion.specs.Window.{is_recovering}
 use Rattle.tcp_halves.specs.Stream.{outstanding}
+use Rattle.tcp_halves.specs.Windows.{open_window}
 use Rattle.tcp_state.specs.declared.tail.TheConstants.{LEAST_TAIL_WAIT}
 use Rattle.tcp_state.specs.Resend.{Resend}
 use Rattle.tcp_state.specs.View.{View, is_opening}
 use Rattle.tcp_state.specs.Selective.{selects}
 
 -- Such a probe is waited for where reports are taken, and more than a segment is outstanding: not in a recovery, nor before all is acknowledged that was outstanding at an expiry or at the last probe; and not where something
--- is reported, or goes out again (section 7.2).
+-- is reported, or goes out again (section 7.2), nor where it would not go out within both windows.
 abbrev pub awaits_tail : View → Bool
 awaits_tail v =
     selects v && not (is_opening v.state) && not (is_recovering v.congestion) && (v.resend.recover == 0) && (v.resend.tail == 0)
     && (length v.resend.reported == 0) && not (is_some v.resend.mark) && nat_lt v.sending.smss (outstanding v.sending)
+    && nat_lt (outstanding v.sending - v.sending.smss) (open_window v.sending v.congestion.cwnd)
 
 -- two smoothed round trips, 10 ms at least, and no longer than the timeout; that long, where no round trip was measured (section 7.2, PTO)
 abbrev pub tail_wait_by : Option Estimate → ℕ → ℕ

@@ -10,7 +10,6 @@ ghost use Rattle.tcp_segment.specs.Segment.{Segment, blocks_of};
 ghost use Rattle.tcp_segment.specs.Wire.{past};
 ghost use Rattle.tcp_halves.specs.Numbers.{is_before};
 ghost use Rattle.tcp_halves.specs.Stream.{outstanding};
-ghost use Rattle.tcp_halves.specs.Windows.{open_window};
 ghost use Rattle.tcp_state.specs.declared.emission.Due.{Due};
 ghost use Rattle.tcp_state.specs.View.{View, IsSound, is_opening, is_closed};
 ghost use Rattle.tcp_state.specs.Selective.{selects};
@@ -23,7 +22,7 @@ ghost use Rattle.tcp_state.specs.Edges.{Event, after_event};
 /// Where the moment of a probe of the tail has come, and that of an expiry has not, a tick makes the last segment due again, that alone, within both windows; the congestion window stays (section 7.3). Without reports none comes, and
 /// none before all is acknowledged that was outstanding at the last. It comes two smoothed round trips after the moment from which the retransmission timer runs, 10 ms at least, and no later than that expires (section 7.2).
 pub fn a_silent_tail_goes_out_again()
-    ensures goes { (v : View) (now : Moment) → IsSound v → is_tail_due v now ≡ true → expires v now ≡ false → outstanding v.sending - v.sending.smss < open_window v.sending v.congestion.cwnd → is_closed (after_event v (Event.Ticks now)).state ≡ false
+    ensures goes { (v : View) (now : Moment) → IsSound v → is_tail_due v now ≡ true → expires v now ≡ false → is_closed (after_event v (Event.Ticks now)).state ≡ false
         → let w = after_event v (Event.Ticks now) in (first_due w ≡ Some (Due.Text (again w (outstanding v.sending - v.sending.smss)))) × (w.resend.once ≡ true) × (w.resend.tail ≡ outstanding v.sending) × (w.congestion ≡ v.congestion) }
     ensures unasked { (v : View) → selects v ≡ false → tail_at v ≡ None }
     ensures once { (v : View) → 0 < v.resend.tail → tail_at v ≡ None }
@@ -33,7 +32,8 @@ pub fn a_silent_tail_goes_out_again()
 
 /// The end of what was outstanding at a probe of the tail keeps its number: an acknowledgement that moves SND.UNA brings it as much nearer, an expiry forgets it, and nothing else moves it.
 pub fn the_end_of_a_probe_is_known()
-    ensures { (v : View) (e : Event) → IsSound v
+    ensures expiry { (v : View) (now : Moment) → has_come v.timers.retransmission now ≡ true → is_closed (after_event v (Event.Ticks now)).state ≡ false → (after_event v (Event.Ticks now)).resend.tail ≡ 0 }
+    ensures all { (v : View) (e : Event) → IsSound v
         → ((after_event v e).resend.tail ≡ v.resend.tail - past (after_event v e).sending.una v.sending.una)
         ⊎ ((now : Moment) × (e ≡ Event.Ticks now) × (((is_tail_due v now ≡ true) × ((after_event v e).resend.tail ≡ outstanding v.sending)) ⊎ ((has_come v.timers.retransmission now ≡ true) × ((after_event v e).resend.tail ≡ 0)))) }
 {}

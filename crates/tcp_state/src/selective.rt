@@ -39,11 +39,8 @@ impl Connection {
         ensures { result ≡ loss_end self.now }
     {
         let reported = self.resend.reported();
-        if self.resend.tail() > 0 {
-            reported.reported_end()
-        } else {
-            reported.lost_end(self.sender.smss() as u16)
-        }
+        let probed = self.resend.tail().min(reported.reported_end());
+        reported.lost_end(self.sender.smss() as u16).max(probed)
     }
 
     /// The distance past SND.UNA behind what went out again in the recovery that runs (`HighRxt`).

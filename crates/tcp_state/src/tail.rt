@@ -23,6 +23,15 @@ impl Connection {
             && self.resend.reported().is_empty()
             && self.resend.mark().is_none()
             && self.sender.outstanding() as usize > self.sender.smss()
+            && self.last_place() < self.sender.open_window(self.congestion.window())
+    }
+
+    /// The distance past SND.UNA from which on the last segment goes out again.
+    fn last_place(&self) -> u32
+        ensures { result ≡ outstanding self.now.sending - self.now.sending.smss }
+    {
+        let outstanding = self.sender.outstanding();
+        outstanding.saturating_sub(self.sender.smss() as u32)
     }
 
     /// How long it is waited for, in milliseconds.
@@ -65,8 +74,7 @@ impl Connection {
         ensures { self.new ≡ record self.old { resend = tail_after self.old now } }
     {
         if self.is_tail_due(now) {
-            let outstanding = self.sender.outstanding();
-            let place = outstanding.saturating_sub(self.sender.smss() as u32);
+            let (place, outstanding) = (self.last_place(), self.sender.outstanding());
             self.resend.mark_tail(place, outstanding);
         }
     }
