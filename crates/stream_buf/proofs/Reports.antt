@@ -3,6 +3,7 @@ use Rattle.std.proofs.Common.{◌≡◌, ℕ, suc, ◌+◌, ◌-◌, ◌*◌, �
 use Rattle.std.proofs.lemmas.Bool.{cases_lt, cases_Bool, lt-ltb, le-ltb, ltb-true}
 use Rattle.std.proofs.lemmas.Bool.Decides.{nat_tests}
 use Rattle.stream_buf.specs.declared.ranges.Range.{Range}
+use Rattle.stream_buf.specs.declared.scoreboard.Tolerance.{Tolerance}
 use Rattle.stream_buf.specs.Ranges.{AreApart, with_range}
 use Rattle.stream_buf.specs.Stored.{is_kept}
 use Rattle.stream_buf.specs.Scoreboard.{IsScoreboard, has_place, is_reported, is_taken, with_report, passed, first_gap, gap_len, unreported, tells_loss, is_lost, lost_end, reported_end}
@@ -280,26 +281,30 @@ last_reported (r ∷ rs) from apart some =
 
 -- what is lost
 
-lost_others : (smss : ℕ) (r : Range) (rs : List Range) → tells_loss smss rs ≡ true → lost_end smss (r ∷ rs) ≡ lost_end smss rs
-lost_others smss r rs on = ap (λ (b : Bool). if b then lost_end smss rs else (if tells_loss smss (r ∷ rs) then r.start else 0)) on
+-- nothing tells no loss
+nothing_told : (t : Tolerance) → tells_loss t [] ≡ false
+nothing_told t = ap (λ (b : Bool). b || nat_lt t.octets 0) (le-ltb t.ranges 0 (omega arith)) ∙ le-ltb t.octets 0 (omega arith)
 
-lost_from : (smss : ℕ) (rs : List Range) (from : ℕ) → AreApart from rs → tells_loss smss rs ≡ true → from ≤ lost_end smss rs
-lost_from smss [] from apart tells = let none = ltb-true (2 * smss) 0 tells in absurd (omega (arith, none))
-lost_from smss (r ∷ rs) from apart tells =
-    elim (cases_Bool (tells_loss smss rs)) [
+lost_others : (t : Tolerance) (r : Range) (rs : List Range) → tells_loss t rs ≡ true → lost_end t (r ∷ rs) ≡ lost_end t rs
+lost_others t r rs on = ap (λ (b : Bool). if b then lost_end t rs else (if tells_loss t (r ∷ rs) then r.start else 0)) on
+
+lost_from : (t : Tolerance) (rs : List Range) (from : ℕ) → AreApart from rs → tells_loss t rs ≡ true → from ≤ lost_end t rs
+lost_from t [] from apart tells = let no : true ≡ false = sym tells ∙ nothing_told t in absurd (cc)
+lost_from t (r ∷ rs) from apart tells =
+    elim (cases_Bool (tells_loss t rs)) [
       | inl on ↦
-          let is = lost_others smss r rs on in
-          let rest = lost_from smss rs (suc r.end) apart.2 on in
+          let is = lost_others t r rs on in
+          let rest = lost_from t rs (suc r.end) apart.2 on in
           omega (arith, is, rest, apart.0, apart.1)
-      | inr off ↦ let is = lost_at smss [] r rs off tells in omega (arith, is, apart.0)
+      | inr off ↦ let is = lost_at t [] r rs off tells in omega (arith, is, apart.0)
     ]
 
 -- no loss is told past the start of the first range where the others tell of none
-lost_no_further : (smss : ℕ) (r : Range) (rs : List Range) → tells_loss smss rs ≡ false → lost_end smss (r ∷ rs) ≤ r.start
-lost_no_further smss r rs off =
-    elim (cases_Bool (tells_loss smss (r ∷ rs))) [
-      | inl on ↦ let is = lost_at smss [] r rs off on in omega (arith, is)
-      | inr none ↦ let is = lost_none smss (r ∷ rs) none in omega (arith, is)
+lost_no_further : (t : Tolerance) (r : Range) (rs : List Range) → tells_loss t rs ≡ false → lost_end t (r ∷ rs) ≤ r.start
+lost_no_further t r rs off =
+    elim (cases_Bool (tells_loss t (r ∷ rs))) [
+      | inl on ↦ let is = lost_at t [] r rs off on in omega (arith, is)
+      | inr none ↦ let is = lost_none t (r ∷ rs) none in omega (arith, is)
     ]
 
 ahead_all : (rs : List Range) (from place : ℕ) → AreApart from rs → place < from → ahead place rs ≡ rs
@@ -307,29 +312,29 @@ ahead_all [] from place apart before = refl
 ahead_all (r ∷ rs) from place apart before =
     ahead_kept place r rs (omega (arith, apart.0, before)) ∙ ap (λ (l : List Range). r ∷ l) (ahead_all rs (suc r.end) place apart.2 (omega (arith, apart.0, apart.1, before)))
 
-pub lost_before : (smss : ℕ) (rs : List Range) (from place : ℕ) → AreApart from rs → is_reported rs place ≡ false → nat_lt place (lost_end smss rs) ≡ is_lost smss rs place
-lost_before smss [] from place apart none = le-ltb place 0 (omega arith) ∙ sym (le-ltb (2 * smss) 0 (omega arith))
-lost_before smss (r ∷ rs) from place apart none =
+pub lost_before : (t : Tolerance) (rs : List Range) (from place : ℕ) → AreApart from rs → is_reported rs place ≡ false → nat_lt place (lost_end t rs) ≡ is_lost t rs place
+lost_before t [] from place apart none = le-ltb place 0 (omega arith) ∙ sym (nothing_told t)
+lost_before t (r ∷ rs) from place apart none =
     elim (cases_lt place r.start) [
       | inl lt ↦
-          let lost : is_lost smss (r ∷ rs) place ≡ tells_loss smss (r ∷ rs) =
-          ap (λ (l : List Range). tells_loss smss l) (ahead_all (r ∷ rs) r.start place (omega arith, apart.1, apart.2) lt) in
-          elim (cases_Bool (tells_loss smss (r ∷ rs))) [
+          let lost : is_lost t (r ∷ rs) place ≡ tells_loss t (r ∷ rs) =
+          ap (λ (l : List Range). tells_loss t l) (ahead_all (r ∷ rs) r.start place (omega arith, apart.1, apart.2) lt) in
+          elim (cases_Bool (tells_loss t (r ∷ rs))) [
             | inl on ↦
-                let further = lost_from smss (r ∷ rs) r.start (omega arith, apart.1, apart.2) on in
-                lt-ltb place (lost_end smss (r ∷ rs)) (omega (arith, lt, further)) ∙ sym (lost ∙ on)
-            | inr off ↦ let is = lost_none smss (r ∷ rs) off in le-ltb place (lost_end smss (r ∷ rs)) (omega (arith, is)) ∙ sym (lost ∙ off)
+                let further = lost_from t (r ∷ rs) r.start (omega arith, apart.1, apart.2) on in
+                lt-ltb place (lost_end t (r ∷ rs)) (omega (arith, lt, further)) ∙ sym (lost ∙ on)
+            | inr off ↦ let is = lost_none t (r ∷ rs) off in le-ltb place (lost_end t (r ∷ rs)) (omega (arith, is)) ∙ sym (lost ∙ off)
           ]
       | inr le ↦
           let both = either_false (has_place place r) (is_reported rs place) none in
-          let rest = lost_before smss rs (suc r.end) place apart.2 both.1 in
-          let lost : is_lost smss (r ∷ rs) place ≡ is_lost smss rs place = ap (λ (l : List Range). tells_loss smss l) (ahead_gone place r rs le) in
-          elim (cases_Bool (tells_loss smss rs)) [
-            | inl on ↦ ap (λ (n : ℕ). nat_lt place n) (lost_others smss r rs on) ∙ rest ∙ sym lost
+          let rest = lost_before t rs (suc r.end) place apart.2 both.1 in
+          let lost : is_lost t (r ∷ rs) place ≡ is_lost t rs place = ap (λ (l : List Range). tells_loss t l) (ahead_gone place r rs le) in
+          elim (cases_Bool (tells_loss t rs)) [
+            | inl on ↦ ap (λ (n : ℕ). nat_lt place n) (lost_others t r rs on) ∙ rest ∙ sym lost
             | inr off ↦
-                let further = lost_no_further smss r rs off in
-                let is = lost_none smss rs off in
-                le-ltb place (lost_end smss (r ∷ rs)) (omega (arith, further, le))
-                ∙ sym (le-ltb place (lost_end smss rs) (omega (arith, is))) ∙ rest ∙ sym lost
+                let further = lost_no_further t r rs off in
+                let is = lost_none t rs off in
+                le-ltb place (lost_end t (r ∷ rs)) (omega (arith, further, le))
+                ∙ sym (le-ltb place (lost_end t rs) (omega (arith, is))) ∙ rest ∙ sym lost
           ]
     ]

@@ -7,6 +7,7 @@ use Rattle.std.proofs.lemmas.Option.{slice_get_within, get_or_from_slice_get}
 use Rattle.std.specs.List.{slice_get}
 use Rattle.std.proofs.lemmas.List.Sums.{sum_by-append}
 use Rattle.stream_buf.specs.declared.ranges.Range.{Range}
+use Rattle.stream_buf.specs.declared.scoreboard.Tolerance.{Tolerance}
 use Rattle.stream_buf.specs.Ranges.{range, covered, AreApart, AreWithin}
 use Rattle.stream_buf.specs.Scoreboard.{IsScoreboard, first_gap, gap_len, unreported, reported_end, tells_loss, lost_end}
 
@@ -89,37 +90,37 @@ last_one rs r was is =
     (omega (arith, same, end), omega (arith, same, within))
 
 -- more ranges with more octets tell no less
-told_less : (smss few octets more further : ℕ) → few ≤ more → octets ≤ further → (nat_le 3 more || nat_lt (2 * smss) further) ≡ false → (nat_le 3 few || nat_lt (2 * smss) octets) ≡ false
-told_less smss few octets more further first second none = grind (arith, nat_tests)
+told_less : (t : Tolerance) (few octets more further : ℕ) → few ≤ more → octets ≤ further → (nat_lt t.ranges more || nat_lt t.octets further) ≡ false → (nat_lt t.ranges few || nat_lt t.octets octets) ≡ false
+told_less t few octets more further first second none = grind (arith, nat_tests)
 
-told_more : (smss few octets more further : ℕ) → few ≤ more → octets ≤ further → (nat_le 3 few || nat_lt (2 * smss) octets) ≡ true → (nat_le 3 more || nat_lt (2 * smss) further) ≡ true
-told_more smss few octets more further first second tells = grind (arith, nat_tests)
+told_more : (t : Tolerance) (few octets more further : ℕ) → few ≤ more → octets ≤ further → (nat_lt t.ranges few || nat_lt t.octets octets) ≡ true → (nat_lt t.ranges more || nat_lt t.octets further) ≡ true
+told_more t few octets more further first second tells = grind (arith, nat_tests)
 
-tells_behind : (smss : ℕ) (more rs : List Range) → tells_loss smss (more ++ rs) ≡ false → tells_loss smss rs ≡ false
-tells_behind smss more rs none =
+tells_behind : (t : Tolerance) (more rs : List Range) → tells_loss t (more ++ rs) ≡ false → tells_loss t rs ≡ false
+tells_behind t more rs none =
     let size = length-append more rs in
     let octets = sum_by-append (λ (r : Range). r.end - r.start) more rs in
-    told_less smss (length rs) (covered rs) (length (more ++ rs)) (covered (more ++ rs)) (omega (arith, size)) (omega (arith, octets)) none
+    told_less t (length rs) (covered rs) (length (more ++ rs)) (covered (more ++ rs)) (omega (arith, size)) (omega (arith, octets)) none
 
-tells_before : (smss : ℕ) (more rs : List Range) → tells_loss smss rs ≡ true → tells_loss smss (more ++ rs) ≡ true
-tells_before smss more rs tells =
+tells_before : (t : Tolerance) (more rs : List Range) → tells_loss t rs ≡ true → tells_loss t (more ++ rs) ≡ true
+tells_before t more rs tells =
     let size = length-append more rs in
     let octets = sum_by-append (λ (r : Range). r.end - r.start) more rs in
-    told_more smss (length rs) (covered rs) (length (more ++ rs)) (covered (more ++ rs)) (omega (arith, size)) (omega (arith, octets)) tells
+    told_more t (length rs) (covered rs) (length (more ++ rs)) (covered (more ++ rs)) (omega (arith, size)) (omega (arith, octets)) tells
 
-pub lost_none : (smss : ℕ) (rs : List Range) → tells_loss smss rs ≡ false → lost_end smss rs ≡ 0
-lost_none smss [] none = refl
-lost_none smss (r ∷ rs) none =
-    ap (λ (b : Bool). if b then lost_end smss rs else (if tells_loss smss (r ∷ rs) then r.start else 0)) (tells_behind smss (r ∷ []) rs none)
+pub lost_none : (t : Tolerance) (rs : List Range) → tells_loss t rs ≡ false → lost_end t rs ≡ 0
+lost_none t [] none = refl
+lost_none t (r ∷ rs) none =
+    ap (λ (b : Bool). if b then lost_end t rs else (if tells_loss t (r ∷ rs) then r.start else 0)) (tells_behind t (r ∷ []) rs none)
     ∙ ap (λ (b : Bool). if b then r.start else 0) none
 
 -- the last range of which those from it on tell so
-pub lost_at : (smss : ℕ) (more : List Range) (r : Range) (rs : List Range) → tells_loss smss rs ≡ false → tells_loss smss (r ∷ rs) ≡ true → lost_end smss (more ++ r ∷ rs) ≡ r.start
-lost_at smss [] r rs none tells =
-    ap (λ (b : Bool). if b then lost_end smss rs else (if tells_loss smss (r ∷ rs) then r.start else 0)) none ∙ ap (λ (b : Bool). if b then r.start else 0) tells
-lost_at smss (s ∷ more) r rs none tells =
-    ap (λ (b : Bool). if b then lost_end smss (more ++ r ∷ rs) else (if tells_loss smss (s ∷ more ++ r ∷ rs) then s.start else 0)) (tells_before smss more (r ∷ rs) tells)
-    ∙ lost_at smss more r rs none tells
+pub lost_at : (t : Tolerance) (more : List Range) (r : Range) (rs : List Range) → tells_loss t rs ≡ false → tells_loss t (r ∷ rs) ≡ true → lost_end t (more ++ r ∷ rs) ≡ r.start
+lost_at t [] r rs none tells =
+    ap (λ (b : Bool). if b then lost_end t rs else (if tells_loss t (r ∷ rs) then r.start else 0)) none ∙ ap (λ (b : Bool). if b then r.start else 0) tells
+lost_at t (s ∷ more) r rs none tells =
+    ap (λ (b : Bool). if b then lost_end t (more ++ r ∷ rs) else (if tells_loss t (s ∷ more ++ r ∷ rs) then s.start else 0)) (tells_before t more (r ∷ rs) tells)
+    ∙ lost_at t more r rs none tells
 
 -- from the last range back
 covered_reversed : (rs : List Range) → covered (reverse rs) ≡ covered rs
@@ -131,10 +132,10 @@ covered_reversed (r ∷ rs) =
     let all : covered (r ∷ rs) ≡ covered (r ∷ []) + covered rs = sum_by-append (λ (s : Range). s.end - s.start) (r ∷ []) rs in
     omega (arith, rest, split, all)
 
-tells_reversed : (smss : ℕ) (rs : List Range) → tells_loss smss (reverse rs) ≡ tells_loss smss rs
-tells_reversed smss rs =
-    ap (λ (n : ℕ). nat_le 3 n || nat_lt (2 * smss) (covered (reverse rs))) (length-reverse rs)
-    ∙ ap (λ (n : ℕ). nat_le 3 (length rs) || nat_lt (2 * smss) n) (covered_reversed rs)
+tells_reversed : (t : Tolerance) (rs : List Range) → tells_loss t (reverse rs) ≡ tells_loss t rs
+tells_reversed t rs =
+    ap (λ (n : ℕ). nat_lt t.ranges n || nat_lt t.octets (covered (reverse rs))) (length-reverse rs)
+    ∙ ap (λ (n : ℕ). nat_lt t.ranges (length rs) || nat_lt t.octets n) (covered_reversed rs)
 
 one_of_them : (more : List Range) (r : Range) (rs : List Range) (from most : ℕ) → AreApart from (more ++ r ∷ rs) → AreWithin most (more ++ r ∷ rs)
     → (r.start < r.end) × (r.end ≤ most)
@@ -164,29 +165,29 @@ module _ (rs : List Range) (n : ℕ) (r : Range) (there : n < length (reverse rs
       let most : ℕ = 2 ^ 32 - 1 in
       one_of_them (reverse (drop (n + 1) (reverse rs))) r (reverse (take n (reverse rs))) 1 most (subst (AreApart 1) parts sound.apart) (subst (AreWithin most) parts sound.within)
 
-  pub found : (smss : ℕ) → tells_loss smss (take n (reverse rs)) ≡ false → tells_loss smss (take (n + 1) (reverse rs)) ≡ true → lost_end smss rs ≡ r.start
-  found smss none tells =
+  pub found : (t : Tolerance) → tells_loss t (take n (reverse rs)) ≡ false → tells_loss t (take (n + 1) (reverse rs)) ≡ true → lost_end t rs ≡ r.start
+  found t none tells =
       let back : List Range = reverse rs in
-      ap (λ (l : List Range). lost_end smss l) parts
-      ∙ lost_at smss (reverse (drop (n + 1) back)) r (reverse (take n back)) (tells_reversed smss (take n back) ∙ none)
-      (ap (λ (l : List Range). tells_loss smss l) (sym last) ∙ tells_reversed smss (take (n + 1) back) ∙ tells)
+      ap (λ (l : List Range). lost_end t l) parts
+      ∙ lost_at t (reverse (drop (n + 1) back)) r (reverse (take n back)) (tells_reversed t (take n back) ∙ none)
+      (ap (λ (l : List Range). tells_loss t l) (sym last) ∙ tells_reversed t (take (n + 1) back) ∙ tells)
 
 -- so many with so many octets tell what they do
-pub told : (smss n octets : ℕ) (rs : List Range) → n ≡ length rs → octets ≡ covered rs → tells_loss smss rs ≡ (nat_le 3 n || nat_lt (2 * smss) octets)
-told smss n octets rs many some =
-    ap (λ (k : ℕ). nat_le 3 k || nat_lt (2 * smss) (covered rs)) (sym many) ∙ ap (λ (k : ℕ). nat_le 3 n || nat_lt (2 * smss) k) (sym some)
+pub told : (t : Tolerance) (n octets : ℕ) (rs : List Range) → n ≡ length rs → octets ≡ covered rs → tells_loss t rs ≡ (nat_lt t.ranges n || nat_lt t.octets octets)
+told t n octets rs many some =
+    ap (λ (k : ℕ). nat_lt t.ranges k || nat_lt t.octets (covered rs)) (sym many) ∙ ap (λ (k : ℕ). nat_lt t.ranges n || nat_lt t.octets k) (sym some)
 
-few_tell : (smss n octets : ℕ) → n < 3 → octets ≤ 2 * smss → (nat_le 3 n || nat_lt (2 * smss) octets) ≡ false
-few_tell smss n octets few little = grind (arith, nat_tests)
+few_tell : (t : Tolerance) (n octets : ℕ) → n ≤ t.ranges → octets ≤ t.octets → (nat_lt t.ranges n || nat_lt t.octets octets) ≡ false
+few_tell t n octets few little = grind (arith, nat_tests)
 
-pub few_told : (smss n octets : ℕ) → (nat_le 3 n || nat_lt (2 * smss) octets) ≡ false → (n < 3) × (octets ≤ 2 * smss)
-few_told smss n octets none = grind (arith, nat_tests)
+pub few_told : (t : Tolerance) (n octets : ℕ) → (nat_lt t.ranges n || nat_lt t.octets octets) ≡ false → (n ≤ t.ranges) × (octets ≤ t.octets)
+few_told t n octets none = grind (arith, nat_tests)
 
 -- where the last ones tell of no loss
-pub little : (smss n octets : ℕ) (rs : List Range) → n ≤ length rs → n < 3 → octets ≡ covered (take n (reverse rs)) → octets ≤ 2 * smss → tells_loss smss (take n (reverse rs)) ≡ false
-little smss n octets rs there few is most =
-    told smss n octets (take n (reverse rs)) (omega (arith, length-take n (reverse rs), length-reverse rs, there)) is ∙ few_tell smss n octets few most
+pub little : (t : Tolerance) (n octets : ℕ) (rs : List Range) → n ≤ length rs → n ≤ t.ranges → octets ≡ covered (take n (reverse rs)) → octets ≤ t.octets → tells_loss t (take n (reverse rs)) ≡ false
+little t n octets rs there few is most =
+    told t n octets (take n (reverse rs)) (omega (arith, length-take n (reverse rs), length-reverse rs, there)) is ∙ few_tell t n octets few most
 
-pub found_none : (smss n : ℕ) (rs : List Range) → length (reverse rs) ≤ n → tells_loss smss (take n (reverse rs)) ≡ false → lost_end smss rs ≡ 0
-found_none smss n rs all none =
-    lost_none smss rs (sym (tells_reversed smss rs) ∙ ap (λ (l : List Range). tells_loss smss l) (sym (take_all n (reverse rs) all)) ∙ none)
+pub found_none : (t : Tolerance) (n : ℕ) (rs : List Range) → length (reverse rs) ≤ n → tells_loss t (take n (reverse rs)) ≡ false → lost_end t rs ≡ 0
+found_none t n rs all none =
+    lost_none t rs (sym (tells_reversed t rs) ∙ ap (λ (l : List Range). tells_loss t l) (sym (take_all n (reverse rs) all)) ∙ none)

@@ -1,7 +1,8 @@
 -- What the peer reports that it keeps ahead of a gap, by distances past SND.UNA, and what that tells (RFC 6675 sections 3 and 4).
-use Rattle.std.specs.Prelude.{ℕ, ◌-◌, ◌*◌, ◌^◌, ◌≤◌, ◌&&◌, ◌||◌, nat_lt, nat_le, min, max, Bool, if◌then◌else◌, List, [], ◌∷◌, length, filter}
+use Rattle.std.specs.Prelude.{ℕ, ◌-◌, ◌^◌, ◌≤◌, ◌&&◌, ◌||◌, nat_lt, nat_le, min, max, Bool, if◌then◌else◌, List, [], ◌∷◌, length, filter}
 use Rattle.std.specs.List.{list_any}
 use Rattle.stream_buf.specs.declared.ranges.Range.{Range}
+use Rattle.stream_buf.specs.declared.scoreboard.Tolerance.{Tolerance}
 use Rattle.stream_buf.specs.declared.receive.TheConstants.{MOST_RANGES}
 use Rattle.stream_buf.specs.Ranges.{AreApart, AreWithin, with_range, covered, nearer}
 
@@ -44,19 +45,19 @@ abbrev pub unreported : List Range → ℕ → ℕ
 unreported [] place = place
 unreported (r ∷ rs) place = unreported rs place - (min r.end place - min r.start place)
 
--- so much is reported that what stands before all of it is lost: three ranges, or more octets than two segments have (IsLost)
-abbrev pub tells_loss : ℕ → List Range → Bool
-tells_loss smss past = nat_le 3 (length past) || nat_lt (2 * smss) (covered past)
+-- so much is reported that what stands before all of it is lost: more ranges, or more octets, than are tolerated (IsLost)
+abbrev pub tells_loss : Tolerance → List Range → Bool
+tells_loss t past = nat_lt t.ranges (length past) || nat_lt t.octets (covered past)
 
-abbrev pub is_lost : ℕ → List Range → ℕ → Bool
-is_lost smss reported place = tells_loss smss (filter (λ r. nat_lt place r.start) reported)
+abbrev pub is_lost : Tolerance → List Range → ℕ → Bool
+is_lost t reported place = tells_loss t (filter (λ r. nat_lt place r.start) reported)
 
 -- the place before which all is lost that is not reported; 0 where nothing is
-abbrev pub lost_end : ℕ → List Range → ℕ
-lost_end smss [] = 0
-lost_end smss (r ∷ rs) =
-    if tells_loss smss rs then lost_end smss rs
-    else if tells_loss smss (r ∷ rs) then r.start
+abbrev pub lost_end : Tolerance → List Range → ℕ
+lost_end t [] = 0
+lost_end t (r ∷ rs) =
+    if tells_loss t rs then lost_end t rs
+    else if tells_loss t (r ∷ rs) then r.start
     else 0
 
 -- the place behind all that are reported; 0 where none is

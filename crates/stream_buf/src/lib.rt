@@ -12,5 +12,5 @@ mod send;
 
 pub use ranges::Range;
 pub use receive::{MOST_RANGES, RecvBuf};
-pub use scoreboard::Scoreboard;
+pub use scoreboard::{Scoreboard, Tolerance};
 pub use send::SendBuf;

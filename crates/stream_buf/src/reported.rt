@@ -2,14 +2,15 @@
 
 ghost use Rattle.std.specs.Prelude.{◌≡◌, ℕ, suc, ◌+◌, ◌-◌, ◌<◌, ◌≤◌, ◌||◌, nat_lt, Bool, true, false, if◌then◌else◌, List, filter};
 ghost use Rattle.stream_buf.specs.declared.ranges.Range.{Range};
+ghost use Rattle.stream_buf.specs.declared.scoreboard.Tolerance.{Tolerance};
 ghost use Rattle.stream_buf.specs.Ranges.{AreApart};
 ghost use Rattle.stream_buf.specs.Scoreboard.{IsScoreboard, has_place, is_reported, is_taken, with_report, passed, first_gap, gap_len, unreported, is_lost, lost_end, reported_end};
 
-/// A place that isn't reported is lost where three ranges are reported past it, or more octets than two segments have; and these are
-/// the places before one end (RFC 6675 section 4, `IsLost`).
+/// A place that isn't reported is lost where more ranges are reported past it than are tolerated, or more octets; and these are the
+/// places before one end (RFC 6675 section 4, `IsLost`).
 pub fn what_stands_before_enough_is_lost()
-    ensures { (smss place : ℕ) (reported : List Range) → AreApart 1 reported → is_reported reported place ≡ false
-        → nat_lt place (lost_end smss reported) ≡ is_lost smss reported place }
+    ensures { (t : Tolerance) (place : ℕ) (reported : List Range) → AreApart 1 reported → is_reported reported place ≡ false
+        → nat_lt place (lost_end t reported) ≡ is_lost t reported place }
 {}
 
 /// The first gap from a place on is a place that isn't reported, and all those before it are (RFC 6675 section 4, `NextSeg`).

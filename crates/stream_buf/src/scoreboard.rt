@@ -1,6 +1,6 @@
 //! What the peer reports that it keeps ahead of a gap (RFC 2018, RFC 6675).
 
-ghost use Rattle.std.specs.Prelude.{◌≡◌, ◌≤◌, ◌==◌, ◌*◌, ◌||◌, nat_le, nat_lt, [], length};
+ghost use Rattle.std.specs.Prelude.{◌≡◌, ◌≤◌, ◌==◌, ◌||◌, nat_lt, [], length};
 ghost use Rattle.stream_buf.specs.Ranges.{covered, range};
 ghost use Rattle.stream_buf.specs.Scoreboard.{IsScoreboard, with_report, passed, first_gap, gap_len, unreported, lost_end, reported_end};
 
@@ -8,8 +8,14 @@ use crate::ranges::{Range, Ranges};
 use crate::receive::MOST_RANGES;
 use std::marker::Model;
 
-/// How many ranges past a place tell that it is lost (RFC 6675 section 2, `DupThresh`).
-const DUP_THRESH: usize = 3;
+/// How much may be reported past a place that isn't lost (RFC 6675 section 4, `IsLost`: one less than `DupThresh`).
+#[derive(Clone, Copy, Debug, PartialEq, Eq)]
+pub struct Tolerance {
+    /// So many ranges.
+    pub ranges: u32,
+    /// So many octets.
+    pub octets: u32,
+}
 
 /// What the peer reports that it keeps ahead of a gap, by distances past SND.UNA: at most [`MOST_RANGES`] ranges (RFC 6675 section 3).
 #[derive(Drop)]
@@ -142,10 +148,18 @@ impl Scoreboard {
         count as u32
     }
 
-    /// The distance past SND.UNA below which each octet is lost that is not reported, by segments of up to `smss` octets (RFC 6675
-    /// section 4, `IsLost`); 0 where nothing is lost.
-    pub fn lost_end(&self, smss: u16) -> u32
-        ensures value { result ≡ lost_end smss self.now }
+    /// The distance past SND.UNA below which each octet is lost that is not reported, where so much is tolerated (RFC 6675 section 4,
+    /// `IsLost`); 0 where nothing is lost.
+    pub fn lost_end(&self, tolerance: Tolerance) -> u32
+        ensures value { result ≡ lost_end tolerance self.now }
+        ensures sound { IsScoreboard self.now }
+    {
+        self.lost_past(tolerance.ranges, tolerance.octets)
+    }
+
+    /// The same where so many ranges and so many octets are tolerated.
+    fn lost_past(&self, few: u32, most: u32) -> u32
+        ensures value { result ≡ lost_end (record { ranges = few; octets = most }) self.now }
         ensures sound { IsScoreboard self.now }
     {
         let mut past: usize = 0;
@@ -153,7 +167,7 @@ impl Scoreboard {
         for range in self.ranges.as_slice().iter().rev() {
             past += 1;
             octets += range.end - range.start;
-            if tells_loss(smss, past, octets) {
+            if tells_loss(few, most, past, octets) {
                 return range.start as u32;
             }
         }
@@ -173,9 +187,10 @@ impl Scoreboard {
     }
 }
 
-/// Whether so many ranges, or so many octets in them, tell that what stands before them is lost (RFC 6675 section 4, `IsLost`).
-fn tells_loss(smss: u16, ranges: usize, octets: usize) -> bool
-    ensures { result ≡ (nat_le 3 ranges || nat_lt (2 * smss) octets) }
+/// Whether so many ranges, or so many octets in them, tell that what stands before them is lost, where `few` ranges and `most` octets
+/// don't (RFC 6675 section 4, `IsLost`).
+fn tells_loss(few: u32, most: u32, ranges: usize, octets: usize) -> bool
+    ensures { result ≡ (nat_lt few ranges || nat_lt most octets) }
 {
-    ranges >= DUP_THRESH || octets > 2 * usize::from(smss)
+    ranges > few as usize || octets > most as usize
 }

@@ -1,5 +1,5 @@
 -- What the clock, and what goes out, leave of a connection as it was.
-use Rattle.std.proofs.Common.{◌≡◌, ℕ, ◌-◌, ◌==◌, ◌&&◌, ◌||◌, ◌⊎◌, not, nat_lt, Bool, true, false, if◌then◌else◌, Option, Some, None, is_some, [], length, inl, inr, arith, refl, sym, ◌∙◌, ap, subst}
+use Rattle.std.proofs.Common.{◌≡◌, ℕ, ◌-◌, ◌==◌, ◌&&◌, ◌||◌, ◌⊎◌, not, nat_lt, Bool, true, false, if◌then◌else◌, Option, Some, None, is_some, [], length, inl, inr, arith, refl, sym, ◌∙◌, ap, subst, ap₂}
 use Rattle.std.proofs.lemmas.Bool.{le-ltb}
 use Rattle.std.proofs.lemmas.Bool.Decides.{eqb_tells}
 use Rattle.clock.specs.declared.moment.Moment.{Moment}
@@ -19,7 +19,7 @@ use Rattle.tcp_halves.specs.Stream.{outstanding, after_sent}
 use Rattle.tcp_state.specs.View.{View, is_opening, is_syn_received, is_closed}
 use Rattle.tcp_state.specs.Resend.{Resend, mark_past, resend_probed, resend_acknowledged, resend_first, resend_lost, resend_ends}
 use Rattle.tcp_state.specs.Timing.{KeepsTime, probes, retransmits, awaits_more, running, retransmission_timer, probe_timer, delayed_ack_timer, override_timer, interval_of, awaits_first, unheard_since, clocked, retransmission_expired, probe_expired, after_expiry, delayed_ack_expired, override_expired, after_timers, after_expiries}
-use Rattle.tcp_state.specs.Arrival.{after_heard, is_rejected, begins_wait, answers_probe, is_counted_duplicate, blocks_told, before, since_after, is_moved, resend_heard, resend_told, told, reports_more, resend_after, congestion_event_of, is_partial, behind_ack, told_behind, ends_tail, whole_signal, acknowledged_signal, tells_loss, report_event, resend_counted, resend_signalled, congestion_after, timed_by, after_segment_at}
+use Rattle.tcp_state.specs.Arrival.{after_heard, is_rejected, begins_wait, answers_probe, is_counted_duplicate, blocks_told, before, since_after, is_moved, resend_heard, resend_told, told, reports_more, resend_after, congestion_event_of, is_partial, behind_ack, told_behind, ends_tail, whole_signal, acknowledged_signal, tells_loss, report_event, resend_counted, resend_signalled, congestion_after, timed_by, after_segment_at, report_signal}
 use Rattle.tcp_state.specs.Due.{probe_stretch, end_of, after_syn_ack_paid, after_resent, after_first_sent, after_numbers, after_new_octets, after_new_text, brings_new_octets, after_syn_again, after_syn_out, after_stretch, after_probe, after_going_out, after_emitted}
 use Rattle.tcp_state.specs.Edges.{after_first}
 use Rattle.tcp_state.specs.Congestion.{Signal, after_signal}
@@ -29,8 +29,8 @@ use Rattle.congestion.specs.Window.{Window, third_is_next, is_recovering}
 use Rattle.congestion.specs.Events.{Event, after_event}
 use Rattle.congestion.specs.Events.Event.{NewAck, PartialAck, Duplicate, Loss}
 use Rattle.stream_buf.specs.Ranges.{covered}
-use Rattle.tcp_state.specs.Selective.{selects, with_blocks, loss_end}
-use Rattle.tcp_halves.proofs.Choices.{either, clash, and_false, or_left}
+use Rattle.tcp_state.specs.Selective.{selects, with_blocks}
+use Rattle.tcp_halves.proofs.Choices.{either, clash, and_false}
 use Rattle.tcp_state.proofs.Segments.{by_clock}
 use Rattle.tcp_state.proofs.Awaited.{waits_on}
 
@@ -216,7 +216,7 @@ heard_paced b w now P moved answered same =
 -- what a segment is to the congestion window: nothing, the beginning, an ACK, a partial one, a duplicate one, a report that counts, such a report behind an ACK, or an ACK that ends a probe of the tail
 pub signalled : (b : Before) (w : View) (P : Signal → Type 0) → P Nothing → P Begins → (is_moved b w ≡ true → is_opening b.state ≡ false → is_partial w ≡ false → P (Counts (NewAck (b.held - length w.sending.held) (outstanding w.sending))))
     → (is_moved b w ≡ true → is_opening b.state ≡ false → is_partial w ≡ true → P (Counts (PartialAck (b.held - length w.sending.held))))
-    → (is_moved b w ≡ false → b.is_duplicate ≡ true → P (Counts (Duplicate (outstanding w.sending)))) → (is_moved b w ≡ false → reports_more b w ≡ true → P (Counts (report_event (told b w))))
+    → (is_moved b w ≡ false → b.is_duplicate ≡ true → P (Counts (Duplicate (outstanding w.sending)))) → (is_moved b w ≡ false → reports_more b w ≡ true → (third_is_next w.congestion && not (tells_loss (told b w))) ≡ false → P (Counts (report_event (told b w))))
     → (is_moved b w ≡ true → is_opening b.state ≡ false → reports_more b w ≡ true → (let n = b.held - length w.sending.held in P (Both (NewAck n (outstanding w.sending)) (report_event (behind_ack (told b w) n)))))
     → (is_moved b w ≡ true → is_opening b.state ≡ false → is_partial w ≡ false → ends_tail b w ≡ true → P (Both (Loss b.tail) (NewAck (b.held - length w.sending.held) (outstanding w.sending)))) → P (congestion_event_of b w)
 signalled b w P nothing begins acks parts repeats tells both_count pays =
@@ -231,7 +231,8 @@ signalled b w P nothing begins acks parts repeats tells both_count pays =
     (λ whole. either Signal P (reports_more b w) (Both ack (report_event (behind_ack (told b w) n))) _ (both_count moves opened)
     (λ alone. either Signal P (ends_tail b w) (Both (Loss b.tail) ack) (Counts ack) (λ ends. pays moves opened whole ends) (λ other. acks moves opened whole)))))
     (λ stays. either Signal P b.is_duplicate (Counts (Duplicate (outstanding w.sending))) _ (λ same. repeats stays same)
-    (λ other. either Signal P (reports_more b w) (Counts (report_event (told b w))) Nothing (λ more. tells stays more) (λ none. nothing))))
+    (λ other. either Signal P (reports_more b w) (report_signal (told b w)) Nothing
+    (λ more. either Signal P (third_is_next w.congestion && not (tells_loss (told b w))) Nothing (Counts (report_event (told b w))) (λ waits. nothing) (λ counts. tells stays more counts)) (λ none. nothing))))
 
 -- a report finds the window behind the ACK that it comes with, if it does
 pub told_moved : (b : Before) (w : View) → is_moved b w ≡ true → told_behind b w ≡ behind_ack (told b w) (b.held - length w.sending.held)
@@ -251,9 +252,9 @@ by_signal b w p P same ends next lost =
     signalled b w (λ g. P (resend_signalled p g w.congestion (outstanding w.sending))) same same
     (λ moves opened whole. either Resend P (is_selective w.congestion.control && is_recovering w.congestion) (resend_ends p) p (λ rules. ends moves opened) (λ other. same)) next
     (λ stays twice. either Resend P (third_is_next w.congestion) (resend_lost p (repairs w.congestion.control) (outstanding w.sending)) p (λ third. lost (repairs w.congestion.control) (inl (stays, twice, third))) (λ other. same))
-    (λ stays more. either Event (λ e. P (resend_signalled p (Counts e) w.congestion (outstanding w.sending))) (tells_loss (told b w)) (Loss (outstanding w.sending)) (Duplicate (outstanding w.sending))
+    (λ stays more counts. either Event (λ e. P (resend_signalled p (Counts e) w.congestion (outstanding w.sending))) (tells_loss (told b w)) (Loss (outstanding w.sending)) (Duplicate (outstanding w.sending))
     (λ loss. lost true (inr (more, ap tells_loss (told_still b w stays) ∙ loss)))
-    (λ early. either Resend P (third_is_next w.congestion) (resend_lost p (repairs w.congestion.control) (outstanding w.sending)) p (λ third. clash (tells_loss (told b w)) (or_left (third_is_next w.congestion) (nat_lt 0 (loss_end (told b w))) third) early) (λ other. same)))
+    (λ early. either Resend P (third_is_next w.congestion) (resend_lost p (repairs w.congestion.control) (outstanding w.sending)) p (λ third. clash (third_is_next w.congestion && not (tells_loss (told b w))) (ap₂ (λ a t. a && not t) third early) counts) (λ other. same)))
     (λ moves opened more.
     let ack = NewAck (b.held - length w.sending.held) (outstanding w.sending) in
     let rules = is_selective w.congestion.control && is_recovering w.congestion in
@@ -290,9 +291,9 @@ told_none b w now silent =
 pub event_none : (b : Before) (w : View) → is_moved b w ≡ false → b.is_duplicate ≡ false → b.blocks ≡ [] → congestion_event_of b w ≡ Nothing
 event_none b w same first silent =
     either Signal (λ e. e ≡ Nothing) (is_closed w.state) Nothing _ (λ closed. refl)
-    (λ lives. ap (λ t. if t then (if is_opening b.state then Begins else acknowledged_signal b (told b w) (b.held - length w.sending.held) (reports_more b w)) else if b.is_duplicate then Counts (Duplicate (outstanding w.sending)) else if reports_more b w then Counts (report_event (told b w)) else Nothing) same
-    ∙ ap (λ t. if t then Counts (Duplicate (outstanding w.sending)) else if reports_more b w then Counts (report_event (told b w)) else Nothing) first
-    ∙ ap (λ t. if t then Counts (report_event (told b w)) else Nothing) (reports_none b w silent))
+    (λ lives. ap (λ t. if t then (if is_opening b.state then Begins else acknowledged_signal b (told b w) (b.held - length w.sending.held) (reports_more b w)) else if b.is_duplicate then Counts (Duplicate (outstanding w.sending)) else if reports_more b w then report_signal (told b w) else Nothing) same
+    ∙ ap (λ t. if t then Counts (Duplicate (outstanding w.sending)) else if reports_more b w then report_signal (told b w) else Nothing) first
+    ∙ ap (λ t. if t then report_signal (told b w) else Nothing) (reports_none b w silent))
 
 -- .. and puts nothing out again, nor does one that opens the connection
 abbrev pub IsStill : Before → View → Type 0

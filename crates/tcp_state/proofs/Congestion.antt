@@ -9,7 +9,7 @@ use Rattle.clock.specs.declared.moment.Moment.{Moment}
 use Rattle.clock.specs.Moments.{has_come}
 use Rattle.retransmit.specs.Deadlines.{next_of}
 use Rattle.congestion.specs.Control.{repairs}
-use Rattle.congestion.specs.Window.{Window, is_recovering, goes_on, most_growth, after_new_ack, after_loss}
+use Rattle.congestion.specs.Window.{Window, is_recovering, goes_on, most_growth, after_new_ack, after_loss, third_is_next}
 use Rattle.congestion.specs.Events.{Event as WindowEvent, after_event as after_window_event}
 use Rattle.congestion.specs.Events.Event.{NewAck, Expiry, Duplicate, Loss}
 use Rattle.tcp_state.specs.declared.arrival.Before.{Before}
@@ -27,7 +27,7 @@ use Rattle.tcp_state.specs.Congestion.Signal.{Begins, Counts, Both, Nothing}
 use Rattle.tcp_state.specs.Timing.{clocked, gives_up, retransmission_expired, probe_expired, after_expiry, after_timers, after_tick}
 use Rattle.tcp_state.specs.Alive.{after_silence}
 use Rattle.tcp_state.specs.Calls.{send_count, beyond_shutdown, shutdown_refusal, after_shutdown, aborted_at, after_release, is_removed_by_close, is_aborted_by_close}
-use Rattle.tcp_state.specs.Arrival.{opened_passively, is_receiving, beyond_fin, after_ack, after_window, after_text, after_fin, after_heard, is_rejected, before, is_moved, resend_heard, resend_after, congestion_event_of, whole_signal, acknowledged_signal, is_partial, reports_more, told, behind_ack, tells_loss, report_event, congestion_after, timed_by, after_segment_at, ends_tail, came_twice}
+use Rattle.tcp_state.specs.Arrival.{opened_passively, is_receiving, beyond_fin, after_ack, after_window, after_text, after_fin, after_heard, is_rejected, before, is_moved, resend_heard, resend_after, congestion_event_of, whole_signal, acknowledged_signal, is_partial, reports_more, told, behind_ack, tells_loss, report_event, congestion_after, timed_by, after_segment_at, ends_tail, came_twice, report_signal}
 use Rattle.tcp_state.specs.Due.{after_syn_ack_paid, after_syn_out, after_going_out, first_due}
 use Rattle.tcp_state.specs.Unreachable.{is_unreachable}
 use Rattle.tcp_state.specs.Hop.{unheard_until}
@@ -171,7 +171,7 @@ signal_sound : (b : Before) (w : View) → b.tail < 2 ^ 32 → IsSize w.sending.
 signal_sound b w small size sound =
     signalled b w (λ g. IsWindow (after_signal w.congestion g w.sending.smss w.resend.syn_resent)) sound (first_sound w.congestion.control w.sending.smss w.resend.syn_resent size)
     (λ moves opened whole. new_ack_sound w.congestion (b.held - length w.sending.held) (outstanding w.sending) sound) (λ moves opened goes. partial_ack_sound w.congestion (b.held - length w.sending.held) sound) (λ stays twice. duplicate_sound w.congestion (outstanding w.sending) (few w) sound)
-    (λ stays more. either WindowEvent (λ e. IsWindow (after_signal w.congestion (Counts e) w.sending.smss w.resend.syn_resent)) (tells_loss (told b w)) (Loss (outstanding w.sending)) (Duplicate (outstanding w.sending)) (λ loss. loss_sound w.congestion (outstanding w.sending) (few w) sound) (λ early. duplicate_sound w.congestion (outstanding w.sending) (few w) sound))
+    (λ stays more counts. either WindowEvent (λ e. IsWindow (after_signal w.congestion (Counts e) w.sending.smss w.resend.syn_resent)) (tells_loss (told b w)) (Loss (outstanding w.sending)) (Duplicate (outstanding w.sending)) (λ loss. loss_sound w.congestion (outstanding w.sending) (few w) sound) (λ early. duplicate_sound w.congestion (outstanding w.sending) (few w) sound))
     (λ moves opened more.
     let n = b.held - length w.sending.held in
     let acked = after_new_ack w.congestion n (outstanding w.sending) in
@@ -197,8 +197,8 @@ signal_segment v s fits lives keeps begun =
     (λ opened. either Signal P (is_partial w) _ _ (λ goes. either Signal P (selects w) Nothing _ (λ rules. kept opened) (λ none. kept opened)) (λ whole. whole_kept b (told b w) (b.held - length w.sending.held) (reports_more b w) (kept opened))))
     (λ still. let twice_kept : P (Counts (Duplicate (outstanding w.sending))) = duplicate_segment w.congestion (outstanding w.sending) ∙ kept (still_open still) in
     either Signal P b.is_duplicate (Counts (Duplicate (outstanding w.sending))) _
-    (λ twice. twice_kept) (λ other. either Signal P (reports_more b w) (Counts (report_event (told b w))) Nothing
-    (λ more. either WindowEvent (λ e. P (Counts e)) (tells_loss (told b w)) (Loss (outstanding w.sending)) (Duplicate (outstanding w.sending)) (λ loss. kept (still_open still)) (λ early. twice_kept)) (λ none. kept (still_open still)))))
+    (λ twice. twice_kept) (λ other. either Signal P (reports_more b w) (report_signal (told b w)) Nothing
+    (λ more. either Signal P (third_is_next w.congestion && not (tells_loss (told b w))) Nothing (Counts (report_event (told b w))) (λ waits. kept (still_open still)) (λ counts. either WindowEvent (λ e. P (Counts e)) (tells_loss (told b w)) (Loss (outstanding w.sending)) (Duplicate (outstanding w.sending)) (λ loss. kept (still_open still)) (λ early. twice_kept))) (λ none. kept (still_open still)))))
   where
     neither : (a b : Bool) → a ≡ false → b ≡ false → (a || b) ≡ false
     neither true b e f = cc
@@ -398,8 +398,9 @@ signal_adds b w c same sound opened runs =
     (λ alone. either Signal P (ends_tail b w) (Both (Loss b.tail) ack) (Counts ack) (λ pays ends. paid_adds c b.tail n (outstanding w.sending) sound (paid_repairs b w c same pays)) (λ other ends. acked)))))
     (λ unmoved. let twice_adds : P (Counts (Duplicate (outstanding w.sending))) = λ ends. duplicate_adds c (outstanding w.sending) sound runs ends in
     either Signal P b.is_duplicate (Counts (Duplicate (outstanding w.sending))) _ (λ twice. twice_adds)
-    (λ other. either Signal P (reports_more b w) (Counts (report_event (told b w))) Nothing
-    (λ more. either WindowEvent (λ e. P (Counts e)) (tells_loss (told b w)) (Loss (outstanding w.sending)) (Duplicate (outstanding w.sending)) (λ loss ends. cc) (λ early. twice_adds)) (λ quiet. none))))
+    (λ other. either Signal P (reports_more b w) (report_signal (told b w)) Nothing
+    (λ more. either Signal P (third_is_next w.congestion && not (tells_loss (told b w))) Nothing (Counts (report_event (told b w))) (λ waits. none)
+    (λ counts. either WindowEvent (λ e. P (Counts e)) (tells_loss (told b w)) (Loss (outstanding w.sending)) (Duplicate (outstanding w.sending)) (λ loss ends. cc) (λ early. twice_adds))) (λ quiet. none))))
 
 pub raised_by_one : (v : View) (s : Segment) (now : Moment) → KeepsCongestion v → is_opening v.state ≡ false → is_recovering v.congestion ≡ false
     → is_recovering (after_segment_at v s now).congestion ≡ false → (after_segment_at v s now).congestion.cwnd ≤ v.congestion.cwnd + most_growth v.congestion

@@ -10,7 +10,7 @@ use Rattle.tcp_halves.proofs.Choices.{either}
 use Rattle.tcp_state.specs.View.{View, IsSound, is_opening, is_closed}
 use Rattle.tcp_state.specs.Congestion.{Signal}
 use Rattle.tcp_state.specs.Congestion.Signal.{Begins, Counts, Nothing}
-use Rattle.tcp_state.specs.Arrival.{after_window, is_counted_duplicate, before, is_moved, acknowledged_signal, told as told_by, reports_more, report_event, congestion_event_of, timed_by, after_segment_at}
+use Rattle.tcp_state.specs.Arrival.{after_window, is_counted_duplicate, before, is_moved, acknowledged_signal, told as told_by, reports_more, congestion_event_of, timed_by, after_segment_at, report_signal}
 use Rattle.tcp_state.specs.Counted.{IsDuplicate}
 use Rattle.tcp_state.proofs.Clocked.{comes_to, unmoved}
 use Rattle.tcp_state.proofs.Losses.{past_opening}
@@ -48,7 +48,7 @@ repeats v s sound d is =
     let b = before v s in
     let w = after_window v s in
     let acks : Signal = if is_opening b.state then Begins else acknowledged_signal b (told_by b w) (b.held - length w.sending.held) (reports_more b w) in
-    let reported : Signal = if reports_more b w then Counts (report_event (told_by b w)) else Nothing in
+    let reported : Signal = if reports_more b w then report_signal (told_by b w) else Nothing in
     let other : Signal = if b.is_duplicate then Counts (Duplicate (outstanding w.sending)) else reported in
     let still : is_moved b w ≡ false = ap (λ n. not (v.sending.una == n)) (window_stays v s d).una ∙ unmoved v in
     ap (λ t. if t then Nothing else if is_moved b w then acks else other) (lives_yet v s sound d)

@@ -10,7 +10,7 @@ use Rattle.congestion.specs.Window.{is_recovering}
 use Rattle.tcp_halves.specs.Stream.{outstanding}
 use Rattle.tcp_halves.proofs.Choices.{by, or_right}
 use Rattle.tcp_state.specs.View.{View, IsSound}
-use Rattle.tcp_state.specs.Selective.{loss_end, repaired_end, pipe}
+use Rattle.tcp_state.specs.Selective.{tolerance, loss_end, repaired_end, pipe}
 use Rattle.tcp_state.specs.Network.{is_taken_for_lost, went_again, times_of, in_network}
 
 -- A place stands before the later of two ends where it stands before one of them, and before the sooner where before both.
@@ -38,10 +38,10 @@ before_min place a b =
 pub lost_is_before : (v : View) (place : ℕ) → AreApart 1 v.resend.reported → is_reported v.resend.reported place ≡ false → nat_lt place (loss_end v) ≡ is_taken_for_lost v place
 lost_is_before v place apart missing =
     let last = reported_end v.resend.reported in
-    let lost = lost_end v.sending.smss v.resend.reported in
+    let lost = lost_end (tolerance v) v.resend.reported in
     before_max place lost (min v.resend.tail last)
-    ∙ ap (λ b. b || nat_lt place (min v.resend.tail last)) (lost_before v.sending.smss v.resend.reported 1 place apart missing)
-    ∙ ap (λ b. is_lost v.sending.smss v.resend.reported place || b) (before_min place v.resend.tail last)
+    ∙ ap (λ b. b || nat_lt place (min v.resend.tail last)) (lost_before (tolerance v) v.resend.reported 1 place apart missing)
+    ∙ ap (λ b. is_lost (tolerance v) v.resend.reported place || b) (before_min place v.resend.tail last)
 
 -- What went out again stands before another.
 again_is_before : (v : View) (place : ℕ) → nat_lt place (repaired_end v) ≡ went_again v place

@@ -61,6 +61,7 @@ pub mod PeerSizes
 pub mod Signals
 pub mod Scores
 pub mod Repairs
+pub mod Repeated
 pub mod InNetwork
 pub mod StillHeld
 pub mod Timeouts
@@ -95,6 +96,7 @@ pub mod Recount
 pub mod WouldReject
 pub mod Minshall
 pub mod LastSmall
+pub mod Lateness
 pub mod SilentPeers
 pub mod ProbesOfSilence
 pub mod SetUp

@@ -22,10 +22,10 @@ use Rattle.tcp_state.specs.View.{View, IsSound, is_opening, is_syn_sent, is_syn_
 use Rattle.tcp_state.specs.Congestion.{Signal}
 use Rattle.tcp_state.specs.Congestion.Signal.{Begins, Counts, Both, Nothing}
 use Rattle.stream_buf.specs.Ranges.{AreApart}
-use Rattle.tcp_state.specs.Selective.{with_blocks, repairs_gaps, loss_end}
+use Rattle.tcp_state.specs.Selective.{with_blocks, repairs_gaps}
 use Rattle.tcp_state.proofs.Places.{at_una_goes}
 use Rattle.tcp_state.proofs.Selects.{silent_unselected, counted_selects_none, ends_none}
-use Rattle.tcp_state.specs.Arrival.{owing_ack, after_establishment, is_receiving, beyond_fin, is_of_fin, fin_acknowledged, after_new_ack, after_ack, is_read, after_window, after_text, counts_fin, after_fin, is_lost, after_lost, after_segment, after_heard, octets_outstanding, is_duplicate, before, is_moved, resend_after, congestion_event_of, resend_told, reports_more, told, told_behind, behind_ack, tells_loss, report_event, reports_loss, timed_by, after_segment_at, acknowledged_signal, counts_duplicates, is_counted_duplicate, resend_signalled}
+use Rattle.tcp_state.specs.Arrival.{owing_ack, after_establishment, is_receiving, beyond_fin, is_of_fin, fin_acknowledged, after_new_ack, after_ack, is_read, after_window, after_text, counts_fin, after_fin, is_lost, after_lost, after_segment, after_heard, octets_outstanding, is_duplicate, before, is_moved, resend_after, congestion_event_of, resend_told, reports_more, told, told_behind, behind_ack, tells_loss, reports_loss, timed_by, after_segment_at, acknowledged_signal, counts_duplicates, is_counted_duplicate, resend_signalled, report_signal}
 use Rattle.tcp_state.specs.Due.{end_of, after_resent, after_first_sent, after_numbers, after_new_text, brings_new_octets, after_emitted, ack_due, again, again_from, new_due, first_due}
 use Rattle.tcp_state.proofs.Clocked.{comes_to, unmoved, heard_paced, signalled, told_moved, told_still}
 use Rattle.tcp_halves.proofs.Choices.{either, clash, and_left, and_right, and_false, not_true, unowed}
@@ -119,7 +119,7 @@ loses : (v : View) (s : Segment) (now : Moment) → is_closed v.state ≡ false 
 loses v s now lives is third =
     let b = before v s in
     let w = after_window v s in
-    let other : Signal = if reports_more b w then Counts (report_event (told b w)) else Nothing in
+    let other : Signal = if reports_more b w then report_signal (told b w) else Nothing in
     let signal : Signal = if is_moved b w then (if is_opening b.state then Begins else acknowledged_signal b (told b w) (b.held - length w.sending.held) (reports_more b w)) else if b.is_duplicate then Counts (Duplicate (outstanding w.sending)) else other in
     let still : is_moved b w ≡ false = ap (λ n. not (v.sending.una == n)) (numbers_stay v s).0 ∙ unmoved v in
     let event : congestion_event_of b w ≡ Counts (Duplicate (outstanding w.sending)) =
@@ -192,10 +192,10 @@ others_unlost b w now stands other unreported =
     (λ moves opened whole. ap (λ t. if t then resend_ends resend else resend) (ends_none w.congestion stands))
     (λ moves opened goes. clash (goes_on w.congestion) (and_left (goes_on w.congestion) (nat_lt 0 w.resend.recover) goes) stands)
     (λ stays twice. ap (λ t. if t then resend_lost resend (repairs w.congestion.control) (outstanding w.sending) else resend) (second_false b.is_duplicate (third_is_next w.congestion) twice other))
-    (λ stays more.
+    (λ stays more counts.
     let early : tells_loss (told b w) ≡ false = ap tells_loss (sym (told_still b w stays)) ∙ second_false (reports_more b w) (tells_loss (told_behind b w)) more unreported in
     ap (λ t. resend_signalled resend (Counts (if t then Loss (outstanding w.sending) else Duplicate (outstanding w.sending))) w.congestion (outstanding w.sending)) early
-    ∙ ap (λ t. if t then resend_lost resend (repairs w.congestion.control) (outstanding w.sending) else resend) (first_false (third_is_next w.congestion) (nat_lt 0 (loss_end (told b w))) early))
+    ∙ ap (λ t. if t then resend_lost resend (repairs w.congestion.control) (outstanding w.sending) else resend) (unless (third_is_next w.congestion) (tells_loss (told b w)) counts early))
     (λ moves opened more.
     let n = b.held - length w.sending.held in
     let early : tells_loss (behind_ack (told b w) n) ≡ false = ap tells_loss (sym (told_moved b w moves)) ∙ second_false (reports_more b w) (tells_loss (told_behind b w)) more unreported in
@@ -203,9 +203,9 @@ others_unlost b w now stands other unreported =
     ∙ ap (λ t. if t then resend_ends resend else resend) (ends_none w.congestion stands))
     (λ moves opened whole ends. refl)
   where
-    first_false : (x y : Bool) → (x || y) ≡ false → x ≡ false
-    first_false true y e = cc
-    first_false false y e = refl
+    unless : (x y : Bool) → (x && not y) ≡ false → y ≡ false → x ≡ false
+    unless true y e f = sym (ap not f) ∙ e
+    unless false y e f = refl
 
     second_false : (x y : Bool) → x ≡ true → (x && y) ≡ false → y ≡ false
     second_false true y e f = f

@@ -26,7 +26,7 @@ use Rattle.tcp_state.specs.Alive.{after_silence}
 use Rattle.tcp_state.specs.Timing.{probes, clocked, retransmission_expired, probe_expired, after_timers, after_expiries}
 use Rattle.tcp_state.specs.Congestion.{Signal, after_signal}
 use Rattle.tcp_state.specs.Congestion.Signal.{Begins, Counts, Nothing}
-use Rattle.tcp_state.specs.Arrival.{owing_ack, is_receiving, is_of_fin, beyond_fin, beyond_end, after_new_ack, after_ack, after_window, after_text, after_heard, is_rejected, is_duplicate, counts_duplicates, is_counted_duplicate, before, is_moved, resend_heard, resend_told, told, told_behind, whole_signal, reports_more, tells_loss, report_event, is_report, reports_loss, acknowledged_signal, congestion_event_of, resend_signalled, resend_after, timed_by, after_segment_at}
+use Rattle.tcp_state.specs.Arrival.{owing_ack, is_receiving, is_of_fin, beyond_fin, beyond_end, after_new_ack, after_ack, after_window, after_text, after_heard, is_rejected, is_duplicate, counts_duplicates, is_counted_duplicate, before, is_moved, resend_heard, resend_told, told, told_behind, whole_signal, reports_more, tells_loss, is_report, reports_loss, acknowledged_signal, congestion_event_of, resend_signalled, resend_after, timed_by, after_segment_at, report_signal}
 use Rattle.tcp_state.specs.Counted.{IsDuplicate}
 use Rattle.tcp_state.specs.Due.{ack_due, again, again_from, new_due, first_due, probe_stretch, end_of, after_resent, after_first_sent, after_numbers, after_new_octets, after_new_text, brings_new_octets, after_syn_ack_paid, after_syn_out, after_emitted}
 use Rattle.tcp_state.specs.Edges.{Event, Hears, Ticks, Emits, after_first, after_event}
@@ -141,15 +141,15 @@ timed_left v s now sound =
 
 -- What goes out leaves it.
 
--- nor what is reported, and the end of a probe of the tail
+-- nor what is reported, the end of a probe of the tail, and how late octets came
 abbrev pub KeepsEnds : View → View → Type 0
-KeepsEnds v w = (w.resend.recover ≡ v.resend.recover) × (w.resend.reported ≡ v.resend.reported) × (w.resend.tail ≡ v.resend.tail)
+KeepsEnds v w = (w.resend.recover ≡ v.resend.recover) × (w.resend.reported ≡ v.resend.reported) × (w.resend.tail ≡ v.resend.tail) × (w.resend.reach ≡ v.resend.reach)
 
 numbers_left : (v : View) (offset end : ℕ) (now : Moment) → KeepsEnds v (after_numbers v offset end now)
-numbers_left v offset end now = either View (KeepsEnds v) (nat_lt offset (outstanding v.sending)) (after_resent v end) (after_first_sent v end now) (λ again. (refl, refl, refl)) (λ first. (refl, refl, refl))
+numbers_left v offset end now = either View (KeepsEnds v) (nat_lt offset (outstanding v.sending)) (after_resent v end) (after_first_sent v end now) (λ again. (refl, refl, refl, refl)) (λ first. (refl, refl, refl, refl))
 
 emitted_left : (v : View) (due : Due) (now : Moment) → KeepsEnds v (after_emitted v due now)
-emitted_left v Rst now = (refl, refl, refl)
+emitted_left v Rst now = (refl, refl, refl, refl)
 emitted_left v Syn now =
     let P : View → Type 0 = KeepsEnds v in
     let sent = numbers_left v 0 1 now in
@@ -163,12 +163,12 @@ emitted_left v (Text stretch) now =
 emitted_left v Probe now =
     let P : View → Type 0 = KeepsEnds v in
     let sent = record v { sending = after_sent v.sending (end_of (probe_stretch v)); resend = resend_probed v.resend } in
-    either View P (brings_new_octets v (probe_stretch v)) (after_new_octets sent) sent (λ new. (refl, refl, refl)) (λ old. (refl, refl, refl))
-emitted_left v Ack now = (refl, refl, refl)
-emitted_left v KeepAlive now = (refl, refl, refl)
+    either View P (brings_new_octets v (probe_stretch v)) (after_new_octets sent) sent (λ new. (refl, refl, refl, refl)) (λ old. (refl, refl, refl, refl))
+emitted_left v Ack now = (refl, refl, refl, refl)
+emitted_left v KeepAlive now = (refl, refl, refl, refl)
 
 pub first_left : (v : View) (o : Option Due) (now : Moment) → KeepsEnds v (after_first v o now)
-first_left v None now = (refl, refl, refl)
+first_left v None now = (refl, refl, refl, refl)
 first_left v (Some due) now = emitted_left v due now
 
 emits_left : (v : View) (now : Moment) → IsSound v → Left v (after_event v (Emits now))
@@ -294,7 +294,7 @@ none_below v s now on runs some =
     (λ lives. signalled b x (λ g. is_recovering (after_signal x.congestion g x.sending.smss x.resend.syn_resent) ≡ false) kept refl (λ moves opened whole. refl)
     (λ moves opened goes. clash (is_recovering x.congestion) (and_right (repairs x.congestion.control) (is_recovering x.congestion) (and_left (goes_on x.congestion) (nat_lt 0 x.resend.recover) goes)) kept)
     (λ stays twice. clash (counts_duplicates v) (and_right (is_duplicate v s) (counts_duplicates v) twice) uncounted)
-    (λ stays reports. clash (v.resend.recover == 0) (more_counts v s x reports).all more)
+    (λ stays reports counts. clash (v.resend.recover == 0) (more_counts v s x reports).all more)
     (λ moves opened reports. clash (v.resend.recover == 0) (more_counts v s x reports).all more) (λ moves opened whole ends. refl))
 
 pub none_by_probes : (v : View) (s : Segment) (now : Moment) → IsSound v → repairs v.congestion.control ≡ true → probes v ≡ true → IsDuplicate v s → (after_segment_at v s now).congestion ≡ v.congestion
@@ -403,7 +403,7 @@ part_resends v s now sound opened on plain fits moved alive some =
     let n = length v.sending.held - length x.sending.held in
     let part : (goes_on x.congestion && nat_lt 0 x.resend.recover) ≡ true =
     both (goes_on x.congestion) (nat_lt 0 x.resend.recover) (ap goes_on (window_kept v s) ∙ on) (lt-ltb 0 x.resend.recover (omega (arith, some, recover))) in
-    let other : Signal = if b.is_duplicate then Counts (Duplicate (outstanding x.sending)) else if reports_more b x then Counts (report_event (told b x)) else Nothing in
+    let other : Signal = if b.is_duplicate then Counts (Duplicate (outstanding x.sending)) else if reports_more b x then report_signal (told b x) else Nothing in
     let whole : Signal = whole_signal b (told b x) n (reports_more b x) in
     let acks : Signal = if is_opening b.state then Begins else acknowledged_signal b (told b x) n (reports_more b x) in
     let event : congestion_event_of b x ≡ Counts (PartialAck n) =

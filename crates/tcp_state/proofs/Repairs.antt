@@ -1,12 +1,12 @@
 -- Why what is reported is not sent again, and what reports let go out.
-use Rattle.std.proofs.Common.{◌≡◌, ℕ, ◌+◌, ◌-◌, ◌<◌, ◌≤◌, ◌==◌, ◌&&◌, ◌||◌, not, nat_lt, nat_le, min, true, false, if◌then◌else◌, List, [], ◌∷◌, length, Some, arith, refl, sym, ◌∙◌, ap, ap₂, subst, ◌⊎◌, inl, inr, Bool, None, is_some, ◌≢◌, max, suc}
+use Rattle.std.proofs.Common.{◌≡◌, ℕ, ◌+◌, ◌-◌, ◌<◌, ◌≤◌, ◌==◌, ◌&&◌, ◌||◌, not, nat_lt, nat_le, min, true, false, if◌then◌else◌, List, [], ◌∷◌, length, Some, arith, refl, sym, ◌∙◌, ap, ap₂, subst, ◌⊎◌, inl, inr, Bool, None, is_some, ◌≢◌, max}
 use Rattle.std.specs.Option.{option_or}
 use Rattle.std.proofs.lemmas.Bool.{leb-true, eqb-true, ltb-true, lt-ltb, le-ltb}
 use Rattle.std.proofs.lemmas.Bool.Decides.{leb_tells}
 use Rattle.stream_buf.specs.declared.ranges.Range.{Range}
 use Rattle.stream_buf.specs.Ranges.{AreApart, covered, with_range}
 use Rattle.stream_buf.specs.declared.receive.TheConstants.{MOST_RANGES}
-use Rattle.stream_buf.specs.Scoreboard.{with_report, is_taken, is_reported, is_lost, unreported, lost_end, reported_end, passed, tells_loss as tells_enough}
+use Rattle.stream_buf.specs.Scoreboard.{with_report, is_taken, is_reported, is_lost, unreported, lost_end, reported_end, passed}
 use Rattle.stream_buf.proofs.Reports.{gap_unreported, len_unreported, lost_before}
 use Rattle.congestion.specs.Control.{repairs, is_selective}
 use Rattle.congestion.specs.Window.{Window, is_recovering, goes_on, third_is_next, allowed, after_duplicate, after_third}
@@ -27,9 +27,9 @@ use Rattle.tcp_state.specs.View.{View, IsSound, is_opening, is_closed, is_at_end
 use Rattle.tcp_state.specs.Congestion.{Signal, after_signal}
 use Rattle.tcp_state.specs.Congestion.Signal.{Begins, Counts, Both, Nothing}
 use Rattle.tcp_state.specs.New.{sends_new, sends_fin}
-use Rattle.tcp_state.specs.Selective.{selects, repairs_gaps, counts_pipe, loss_end, pipe, allowance, place_of, with_blocks, repaired_end}
+use Rattle.tcp_state.specs.Selective.{selects, repairs_gaps, counts_pipe, tolerance, loss_end, pipe, allowance, place_of, with_blocks, repaired_end, is_usual, tolerance_of}
 use Rattle.tcp_state.specs.Due.{first_due, ack_due, new_due, again_from, again, again_at, is_missing, goes_by_reports, goes_by_windows, goes_again, new_octets, fin_alone, end_of, numbers_of}
-use Rattle.tcp_state.specs.Arrival.{after_heard, before, is_moved, is_rejected, is_counted_duplicate, counts_reports, reported_by, reports_more, told, told_behind, behind_ack, is_partial, came_twice, tells_loss, report_event, whole_signal, is_report, reports_loss, acknowledged_signal, congestion_event_of, resend_signalled, resend_told, resend_after, timed_by, is_duplicate, counts_duplicates}
+use Rattle.tcp_state.specs.Arrival.{after_heard, before, is_moved, is_rejected, is_counted_duplicate, counts_reports, reported_by, reports_more, told, told_behind, behind_ack, is_partial, came_twice, tells_loss, report_event, whole_signal, is_report, reports_loss, acknowledged_signal, congestion_event_of, resend_signalled, resend_told, resend_after, timed_by, is_duplicate, counts_duplicates, report_signal}
 use Rattle.tcp_state.specs.Edges.{Event, Hears, after_event, Ticks, Emits, Sends, Receives, Shuts, SetsNoDelay, SetsKeepAlive, Closes, Aborts, Unreachable, LosesHop, congestion_event_by}
 use Rattle.clock.specs.Moments.{has_come}
 use Rattle.tcp_state.specs.Alive.{after_silence}
@@ -132,7 +132,7 @@ none_lost v (Hears s now) unasked =
     let fresh = selects x && nat_lt 0 b.tail && (x.resend.tail == 0) in
     either Signal LosesNone (is_closed v.state || is_rejected v s) Nothing (congestion_event_of b x) (λ unheard. nothing)
     (λ hears. signalled b x LosesNone nothing (λ flight e. cc, λ first behind e. cc) (λ moves opened whole. (λ flight e. cc, λ first behind e. cc)) (λ moves opened goes. (λ flight e. cc, λ first behind e. cc)) (λ stays twice. (λ flight e. cc, λ first behind e. cc))
-    (λ stays more. clash (reports_more b x) more none) (λ moves opened more. clash (reports_more b x) more none)
+    (λ stays more counts. clash (reports_more b x) more none) (λ moves opened more. clash (reports_more b x) more none)
     (λ moves opened whole ends.
     let asked = and_left (selects x) (nat_lt 0 b.tail) (and_left (selects x && nat_lt 0 b.tail) (x.resend.tail == 0) (and_left fresh (not (is_recovering x.congestion)) (and_left (fresh && not (is_recovering x.congestion)) (not (came_twice x b.blocks)) ends))) in
     clash (selects x) asked (heard_selects v s (opened_tells v.state opened).0 ∙ unasked)))
@@ -189,35 +189,57 @@ LossEvent v s g =
     let x = after_heard v s in
     (g ≡ Counts (Loss (outstanding x.sending))) ⊎ (g ≡ Both (NewAck (length v.sending.held - length x.sending.held) (outstanding x.sending)) (Loss (outstanding x.sending)))
 
-loss_event : (v : View) (s : Segment) → reports_loss v s ≡ true → is_counted_duplicate v s ≡ false → is_closed (after_heard v s).state ≡ false → LossEvent v s (congestion_event_of (before v s) (after_heard v s))
-loss_event v s is other lives =
+-- .. by what a report that counts is: alone, or behind an ACK of new octets
+abbrev counts_behind : View → Segment → Signal
+counts_behind v s = let b = before v s in let x = after_heard v s in let n = length v.sending.held - length x.sending.held in Both (NewAck n (outstanding x.sending)) (report_event (behind_ack (told b x) n))
+
+report_comes : (v : View) (s : Segment) → is_report v s ≡ true → is_counted_duplicate v s ≡ false → is_closed (after_heard v s).state ≡ false
+    → (let b = before v s in let x = after_heard v s in congestion_event_of b x ≡ (if is_moved b x then counts_behind v s else report_signal (told b x)))
+report_comes v s more other lives =
     let b = before v s in
     let x = after_heard v s in
     let n = length v.sending.held - length x.sending.held in
     let flight = outstanding x.sending in
-    let more = and_left (is_report v s) (tells_loss (told_behind b x)) is in
-    let loss = and_right (is_report v s) (tells_loss (told_behind b x)) is in
-    let tells : Signal = if reports_more b x then Counts (report_event (told b x)) else Nothing in
+    let behind : Signal = counts_behind v s in
+    let alone : Signal = report_signal (told b x) in
+    let tells : Signal = if reports_more b x then alone else Nothing in
     let repeats : Signal = if is_counted_duplicate v s then Counts (Duplicate flight) else tells in
     let acks : Signal = acknowledged_signal b (told b x) n (reports_more b x) in
     let acked : Signal = if is_opening v.state then Begins else acks in
     let part : is_partial x ≡ false = ap (λ c. goes_on c && nat_lt 0 x.resend.recover) (window_kept v s)
     ∙ ap (λ t. repairs v.congestion.control && t && nat_lt 0 x.resend.recover) (more_counts v s x more).runs ∙ ap (λ t. t && nat_lt 0 x.resend.recover) (and_false (repairs v.congestion.control)) in
     let comes : congestion_event_of b x ≡ (if is_moved b x then acked else repeats) = ap (λ t. if t then Nothing else if is_moved b x then acked else repeats) lives in
-    by (LossEvent v s (congestion_event_of b x)) (is_moved b x)
-    (λ moves. inr (
+    by (congestion_event_of b x ≡ (if is_moved b x then behind else alone)) (is_moved b x)
+    (λ moves.
     comes
     ∙ ap (λ t. if t then acked else repeats) moves
     ∙ ap (λ t. if t then Begins else acks) (more_opened v s x more)
     ∙ ap (λ t. if t then (if selects x then Nothing else Counts (PartialAck n)) else whole_signal b (told b x) n (reports_more b x)) part
     ∙ ap (whole_signal b (told b x) n) more
-    ∙ ap (λ t. Both (NewAck n flight) (if t then Loss flight else Duplicate flight)) (ap tells_loss (sym (told_moved b x moves)) ∙ loss)))
-    (λ stays. inl (
+    ∙ sym (ap (λ t. if t then behind else alone) moves))
+    (λ stays.
     comes
     ∙ ap (λ t. if t then acked else repeats) stays
     ∙ ap (λ t. if t then Counts (Duplicate flight) else tells) other
-    ∙ ap (λ t. if t then Counts (report_event (told b x)) else Nothing) more
-    ∙ ap (λ t. Counts (if t then Loss flight else Duplicate flight)) (ap tells_loss (sym (told_still b x stays)) ∙ loss)))
+    ∙ ap (λ t. if t then alone else Nothing) more
+    ∙ sym (ap (λ t. if t then behind else alone) stays))
+
+loss_event : (v : View) (s : Segment) → reports_loss v s ≡ true → is_counted_duplicate v s ≡ false → is_closed (after_heard v s).state ≡ false → LossEvent v s (congestion_event_of (before v s) (after_heard v s))
+loss_event v s is other lives =
+    let b = before v s in
+    let x = after_heard v s in
+    let n = length v.sending.held - length x.sending.held in
+    let flight = outstanding x.sending in
+    let loss = and_right (is_report v s) (tells_loss (told_behind b x)) is in
+    let behind : Signal = counts_behind v s in
+    let alone : Signal = report_signal (told b x) in
+    let comes = report_comes v s (and_left (is_report v s) (tells_loss (told_behind b x)) is) other lives in
+    by (LossEvent v s (congestion_event_of b x)) (is_moved b x)
+    (λ moves. inr (comes ∙ ap (λ t. if t then behind else alone) moves ∙ ap (λ t. Both (NewAck n flight) (if t then Loss flight else Duplicate flight)) (ap tells_loss (sym (told_moved b x moves)) ∙ loss)))
+    (λ stays. inl (
+    comes ∙ ap (λ t. if t then behind else alone) stays
+    ∙ ap (λ t. if third_is_next x.congestion && not t then Nothing else Counts (if t then Loss flight else Duplicate flight)) (ap tells_loss (sym (told_still b x stays)) ∙ loss)
+    ∙ ap (λ t. if t then Nothing else Counts (Loss flight)) (and_false (third_is_next x.congestion))))
 
 pub loss_resends : (v : View) (s : Segment) (now : Moment) → IsSound v → reports_loss v s ≡ true → is_counted_duplicate v s ≡ false → (is_closed v.state || is_rejected v s) ≡ false → is_closed (after_event v (Hears s now)).state ≡ false
     → let w = after_event v (Hears s now) in (first_due w ≡ Some (Text (again w 0))) × (w.resend.recover ≡ outstanding w.sending) × (w.resend.once ≡ true) × (is_recovering w.congestion ≡ true)
@@ -309,8 +331,15 @@ reports_are_counted v s now hears runs all unprobed alive grown =
     (λ goes. clash (is_recovering x.congestion) (and_right (repairs x.congestion.control) (is_recovering x.congestion) (and_left (goes_on x.congestion) (nat_lt 0 x.resend.recover) goes)) kept)
     (λ whole. either Signal Q (reports_more b x) (Both ack (report_event (behind_ack (told b x) n))) _ (λ is. report_counted (after_window_event v.congestion ack) (behind_ack (told b x) n) refl) (λ none. clash (reports_more b x) more none))))
     (λ stays. either Signal Q (is_counted_duplicate v s) (Counts (Duplicate (outstanding x.sending))) _ (λ twice. counted v.congestion (outstanding x.sending) runs)
-    (λ other. either Signal Q (reports_more b x) (Counts (report_event (told b x))) Nothing (λ is. report_counted v.congestion (told b x) runs) (λ none. clash (reports_more b x) more none)))) in
+    (λ other. either Signal Q (reports_more b x) (report_signal (told b x)) Nothing
+    (λ is. either Signal Q (third_is_next x.congestion && not (tells_loss (told b x))) Nothing (Counts (report_event (told b x)))
+    (λ waits. let two = eqb-true x.congestion.duplicates 2 (and_left (third_is_next x.congestion) (not (tells_loss (told b x))) waits) in let kept = ap (λ (c : Window). c.duplicates) (window_kept v s) in omega (arith, two, kept)) (λ counts. report_counted v.congestion (told b x) runs))
+    (λ none. clash (reports_more b x) more none)))) in
     subst (λ (c : Window). 0 < c.duplicates) (sym (window_by v (Hears s now) (congestion_event_of b x) (event_is v s now hears))) done
+
+-- what is lost goes by these alone
+abbrev end_by : ℕ → ℕ → ℕ → List Range → ℕ
+end_by smss reach tail reported = max (lost_end (tolerance_of smss reach) reported) (min tail (reported_end reported))
 
 -- it rules no duplicate ACK, and by what is lost behind it tells a loss
 pub reports_lose : (v : View) (s : Segment) (now : Moment) → IsSound v → (is_closed v.state || is_rejected v s) ≡ false → is_recovering v.congestion ≡ false → v.resend.recover ≡ 0 → probes v ≡ false
@@ -320,17 +349,21 @@ reports_lose v s now sound hears runs all unprobed alive grown lost =
     let x = after_heard v s in
     let w = after_event v (Hears s now) in
     let more = grown_more v s now hears runs all unprobed grown in
-    let behind : loss_end (told_behind b x) ≡ loss_end (told b x) = either View (λ y. loss_end y ≡ loss_end (told b x)) (is_moved b x) (behind_ack (told b x) (length v.sending.held - length x.sending.held)) (told b x) (λ moves. refl) (λ stays. refl) in
-    let at = heard_is v s now hears in
-    let probed = heard_paced b x now (λ p. p.tail ≡ x.resend.tail) refl refl refl in
-    let tail : w.resend.tail ≡ x.resend.tail = ap (λ (y : View). y.resend.tail) at ∙ after_paced b x now (λ p. p.tail ≡ x.resend.tail) probed probed (λ r. probed) probed in
-    let same : loss_end w ≡ loss_end (told b x) = ap (λ (y : View). max (lost_end y.sending.smss w.resend.reported) (min w.resend.tail (reported_end w.resend.reported))) at
-    ∙ ap₂ (λ n rs. max (lost_end x.sending.smss rs) (min n (reported_end rs))) tail (reported_now v s now hears) in
-    let tells : tells_loss (told_behind b x) ≡ true = let y = told_behind b x in or_right (third_is_next y.congestion) (nat_lt 0 (loss_end y)) (lt-ltb 0 (loss_end y) (omega (arith, lost, same, behind))) in
     let other : is_counted_duplicate v s ≡ false = by (is_counted_duplicate v s ≡ false) (is_counted_duplicate v s)
     (λ twice. clash (reports_more b x) more (reports_none b x (silent_unselected v s (counted_selects_none v (and_right (is_duplicate v s) (counts_duplicates v) twice)))))
     (λ none. none) in
-    let k = loss_resends v s now sound (both (is_report v s) (tells_loss (told_behind b x)) more tells) other hears alive in
+    let y = told_behind b x in
+    let at = heard_is v s now hears in
+    let probed = heard_paced b x now (λ p. p.tail ≡ x.resend.tail) refl refl refl in
+    let tail : w.resend.tail ≡ x.resend.tail = ap (λ (z : View). z.resend.tail) at ∙ after_paced b x now (λ p. p.tail ≡ x.resend.tail) probed probed (λ r. probed) probed in
+    let late = heard_paced b x now (λ p. p.reach ≡ x.resend.reach) refl refl refl in
+    let reach : w.resend.reach ≡ x.resend.reach = ap (λ (z : View). z.resend.reach) at ∙ after_paced b x now (λ p. p.reach ≡ x.resend.reach) late late (λ r. late) late in
+    let behind : loss_end y ≡ loss_end (told b x) = either View (λ z. loss_end z ≡ loss_end (told b x)) (is_moved b x) (behind_ack (told b x) (length v.sending.held - length x.sending.held)) (told b x) (λ moves. refl) (λ stays. refl) in
+    let same : loss_end w ≡ loss_end (told b x) = ap (λ (z : View). end_by z.sending.smss w.resend.reach w.resend.tail w.resend.reported) at
+    ∙ ap (λ n. end_by x.sending.smss n w.resend.tail w.resend.reported) reach
+    ∙ ap₂ (end_by x.sending.smss x.resend.reach) tail (reported_now v s now hears) in
+    let tells : tells_loss y ≡ true = or_right (third_is_next y.congestion && is_usual y) (nat_lt 0 (loss_end y)) (lt-ltb 0 (loss_end y) (omega (arith, lost, same, behind))) in
+    let k = loss_resends v s now sound (both (is_report v s) (tells_loss y) more tells) other hears alive in
     (k.0, k.3)
 
 -- The network has room.
@@ -368,13 +401,13 @@ new_room v stretch sound counts first new some =
     subst (λ n. end_of stretch ≤ n) (ap (λ b. if b then v.congestion.cwnd + outstanding v.sending - pipe v else allowed v.congestion) counts) (keeps_cwnd v stretch sound first new some) in
     omega (arith, at, few, some)
 
-pub lost_missing : (v : View) (place : ℕ) → IsSound v → is_reported v.resend.reported place ≡ false → is_lost v.sending.smss v.resend.reported place ≡ true → is_missing v place ≡ true
+pub lost_missing : (v : View) (place : ℕ) → IsSound v → is_reported v.resend.reported place ≡ false → is_lost (tolerance v) v.resend.reported place ≡ true → is_missing v place ≡ true
 lost_missing v place sound unreported_place lost =
     or_left (nat_lt place (loss_end v)) (nat_lt place (reported_end v.resend.reported) && not (sends_new v || sends_fin v))
-    (let before = ltb-true place (lost_end v.sending.smss v.resend.reported) lost_by in lt-ltb place (loss_end v) (omega (arith, before)))
+    (let before = ltb-true place (lost_end (tolerance v) v.resend.reported) lost_by in lt-ltb place (loss_end v) (omega (arith, before)))
   where
-    lost_by : nat_lt place (lost_end v.sending.smss v.resend.reported) ≡ true
-    lost_by = lost_before v.sending.smss v.resend.reported 1 place sound.resend.reported.apart unreported_place ∙ lost
+    lost_by : nat_lt place (lost_end (tolerance v) v.resend.reported) ≡ true
+    lost_by = lost_before (tolerance v) v.resend.reported 1 place sound.resend.reported.apart unreported_place ∙ lost
 
 pub pipe_unreported : (v : View) → v.resend.reported ≡ [] → is_recovering v.congestion ≡ false → pipe v ≡ outstanding v.sending
 pipe_unreported v none runs =

@@ -112,7 +112,7 @@ plainly_none v (Hears s now) octets plain =
     (λ moves opened goes. clash (repairs v.congestion.control)
     (ap (λ c. repairs c.control) (sym (window_kept v s)) ∙ and_left (repairs x.congestion.control) (is_recovering x.congestion) (and_left (goes_on x.congestion) (nat_lt 0 x.resend.recover) goes)) plain)
     (λ stays twice e. cc)
-    (λ stays more. either WindowEvent (λ e. Counts e ≢ Counts (PartialAck octets)) (tells_loss (told b x)) (Loss (outstanding x.sending)) (Duplicate (outstanding x.sending)) (λ loss e. cc) (λ early e. cc)) (λ moves opened more e. cc) (λ moves opened whole ends e. cc))
+    (λ stays more counts. either WindowEvent (λ e. Counts e ≢ Counts (PartialAck octets)) (tells_loss (told b x)) (Loss (outstanding x.sending)) (Duplicate (outstanding x.sending)) (λ loss e. cc) (λ early e. cc)) (λ moves opened more e. cc) (λ moves opened whole ends e. cc))
 plainly_none v (Ticks now) octets plain =
     let P : Signal → Type 0 = λ g. g ≢ Counts (PartialAck octets) in
     either Signal P (is_at_end v now || gives_up v now) Nothing _ (λ ends e. cc)

@@ -10,7 +10,7 @@ use Rattle.tcp_segment.specs.Wire.{past}
 use Rattle.clock.specs.declared.moment.Moment.{Moment}
 use Rattle.clock.specs.Moments.{has_come}
 use Rattle.congestion.specs.Control.{repairs, is_selective}
-use Rattle.congestion.specs.Window.{Window, initial_window, is_recovering, goes_on as recovers_on, after_new_ack, after_partial_ack, after_duplicate, after_expiry, after_loss}
+use Rattle.congestion.specs.Window.{Window, initial_window, is_recovering, goes_on as recovers_on, after_new_ack, after_partial_ack, after_duplicate, after_expiry, after_loss, third_is_next}
 use Rattle.tcp_state.specs.Selective.{selects}
 use Rattle.congestion.specs.Events.{after_event as after_window_event}
 use Rattle.congestion.specs.Events.Event.{NewAck, PartialAck, Expiry, Duplicate, Loss}
@@ -28,7 +28,7 @@ use Rattle.tcp_state.specs.declared.calls.Refusal.TheVariants.{ETIMEDOUT}
 use Rattle.tcp_state.specs.Timing.{gives_up, after_expiries, after_tick}
 use Rattle.tcp_state.specs.Alive.{after_silence}
 use Rattle.tcp_state.specs.Reporting.{noted}
-use Rattle.tcp_state.specs.Arrival.{owing_ack, may_delay, beyond_end, is_acceptable_to, is_read, is_read_on, is_of_fin, fin_acknowledged, after_new_ack as after_acknowledging, after_establishment, after_ack, after_window, is_receiving, after_text, after_fin, after_segment, brings_more, is_lost, after_lost, after_heard, is_rejected, before, octets_outstanding, is_duplicate, is_moved, congestion_event_of, told, behind_ack, whole_signal, reports_more, tells_loss, report_event, is_report, reports_loss, timed_by, acknowledged_signal, counts_duplicates, is_counted_duplicate, came_twice, repairs_tail, blocks_told}
+use Rattle.tcp_state.specs.Arrival.{owing_ack, may_delay, beyond_end, is_acceptable_to, is_read, is_read_on, is_of_fin, fin_acknowledged, after_new_ack as after_acknowledging, after_establishment, after_ack, after_window, is_receiving, after_text, after_fin, after_segment, brings_more, is_lost, after_lost, after_heard, is_rejected, before, octets_outstanding, is_duplicate, is_moved, congestion_event_of, told, behind_ack, whole_signal, reports_more, tells_loss, report_event, is_report, reports_loss, timed_by, acknowledged_signal, counts_duplicates, is_counted_duplicate, came_twice, repairs_tail, blocks_told, report_signal}
 use Rattle.tcp_state.specs.Edges.{Event, Hears, Ticks, Emits, Sends, Receives, Shuts, SetsNoDelay, SetsKeepAlive, Closes, Aborts, Unreachable, LosesHop, after_event, congestion_event_by}
 use Rattle.tcp_state.specs.Counted.{HasOctetOut, IsDuplicate}
 use Rattle.tcp_state.proofs.Segments.{IsRead, by_ack, by_fin, by_hearing, reads, read_tells, reading_sends, not_rejected}
@@ -213,7 +213,7 @@ moved_event v s now moved alive =
     let hears = moved_hears v s now moved in
     let at = heard_is v s now hears in
     let event : Signal = if is_opening v.state then Begins else acknowledged_signal (before v s) (told (before v s) x) (length v.sending.held - length x.sending.held) (reports_more (before v s) x) in
-    let other : Signal = if is_counted_duplicate v s then Counts (Duplicate (outstanding x.sending)) else if reports_more (before v s) x then Counts (report_event (told (before v s) x)) else Nothing in
+    let other : Signal = if is_counted_duplicate v s then Counts (Duplicate (outstanding x.sending)) else if reports_more (before v s) x then report_signal (told (before v s) x) else Nothing in
     event_is v s now hears
     ∙ ap (λ b. if b then Nothing else if is_moved (before v s) x then event else other) (sym (ap (λ (w : View). is_closed w.state) at) ∙ alive)
     ∙ ap (λ b. if b then event else other) (is_moved_by v s (λ same. moved (ap (λ (w : View). w.sending.una) at ∙ same)))
@@ -369,26 +369,37 @@ report_makes : (c : Window) (flight : ℕ) (loss : Bool) → after_window_event 
 report_makes c flight true = refl
 report_makes c flight false = refl
 
+signal_makes : (c : Window) (flight : ℕ) (third loss : Bool) (smss : ℕ) (resent : Bool) → after_signal c (if third && not loss then Nothing else Counts (if loss then Loss flight else Duplicate flight)) smss resent
+    ≡ (if loss then after_loss c flight else if third then c else after_duplicate c flight)
+signal_makes c flight true true smss resent = refl
+signal_makes c flight true false smss resent = refl
+signal_makes c flight false true smss resent = refl
+signal_makes c flight false false smss resent = refl
+
 -- it counts alone where it moves nothing
 pub counts_report : (v : View) (s : Segment) (now : Moment) → (after_event v (Hears s now)).sending.una ≡ v.sending.una → is_closed (after_event v (Hears s now)).state ≡ false → is_report v s ≡ true → is_counted_duplicate v s ≡ false → (is_closed v.state || is_rejected v s) ≡ false
-    → (after_event v (Hears s now)).congestion ≡ (let flight = outstanding (after_heard v s).sending in if reports_loss v s then after_loss v.congestion flight else after_duplicate v.congestion flight)
+    → (after_event v (Hears s now)).congestion ≡ (let flight = outstanding (after_heard v s).sending in if reports_loss v s then after_loss v.congestion flight else if third_is_next v.congestion then v.congestion else after_duplicate v.congestion flight)
 counts_report v s now same alive is other hears =
     let b = before v s in
     let x = after_heard v s in
     let at = heard_is v s now hears in
     let flight = outstanding x.sending in
+    let w = after_event v (Hears s now) in
+    let smss = w.sending.smss in
+    let resent = w.resend.syn_resent in
     let still : is_moved b x ≡ false = ap not (eq-eqb v.sending.una x.sending.una (sym same ∙ ap (λ (w : View). w.sending.una) at)) in
-    let tells : Signal = if reports_more b x then Counts (report_event (told b x)) else Nothing in
+    let tells : Signal = if reports_more b x then report_signal (told b x) else Nothing in
     let repeats : Signal = if is_counted_duplicate v s then Counts (Duplicate flight) else tells in
     let acked : Signal = if is_opening v.state then Begins else acknowledged_signal b (told b x) (length v.sending.held - length x.sending.held) (reports_more b x) in
-    window_by v (Hears s now) (Counts (report_event (told b x)))
+    window_by v (Hears s now) (report_signal (told b x))
     (event_is v s now hears
     ∙ ap (λ t. if t then Nothing else if is_moved b x then acked else repeats) (sym (ap (λ (w : View). is_closed w.state) at) ∙ alive)
     ∙ ap (λ t. if t then acked else repeats) still
     ∙ ap (λ t. if t then Counts (Duplicate flight) else tells) other
-    ∙ ap (λ t. if t then Counts (report_event (told b x)) else Nothing) is)
-    ∙ report_makes v.congestion flight (tells_loss (told b x))
-    ∙ ap (λ t. if t then after_loss v.congestion flight else after_duplicate v.congestion flight) (sym (ap₂ (λ t w. t && tells_loss w) is (told_still b x still)))
+    ∙ ap (λ t. if t then report_signal (told b x) else Nothing) is)
+    ∙ ap (λ c. after_signal v.congestion (if third_is_next c && not (tells_loss (told b x)) then Nothing else Counts (report_event (told b x))) smss resent) (window_kept v s)
+    ∙ signal_makes v.congestion flight (third_is_next v.congestion) (tells_loss (told b x)) smss resent
+    ∙ ap (λ t. if t then after_loss v.congestion flight else if third_is_next v.congestion then v.congestion else after_duplicate v.congestion flight) (sym (ap₂ (λ t w. t && tells_loss w) is (told_still b x still)))
 
 -- .. and else behind the ACK
 pub counts_both : (v : View) (s : Segment) (now : Moment) → (after_event v (Hears s now)).sending.una ≢ v.sending.una → is_closed (after_event v (Hears s now)).state ≡ false → is_report v s ≡ true
@@ -432,7 +443,7 @@ counts_duplicate v s now sound d counts =
     ∙ ap₂ (λ n u. Counts (Duplicate (past n u))) stays.1 stays.0)
   where
     reported : View → Signal
-    reported w = if reports_more (before v s) w then Counts (report_event (told (before v s) w)) else Nothing
+    reported w = if reports_more (before v s) w then report_signal (told (before v s) w) else Nothing
 
     repeated : View → Signal
     repeated w = if is_counted_duplicate v s then Counts (Duplicate (outstanding w.sending)) else reported w
@@ -480,7 +491,7 @@ others_count_none v (Hears s now) =
     (λ moved how. tells alive (inl (λ same. clash (v.sending.una == x.sending.una) (eq-eqb v.sending.una x.sending.una (sym same)) (not_true (v.sending.una == x.sending.una) moved))))
     (λ stays. either Signal (λ g. (g ≡ Nothing → G) → G) (is_counted_duplicate v s) (Counts (Duplicate (outstanding x.sending))) _
     (λ twice how. tells alive (inr (inl (duplicate_tells v s (and_left (is_duplicate v s) (counts_duplicates v) twice), and_right (is_duplicate v s) (counts_duplicates v) twice))))
-    (λ other. either Signal (λ g. (g ≡ Nothing → G) → G) (reports_more (before v s) x) (Counts (report_event (told (before v s) x))) Nothing
+    (λ other. either Signal (λ g. (g ≡ Nothing → G) → G) (reports_more (before v s) x) (report_signal (told (before v s) x)) Nothing
     (λ more how. tells alive (inr (inr more))) (λ quiet how. how refl)))) none)
 others_count_none v (Ticks now) =
     by (((after_event v (Ticks now)).congestion ≡ v.congestion) ⊎ Tells v (Ticks now) (after_event v (Ticks now))) (has_come v.timers.retransmission now)

@@ -12,7 +12,7 @@ use Rattle.tcp_halves.specs.Stream.{outstanding}
 use Rattle.tcp_halves.proofs.Choices.{either, by, and_left, and_right, and_false, not_true}
 use Rattle.tcp_state.specs.Resend.{Resend, IsSoundResend}
 use Rattle.tcp_state.specs.View.{View, IsSound, is_opening, awaits_fin_ack}
-use Rattle.tcp_state.specs.Selective.{selects, counts_pipe, loss_end, repaired_end, allowance}
+use Rattle.tcp_state.specs.Selective.{selects, counts_pipe, tolerance, loss_end, repaired_end, allowance}
 use Rattle.tcp_state.specs.Tail.{awaits_tail, tail_wait, tail_by, is_tail_due, tail_after}
 use Rattle.tcp_state.specs.Alive.{is_silent, unanswered_again, after_silence}
 use Rattle.tcp_halves.specs.Windows.{open_window, sendable, takes_all, takes_enough, is_worth_sending, waits_for_more}
@@ -167,7 +167,7 @@ marked_sound v p now k due sound is =
 
 -- nothing is lost where nothing is reported
 pub nothing_lost : (v : View) → v.resend.reported ≡ [] → loss_end v ≡ 0
-nothing_lost v none = ap (λ rs. max (lost_end v.sending.smss rs) (min v.resend.tail (reported_end rs))) none ∙ omega arith
+nothing_lost v none = ap (λ rs. max (lost_end (tolerance v) rs) (min v.resend.tail (reported_end rs))) none ∙ omega arith
 
 -- how much may be outstanding: nothing is reported where such a probe is due
 pub allowance_silent : (v : View) (now : Moment) → allowance (after_silence v now) ≡ allowance v
@@ -176,7 +176,7 @@ allowance_silent v now =
     let left = unreported v.resend.reported in
     let lost : loss_end quiet ≡ loss_end v = by (loss_end quiet ≡ loss_end v) (is_tail_due v now)
     (λ due. let none = (due_awaits v now due).reported in nothing_lost quiet none ∙ sym (nothing_lost v none))
-    (λ none. ap (λ (p : Resend). max (lost_end v.sending.smss v.resend.reported) (min p.tail (reported_end v.resend.reported))) (tail_rests v now none)) in
+    (λ none. ap (λ (p : Resend). max (lost_end (tolerance v) v.resend.reported) (min p.tail (reported_end v.resend.reported))) (tail_rests v now none)) in
     let again : repaired_end quiet ≡ repaired_end v = by (repaired_end quiet ≡ repaired_end v) (is_tail_due v now)
     (λ due. let runs = (due_awaits v now due).runs in ap (λ b. if b then unwrap_or quiet.resend.mark 0 else 0) runs ∙ sym (ap (λ b. if b then unwrap_or v.resend.mark 0 else 0) runs))
     (λ none. ap (λ (p : Resend). if is_recovering v.congestion then unwrap_or p.mark 0 else 0) (tail_rests v now none)) in

@@ -32,7 +32,7 @@ use Rattle.tcp_state.specs.declared.arrival.Before.{Before}
 use Rattle.tcp_state.specs.Calls.{aborted}
 use Rattle.tcp_state.specs.Alive.{heard_now}
 use Rattle.tcp_state.specs.Reporting.{settled, noted}
-use Rattle.tcp_state.specs.Selective.{selects, with_blocks, loss_end}
+use Rattle.tcp_state.specs.Selective.{selects, with_blocks, is_usual, loss_end}
 
 abbrev pub owing_ack : View → View
 owing_ack v = record v { owes_ack = true }
@@ -333,12 +333,16 @@ reports_more b w = b.counts_reports && nat_lt (covered w.resend.reported) (cover
 abbrev pub is_partial : View → Bool
 is_partial w = goes_on w.congestion && nat_lt 0 w.resend.recover
 
--- The third report that counts tells a loss, or one by which what is at SND.UNA is lost (RFC 6675 section 5, steps 1 and 2).
+-- The third report that counts tells a loss where no more than usual is tolerated, or one by which what is at SND.UNA is lost (RFC 6675 section 5, steps 1 and 2).
 abbrev pub tells_loss : View → Bool
-tells_loss w = third_is_next w.congestion || nat_lt 0 (loss_end w)
+tells_loss w = (third_is_next w.congestion && is_usual w) || nat_lt 0 (loss_end w)
 
 abbrev pub report_event : View → Event
 report_event w = if tells_loss w then Loss (outstanding w.sending) else Duplicate (outstanding w.sending)
+
+-- Where more is tolerated, the third and those behind it are nothing to the window until one tells a loss.
+abbrev pub report_signal : View → Signal
+report_signal w = if third_is_next w.congestion && not (tells_loss w) then Nothing else Counts (report_event w)
 
 -- An ACK of so many new octets that is no partial one. Where it is a report which counts, too, that counts behind it.
 abbrev pub behind_ack : View → ℕ → View
@@ -368,7 +372,7 @@ signal_of b w more =
     if is_closed w.state then Nothing
     else if is_moved b w then (if is_opening b.state then Begins else acknowledged_signal b w (b.held - length w.sending.held) more)
     else if b.is_duplicate then Counts (Duplicate (outstanding w.sending))
-    else if more then Counts (report_event w)
+    else if more then report_signal w
     else Nothing
 
 abbrev pub congestion_event_of : Before → View → Signal

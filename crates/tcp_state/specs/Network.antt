@@ -4,10 +4,11 @@ use Rattle.std.specs.Option.{unwrap_or}
 use Rattle.stream_buf.specs.Scoreboard.{is_reported, is_lost, reported_end}
 use Rattle.congestion.specs.Window.{is_recovering}
 use Rattle.tcp_state.specs.View.{View}
+use Rattle.tcp_state.specs.Selective.{tolerance}
 
 -- what first went out at a place that isn't reported is lost, as far as reports tell (IsLost); or where a probe of the tail followed it, and anything behind it is reported
 abbrev pub is_taken_for_lost : View → ℕ → Bool
-is_taken_for_lost v place = is_lost v.sending.smss v.resend.reported place || (nat_lt place v.resend.tail && nat_lt place (reported_end v.resend.reported))
+is_taken_for_lost v place = is_lost (tolerance v) v.resend.reported place || (nat_lt place v.resend.tail && nat_lt place (reported_end v.resend.reported))
 
 -- what stands there went out again in the recovery that runs: it stands before the resend mark (HighRxt)
 abbrev pub went_again : View → ℕ → Bool

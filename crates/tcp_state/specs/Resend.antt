@@ -1,6 +1,7 @@
 -- The retransmission state of a connection: what goes out again, and what the clock measures of a round trip (RFC 6298, RFC 9293 sections 3.8.1 and 3.8.6.1).
-use Rattle.std.specs.Prelude.{ℕ, suc, ◌+◌, ◌-◌, ◌*◌, ◌^◌, ◌≤◌, ◌==◌, ◌&&◌, ◌||◌, nat_lt, min, Bool, true, false, if◌then◌else◌, not, Option, Some, None, List, [], length}
+use Rattle.std.specs.Prelude.{ℕ, suc, ◌+◌, ◌-◌, ◌*◌, ◌^◌, ◌≤◌, ◌==◌, ◌&&◌, ◌||◌, nat_lt, min, max, Bool, true, false, if◌then◌else◌, not, Option, Some, None, List, [], length}
 use Rattle.stream_buf.specs.declared.ranges.Range.{Range}
+use Rattle.stream_buf.specs.Ranges.{covered}
 use Rattle.stream_buf.specs.Scoreboard.{IsScoreboard, passed}
 use Rattle.clock.specs.declared.moment.Moment.{Moment}
 use Rattle.retransmit.specs.Timeout.{Timeout, first_timeout, after_sample, after_expiry, after_lost_syn}
@@ -35,6 +36,8 @@ pub record Resend : Type 0 where
   pub recover : ℕ
   -- the number behind all that was outstanding when the last segment went out once more as a probe, as a distance past SND.UNA; 0 where none did, or all of it is acknowledged ("TLP.end_seq", RFC 8985 section 7)
   pub tail : ℕ
+  -- how many octets were reported at most past one that came late, and had gone out but once
+  pub reach : ℕ
   -- what the peer reports that it keeps ahead of a gap, by distances past SND.UNA (RFC 6675 section 3)
   pub reported : List Range
 
@@ -65,12 +68,13 @@ first_resend least = record {
   small = 0;
   recover = 0;
   tail = 0;
+  reach = 0;
   reported = [];
 }
 
 -- nothing is outstanding or waits any longer
 abbrev pub stopped : Resend → Resend
-stopped p = record p { mark = None; once = false; timed = None; interval = p.timeout.rto; owes_probe = false; overridden = false; small = 0; recover = 0; tail = 0; reported = [] }
+stopped p = record p { mark = None; once = false; timed = None; interval = p.timeout.rto; owes_probe = false; overridden = false; small = 0; recover = 0; tail = 0; reach = 0; reported = [] }
 
 -- What goes out.
 
@@ -112,9 +116,9 @@ resend_probed p = record p { owes_probe = false; timed = None; resent = once_mor
 abbrev pub recover_noted : Resend → Bool → ℕ → ℕ
 recover_noted p repairs outstanding = if repairs then outstanding else p.recover
 
--- the retransmission timer: all that is outstanding goes out again, from SND.UNA on, and the timeout backs off (RFC 6298 sections 5.4 and 5.5); what was reported is forgotten, since the peer may have let it go (RFC 2018 section 8)
+-- the retransmission timer: all that is outstanding goes out again, from SND.UNA on, and the timeout backs off (RFC 6298 sections 5.4 and 5.5); what was reported is forgotten, since the peer may have let it go (RFC 2018 section 8), and so is how late octets came: what is waited for so long may be lost
 abbrev pub resend_expired : Resend → Bool → ℕ → Resend
-resend_expired p repairs outstanding = record p { mark = mark_past 0 outstanding; once = false; timeout = after_expiry p.timeout; expiries = suc p.expiries; recover = recover_noted p repairs outstanding; tail = 0; reported = [] }
+resend_expired p repairs outstanding = record p { mark = mark_past 0 outstanding; once = false; timeout = after_expiry p.timeout; expiries = suc p.expiries; recover = recover_noted p repairs outstanding; tail = 0; reach = 0; reported = [] }
 
 -- the probe timer: a probe is due, and the next wait is twice as long, a minute at most (RFC 9293 section 3.8.6.1)
 abbrev pub resend_probes : Resend → Resend
@@ -127,8 +131,12 @@ abbrev pub mark_left : Option ℕ → ℕ → ℕ → Option ℕ
 mark_left None gained outstanding = None
 mark_left (Some distance) gained outstanding = mark_past (distance - gained) outstanding
 
+-- What stood at SND.UNA came behind all that is reported. Where nothing that is outstanding went out again, it was late and not lost.
+unfoldable pub reached : Resend → ℕ
+reached p = if (p.recover == 0) && (p.tail == 0) then max p.reach (covered p.reported) else p.reach
+
 abbrev pub mark_moved : Resend → ℕ → ℕ → Resend
-mark_moved p gained outstanding = record p { mark = mark_left p.mark gained outstanding; small = p.small - gained; recover = p.recover - gained; tail = p.tail - gained; reported = passed gained p.reported }
+mark_moved p gained outstanding = record p { mark = mark_left p.mark gained outstanding; small = p.small - gained; recover = p.recover - gained; tail = p.tail - gained; reach = reached p; reported = passed gained p.reported }
 
 -- the segment at SND.UNA goes out again, that alone (RFC 5681 section 3.2, RFC 6582 section 3.2, step 3)
 abbrev pub resend_first : Resend → ℕ → Resend

@@ -17,5 +17,6 @@ resend_view p = record {
   small = p.small;
   recover = p.recover;
   tail = p.tail;
+  reach = p.reach;
   reported = p.reported;
 }

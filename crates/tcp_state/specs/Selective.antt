@@ -1,7 +1,9 @@
 -- What goes out by what the peer reports that it keeps ahead of a gap (RFC 2018, RFC 6675).
-use Rattle.std.specs.Prelude.{ℕ, ◌+◌, ◌-◌, ◌==◌, ◌&&◌, ◌||◌, min, max, Bool, if◌then◌else◌, List, [], ◌∷◌}
+use Rattle.std.specs.Prelude.{ℕ, ◌+◌, ◌-◌, ◌*◌, ◌^◌, ◌==◌, ◌&&◌, ◌||◌, nat_le, min, max, Bool, if◌then◌else◌, List, [], ◌∷◌}
 use Rattle.std.specs.Option.{unwrap_or}
 use Rattle.stream_buf.specs.declared.ranges.Range.{Range}
+use Rattle.stream_buf.specs.declared.scoreboard.Tolerance.{Tolerance}
+use Rattle.stream_buf.specs.declared.receive.TheConstants.{MOST_RANGES}
 use Rattle.stream_buf.specs.Ranges.{range}
 use Rattle.stream_buf.specs.Scoreboard.{with_report, unreported, lost_end, reported_end}
 use Rattle.tcp_segment.specs.declared.blocks.Block.{Block}
@@ -32,10 +34,24 @@ abbrev pub with_blocks : List Range → Sending → List Block → List Range
 with_blocks reported s [] = reported
 with_blocks reported s (block ∷ rest) = with_blocks (with_report reported (outstanding s) (place_of s block)) s rest
 
+-- Octets that come late are a gap for a while: so much may be reported past a place that isn't lost. Two ranges, or two segments' octets (RFC 6675 section 2, DupThresh); or where others came late, twice as many octets as were reported past those,
+-- and any number of ranges.
+abbrev pub tolerated : ℕ → ℕ → ℕ
+tolerated smss reach = max (2 * smss) (min (2 ^ 32 - 1) (2 * reach))
+
+unfoldable pub tolerance_of : ℕ → ℕ → Tolerance
+tolerance_of smss reach = let octets = tolerated smss reach in record { ranges = if nat_le octets (2 * smss) then 2 else MOST_RANGES; octets = octets }
+
+abbrev pub tolerance : View → Tolerance
+tolerance v = tolerance_of v.sending.smss v.resend.reach
+
+abbrev pub is_usual : View → Bool
+is_usual v = let t = tolerance v in t.ranges == 2
+
 -- Where what is lost ends, and what went out again in the recovery that runs (HighRxt), by distances past SND.UNA. Once a probe of the tail went out, what was outstanding then
 -- and stands before anything that is reported is lost, too: it went out two round trips before that probe (RFC 8985 sections 6.2 and 7.1).
 abbrev pub loss_end : View → ℕ
-loss_end v = max (lost_end v.sending.smss v.resend.reported) (min v.resend.tail (reported_end v.resend.reported))
+loss_end v = max (lost_end (tolerance v) v.resend.reported) (min v.resend.tail (reported_end v.resend.reported))
 
 abbrev pub repaired_end : View → ℕ
 repaired_end v = if is_recovering v.congestion then unwrap_or v.resend.mark 0 else 0

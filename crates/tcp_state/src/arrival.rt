@@ -2,7 +2,7 @@
 
 ghost use Rattle.std.specs.Prelude.{◌≡◌, ◌≤◌, ◌-◌, [], length, min, true, false, ◌&&◌, ◌||◌, not, if◌then◌else◌, IsTrue, ◌==◌};
 ghost use Rattle.tcp_state.specs.View.{is_opening, is_syn_sent, is_syn_received, is_closed, awaits_fin_ack, after_reset};
-ghost use Rattle.tcp_state.specs.Arrival.{after_segment, scales_with, after_first_syn, after_syn_ack, owing_ack, after_establishment, after_ack, is_read_on, after_window, after_text, after_acknowledging_segment, after_acceptable_segment, ends_by_syn, is_acceptable_to, fin_acknowledged, after_new_ack, after_fin, reset_error, after_rst_in_syn_sent, after_rst, is_acting_reset, ends_by_reset, is_right_syn_ack, is_simultaneous_syn, after_simultaneous_syn, fate, after_segment_at, after_heard, is_lost, is_read, brings_more, after_lost, repeats_fin, is_rejected, ends_opening, is_of_fin, may_delay, answers_probe, octets_outstanding, is_duplicate, counts_duplicates, before, is_moved, resend_heard, signal_of, report_event, came_twice, ends_tail, whole_signal, resend_signalled, timed_by, begins_wait};
+ghost use Rattle.tcp_state.specs.Arrival.{after_segment, scales_with, after_first_syn, after_syn_ack, owing_ack, after_establishment, after_ack, is_read_on, after_window, after_text, after_acknowledging_segment, after_acceptable_segment, ends_by_syn, is_acceptable_to, fin_acknowledged, after_new_ack, after_fin, reset_error, after_rst_in_syn_sent, after_rst, is_acting_reset, ends_by_reset, is_right_syn_ack, is_simultaneous_syn, after_simultaneous_syn, fate, after_segment_at, after_heard, is_lost, is_read, brings_more, after_lost, repeats_fin, is_rejected, ends_opening, is_of_fin, may_delay, answers_probe, octets_outstanding, is_duplicate, counts_duplicates, before, is_moved, resend_heard, signal_of, tells_loss, report_signal, came_twice, ends_tail, whole_signal, resend_signalled, timed_by, begins_wait};
 ghost use Rattle.congestion.specs.Events.{after_event};
 ghost use Rattle.congestion.specs.Events.Event.{PartialAck, Duplicate};
 ghost use Rattle.congestion.specs.Control.{is_selective};
@@ -56,6 +56,28 @@ impl Connection {
         ensures fate { result ≡ fate self.old segment.now }
         ensures after { self.new ≡ after_segment_at self.old segment.now now }
     {
+        if self.congestion.repairs() {
+            self.segment_repaired(now, segment)
+        } else {
+            self.segment_here(now, segment)
+        }
+    }
+
+    /// The same where losses are repaired: apart, so that what reports ask costs a host nothing that takes none.
+    #[inline(never)]
+    fn segment_repaired(&mut self, now: Moment, segment: &TcpView<'_>) -> Fate
+        ensures fate { result ≡ fate self.old segment.now }
+        ensures after { self.new ≡ after_segment_at self.old segment.now now }
+    {
+        self.segment_here(now, segment)
+    }
+
+    /// Takes it, whatever is made of losses.
+    #[inline(always)]
+    fn segment_here(&mut self, now: Moment, segment: &TcpView<'_>) -> Fate
+        ensures fate { result ≡ fate self.old segment.now }
+        ensures after { self.new ≡ after_segment_at self.old segment.now now }
+    {
         if self.state == State::Closed {
             return Fate::Stays;
         }
@@ -85,8 +107,22 @@ impl Connection {
         }
     }
 
-    /// Whether a segment is a duplicate ACK (RFC 5681 section 2): octets are outstanding, and not only our FIN.
+    /// Whether a segment is a duplicate ACK (RFC 5681 section 2): octets are outstanding, and not only our FIN. What tells it from most segments is asked first.
+    #[tactic(auto, using(crate::proofs::Repeated::brings_octets, crate::proofs::Repeated::moves_on))]
     fn is_duplicate(&self, segment: &TcpView<'_>) -> bool
+        ensures { result ≡ is_duplicate self.now segment.now }
+    {
+        if !segment.payload().is_empty() {
+            return false;
+        }
+        if segment.acknowledgement() != self.sender.una() {
+            return false;
+        }
+        self.repeats(segment)
+    }
+
+    /// Whether it is one, by all that makes one.
+    fn repeats(&self, segment: &TcpView<'_>) -> bool
         ensures { result ≡ is_duplicate self.now segment.now }
     {
         !self.state.is_opening()
@@ -193,16 +229,29 @@ impl Connection {
     /// A report counts: it tells the loss of the segment at SND.UNA, or is one before that.
     fn note_report(&mut self)
         ensures { self.new ≡ record self.old {
-          resend = resend_signalled self.old.resend (Counts (report_event self.old)) self.old.congestion (outstanding self.old.sending);
-          congestion = after_event self.old.congestion (report_event self.old);
+          resend = resend_signalled self.old.resend (report_signal self.old) self.old.congestion (outstanding self.old.sending);
+          congestion = after_signal self.old.congestion (report_signal self.old) self.old.sending.smss self.old.resend.syn_resent;
         } }
     {
         if !self.tells_loss() {
-            return self.note_duplicate();
+            return self.note_early();
         }
         let outstanding = self.sender.outstanding();
         self.congestion.lost(outstanding);
         self.resend.mark_lost(true, outstanding);
+    }
+
+    /// A report counts that tells no loss: as a duplicate ACK, but for the third and those behind it.
+    fn note_early(&mut self)
+        requires { tells_loss self.old ≡ false }
+        ensures { self.new ≡ record self.old {
+          resend = resend_signalled self.old.resend (report_signal self.old) self.old.congestion (outstanding self.old.sending);
+          congestion = after_signal self.old.congestion (report_signal self.old) self.old.sending.smss self.old.resend.syn_resent;
+        } }
+    {
+        if !self.congestion.is_third_next() {
+            self.note_duplicate();
+        }
     }
 
     /// The congestion window begins where our SYN is acknowledged, and else takes the octets that are, and behind them what is reported.
@@ -550,6 +599,33 @@ impl Connection {
 
     /// Takes an acknowledgement, and says whether the rest of the segment is read.
     fn hear_ack(&mut self, acknowledgement: Seq) -> bool
+        requires { (is_syn_sent self.old.state || is_closed self.old.state) ≡ false }
+        ensures read_on { result ≡ is_read_on self.old acknowledgement.0 }
+        ensures opened { result ≡ true → is_opening self.new.state ≡ false }
+        ensures after { self.new ≡ after_ack self.old acknowledgement.0 }
+    {
+        if self.resend.reported().is_empty() {
+            self.hear_ack_here(acknowledgement)
+        } else {
+            self.hear_ack_reported(acknowledgement)
+        }
+    }
+
+    /// The same where something is reported.
+    #[cold]
+    #[inline(never)]
+    fn hear_ack_reported(&mut self, acknowledgement: Seq) -> bool
+        requires { (is_syn_sent self.old.state || is_closed self.old.state) ≡ false }
+        ensures read_on { result ≡ is_read_on self.old acknowledgement.0 }
+        ensures opened { result ≡ true → is_opening self.new.state ≡ false }
+        ensures after { self.new ≡ after_ack self.old acknowledgement.0 }
+    {
+        self.hear_ack_here(acknowledgement)
+    }
+
+    /// Takes it, whatever is reported.
+    #[inline(always)]
+    fn hear_ack_here(&mut self, acknowledgement: Seq) -> bool
         requires { (is_syn_sent self.old.state || is_closed self.old.state) ≡ false }
         ensures read_on { result ≡ is_read_on self.old acknowledgement.0 }
         ensures opened { result ≡ true → is_opening self.new.state ≡ false }

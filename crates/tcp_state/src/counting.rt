@@ -7,7 +7,7 @@ ghost use Rattle.tcp_segment.specs.Segment.{Segment, smss_of, span_of};
 ghost use Rattle.tcp_segment.specs.Wire.{past};
 ghost use Rattle.clock.specs.declared.moment.Moment.{Moment};
 ghost use Rattle.clock.specs.Moments.{after, has_come};
-ghost use Rattle.congestion.specs.Window.{initial_window, goes_on, after_new_ack, after_partial_ack, after_duplicate, after_loss, after_expiry};
+ghost use Rattle.congestion.specs.Window.{initial_window, goes_on, after_new_ack, after_partial_ack, after_duplicate, after_loss, after_expiry, third_is_next};
 ghost use Rattle.tcp_state.specs.Selective.{selects};
 ghost use Rattle.retransmit.specs.Timeout.{estimate_after, after_sample};
 ghost use Rattle.tcp_halves.specs.Numbers.{is_before};
@@ -78,7 +78,7 @@ pub fn the_congestion_window_counts_octets()
     ensures ruled { (v : View) (s : Segment) (now : Moment) → is_opening v.state ≡ false → (after_event v (Event.Hears s now)).sending.una ≢ v.sending.una → is_closed (after_event v (Event.Hears s now)).state ≡ false
         → (goes_on v.congestion && nat_lt 0 (after_event v (Event.Hears s now)).resend.recover) ≡ true → selects v ≡ true → (after_event v (Event.Hears s now)).congestion ≡ v.congestion }
     ensures reported { (v : View) (s : Segment) (now : Moment) → (after_event v (Event.Hears s now)).sending.una ≡ v.sending.una → is_closed (after_event v (Event.Hears s now)).state ≡ false → is_report v s ≡ true → is_counted_duplicate v s ≡ false → (is_closed v.state || is_rejected v s) ≡ false
-        → (after_event v (Event.Hears s now)).congestion ≡ (let flight = outstanding (after_heard v s).sending in if reports_loss v s then after_loss v.congestion flight else after_duplicate v.congestion flight) }
+        → (after_event v (Event.Hears s now)).congestion ≡ (let flight = outstanding (after_heard v s).sending in if reports_loss v s then after_loss v.congestion flight else if third_is_next v.congestion then v.congestion else after_duplicate v.congestion flight) }
     ensures acknowledged_and_reported { (v : View) (s : Segment) (now : Moment) → (after_event v (Event.Hears s now)).sending.una ≢ v.sending.una → is_closed (after_event v (Event.Hears s now)).state ≡ false → is_report v s ≡ true
         → (after_event v (Event.Hears s now)).congestion ≡ (let flight = outstanding (after_event v (Event.Hears s now)).sending in let c = after_new_ack v.congestion (min (past (after_event v (Event.Hears s now)).sending.una v.sending.una) (length v.sending.held)) flight in
         if reports_loss v s then after_loss c flight else after_duplicate c flight) }

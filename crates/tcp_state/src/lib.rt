@@ -13,6 +13,7 @@ mod emission;
 mod ending;
 mod hop;
 mod info;
+pub mod late;
 pub mod laws;
 pub mod probing;
 pub mod progress;

@@ -17,7 +17,7 @@ ghost use Rattle.tcp_state.specs.declared.emission.Stretch.{Stretch};
 ghost use Rattle.tcp_state.specs.View.{View, IsSound, is_opening, is_closed, opened_actively};
 ghost use Rattle.tcp_state.specs.Timing.{KeepsTime, probes};
 ghost use Rattle.tcp_state.specs.Congestion.Signal.{Counts, Both};
-ghost use Rattle.tcp_state.specs.Selective.{selects, repairs_gaps, counts_pipe, pipe, allowance, loss_end};
+ghost use Rattle.tcp_state.specs.Selective.{selects, repairs_gaps, counts_pipe, pipe, allowance, tolerance, loss_end};
 ghost use Rattle.tcp_state.specs.Network.{in_network};
 ghost use Rattle.tcp_state.specs.Due.{first_due, again, is_missing, numbers_of};
 ghost use Rattle.tcp_state.specs.Arrival.{opened_passively, is_counted_duplicate, is_rejected, reports_loss, after_heard};
@@ -69,12 +69,12 @@ pub fn what_reports_counts_as_a_duplicate()
 {}
 
 /// In a recovery that reports rule, what goes out again is missing, but for the first segment, and the network has room for a segment beside what is in it; and so it has for new octets, in that recovery and outside of one (RFC 6675 section 5, step C). What is
-/// lost is missing: it isn't reported, and three ranges are past it, or more octets than two segments have (section 4, `IsLost`).
+/// lost is missing: it isn't reported, and more is past it than is tolerated (section 4, `IsLost`).
 pub fn the_network_has_room_for_it()
     ensures again { (v : View) (stretch : Stretch) → repairs_gaps v ≡ true → v.resend.once ≡ false → first_due v ≡ Some (Due.Text stretch) → stretch.offset < outstanding v.sending
         → (is_missing v stretch.offset ≡ true) × (pipe v + v.sending.smss ≤ v.congestion.cwnd) }
     ensures new { (v : View) (stretch : Stretch) → IsSound v → counts_pipe v ≡ true → first_due v ≡ Some (Due.Text stretch) → outstanding v.sending ≤ stretch.offset → 0 < stretch.count → pipe v + numbers_of stretch ≤ v.congestion.cwnd }
-    ensures lost { (v : View) (place : ℕ) → IsSound v → is_reported v.resend.reported place ≡ false → is_lost v.sending.smss v.resend.reported place ≡ true → is_missing v place ≡ true }
+    ensures lost { (v : View) (place : ℕ) → IsSound v → is_reported v.resend.reported place ≡ false → is_lost (tolerance v) v.resend.reported place ≡ true → is_missing v place ≡ true }
     ensures unreported { (v : View) → v.resend.reported ≡ [] → is_recovering v.congestion ≡ false → pipe v ≡ outstanding v.sending }
     ensures window { (v : View) → v.resend.reported ≡ [] → is_recovering v.congestion ≡ false → counts_pipe v ≡ true → allowance v ≡ v.congestion.cwnd }
 {}

@@ -1,9 +1,9 @@
 //! What goes out again, and what the clock measures of a round trip (RFC 6298, RFC 9293 sections 3.8.1 and 3.8.6.1).
 
-ghost use Rattle.std.specs.Prelude.{◌≡◌, ◌<◌, ◌&&◌, if◌then◌else◌, true, false, None, Some, ◌||◌, nat_lt};
+ghost use Rattle.std.specs.Prelude.{◌≡◌, ◌<◌, ◌-◌, ◌*◌, ◌^◌, ◌&&◌, if◌then◌else◌, true, false, None, Some, ◌||◌, nat_lt, min};
 ghost use Rattle.stream_buf.specs.Ranges.{range};
 ghost use Rattle.stream_buf.specs.Scoreboard.{with_report};
-ghost use Rattle.tcp_state.specs.Resend.{IsSoundResend, is_alone, resend_ends, first_resend, stopped, mark_past, resend_again, resend_syn_again, resend_sent, resend_probed, resend_expired, resend_probes, mark_moved, recover_noted, resend_first, resend_lost, unmarked, is_timed_by, resend_acknowledged};
+ghost use Rattle.tcp_state.specs.Resend.{IsSoundResend, is_alone, resend_ends, first_resend, stopped, mark_past, reached, resend_again, resend_syn_again, resend_sent, resend_probed, resend_expired, resend_probes, mark_moved, recover_noted, resend_first, resend_lost, unmarked, is_timed_by, resend_acknowledged};
 
 use clock::Moment;
 use retransmit::{Estimate, Rto};
@@ -56,6 +56,8 @@ pub(crate) struct Resend {
     recover: u32,
     /// The number behind all that was outstanding when the last segment went out once more as a probe, as a distance past SND.UNA; 0 where none did, or all of it is acknowledged (RFC 8985 section 7).
     tail: u32,
+    /// How many octets were reported at most past one that came late, and had gone out but once.
+    reach: u32,
     /// What the peer reports that it keeps ahead of a gap, by distances past SND.UNA (RFC 6675 section 3).
     reported: Scoreboard,
 }
@@ -93,6 +95,7 @@ impl Resend {
             small: 0,
             recover: 0,
             tail: 0,
+            reach: 0,
             reported: Scoreboard::new(),
         }
     }
@@ -217,6 +220,7 @@ impl Resend {
         self.small = 0;
         self.recover = 0;
         self.tail = 0;
+        self.reach = 0;
         self.reported.clear();
     }
 
@@ -233,6 +237,7 @@ impl Resend {
         ensures after { self.new ≡ mark_moved self.old gained outstanding }
         ensures resend_view { IsSoundResend self.new }
     {
+        self.reach = self.reached();
         if let Some(distance) = self.mark {
             self.mark = mark_past(distance.saturating_sub(gained), outstanding);
         }
@@ -240,6 +245,26 @@ impl Resend {
         self.recover = self.recover.saturating_sub(gained);
         self.tail = self.tail.saturating_sub(gained);
         self.reported.pass(gained);
+    }
+
+    /// How many octets were reported at most past one that came late, once what stands at SND.UNA came behind all that is reported: that
+    /// was late, where nothing that is outstanding went out again.
+    #[tactic(auto, using(crate::proofs::Lateness::reached_late, crate::proofs::Lateness::reached_still))]
+    fn reached(&self) -> u32
+        ensures { result ≡ reached self.now }
+    {
+        if self.recover == 0 && self.tail == 0 {
+            self.reach.max(self.reported.covered())
+        } else {
+            self.reach
+        }
+    }
+
+    /// How many octets may be reported past one that comes as late as another did: twice as many as past that.
+    pub(crate) fn late(&self) -> u32
+        ensures { result ≡ min (2 ^ 32 - 1) (2 * self.now.reach) }
+    {
+        self.reach.saturating_mul(2)
     }
 
     /// The segment at SND.UNA goes out again, that alone, of so many numbers that are outstanding (RFC 5681 section 3.2, RFC 6582 section
@@ -388,6 +413,7 @@ impl Resend {
         self.timeout.expire();
         self.expiries += 1;
         self.note_recover(repairs, outstanding);
+        self.reach = 0;
         self.tail = 0;
         self.reported.clear();
     }

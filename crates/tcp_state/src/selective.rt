@@ -1,15 +1,19 @@
 //! What the peer reports that it keeps ahead of a gap, and what that tells of what is in the network (RFC 2018, RFC 6675).
 
-ghost use Rattle.std.specs.Prelude.{◌≡◌, ◌≤◌, ◌<◌, ◌+◌, ◌^◌, ◌==◌, ◌&&◌, not, length, true};
+ghost use Rattle.std.specs.Prelude.{◌≡◌, ◌≤◌, ◌<◌, ◌+◌, ◌*◌, ◌^◌, ◌==◌, ◌&&◌, not, length, true};
 ghost use Rattle.stream_buf.specs.Scoreboard.{with_report};
 ghost use Rattle.congestion.specs.Window.{is_recovering};
 ghost use Rattle.tcp_halves.specs.Stream.{outstanding};
-ghost use Rattle.tcp_state.specs.Selective.{selects, repairs_gaps, counts_pipe, place_of, loss_end, repaired_end, pipe, allowance};
+ghost use Rattle.tcp_state.specs.Selective.{selects, repairs_gaps, counts_pipe, place_of, is_usual, tolerance, loss_end, repaired_end, pipe, allowance};
 ghost use Rattle.tcp_state.specs.Arrival.{blocks_told, counts_reports, told, reports_more, is_partial, tells_loss};
 
 use crate::arrival::Before;
 use crate::connection::Connection;
+use stream_buf::{MOST_RANGES, Tolerance};
 use tcp_segment::{Block, Blocks, TcpView};
+
+/// How many segments are reported past one that is lost, where none came late (RFC 6675 section 2, `DupThresh`).
+const DUP_THRESH: u32 = 3;
 
 /// What the peer's reports tell.
 impl Connection {
@@ -40,7 +44,29 @@ impl Connection {
     {
         let reported = self.resend.reported();
         let probed = self.resend.tail().min(reported.reported_end());
-        reported.lost_end(self.sender.smss() as u16).max(probed)
+        reported.lost_end(self.tolerance()).max(probed)
+    }
+
+    /// How much may be reported past what isn't lost: where others came late, twice as many octets as were past those.
+    #[tactic(auto, unfolding(crate::specs::Selective::tolerance_of))]
+    fn tolerance(&self) -> Tolerance
+        ensures { result ≡ tolerance self.now }
+    {
+        let usual = (DUP_THRESH - 1) * self.sender.smss() as u32;
+        let octets = self.resend.late().max(usual);
+        let ranges = if octets <= usual {
+            DUP_THRESH - 1
+        } else {
+            MOST_RANGES as u32
+        };
+        Tolerance { ranges, octets }
+    }
+
+    /// Whether no more than usual is tolerated.
+    fn is_usual(&self) -> bool
+        ensures { result ≡ is_usual self.now }
+    {
+        self.tolerance().ranges == DUP_THRESH - 1
     }
 
     /// The distance past SND.UNA behind what went out again in the recovery that runs (`HighRxt`).
@@ -155,6 +181,6 @@ impl Connection {
     pub(crate) fn tells_loss(&self) -> bool
         ensures { result ≡ tells_loss self.now }
     {
-        self.congestion.is_third_next() || self.loss_end() > 0
+        self.congestion.is_third_next() && self.is_usual() || self.loss_end() > 0
     }
 }

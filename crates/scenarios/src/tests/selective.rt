@@ -41,6 +41,63 @@ const TWO_REPAIRED: &[Row] = &[
     (Acknowledged(12, &[]), &[16], 7_300, 7_300),
 ];
 
+/// Segment 0 comes late, behind 1 and 2; so twice as many octets are waited for behind 3, four segments, before that is lost.
+const LATE: &[Row] = &[
+    (Writes(30), &[0, 1, 2, 3, 4, 5, 6, 7, 8, 9], 14_600, 65_535),
+    (Acknowledged(0, &[(1, 2)]), &[10], 14_600, 65_535),
+    (Acknowledged(0, &[(1, 3)]), &[11], 14_600, 65_535),
+    // nine are in flight, and the window grows by two segments (RFC 3465 section 2.3)
+    (Acknowledged(3, &[]), &[12, 13, 14], 17_520, 65_535),
+    // 4 to 7 come, and the third report tells no loss: eleven are in the network each time
+    (Acknowledged(3, &[(4, 5)]), &[15], 17_520, 65_535),
+    (Acknowledged(3, &[(4, 6)]), &[16], 17_520, 65_535),
+    (Acknowledged(3, &[(4, 7)]), &[17], 17_520, 65_535),
+    (Acknowledged(3, &[(4, 8)]), &[18], 17_520, 65_535),
+    // 8: more than four segments; half of the 17,520 octets in flight without what reports let out
+    (Acknowledged(3, &[(4, 9)]), &[3], 8_760, 8_760),
+    // 9: ten are in the network
+    (Acknowledged(3, &[(4, 10)]), &[], 8_760, 8_760),
+];
+
+/// Segment 0 comes late, and then each second segment behind 3 does first: ranges are waited for, too.
+const LATE_RANGES: &[Row] = &[
+    (Writes(30), &[0, 1, 2, 3, 4, 5, 6, 7, 8, 9], 14_600, 65_535),
+    (Acknowledged(0, &[(1, 2)]), &[10], 14_600, 65_535),
+    (Acknowledged(0, &[(1, 3)]), &[11], 14_600, 65_535),
+    (Acknowledged(3, &[]), &[12, 13, 14], 17_520, 65_535),
+    (Acknowledged(3, &[(4, 5)]), &[15], 17_520, 65_535),
+    (Acknowledged(3, &[(6, 7), (4, 5)]), &[16], 17_520, 65_535),
+    (
+        Acknowledged(3, &[(8, 9), (6, 7), (4, 5)]),
+        &[17],
+        17_520,
+        65_535,
+    ),
+    (
+        Acknowledged(3, &[(10, 11), (8, 9), (6, 7), (4, 5)]),
+        &[18],
+        17_520,
+        65_535,
+    ),
+    // the fifth segment, and 3 alone is lost
+    (
+        Acknowledged(3, &[(12, 13), (10, 11), (8, 9), (6, 7)]),
+        &[3],
+        8_760,
+        8_760,
+    ),
+];
+
+/// An octet is late by no more than a segment: three segments tell a loss.
+const HARDLY_LATE: &[Row] = &[
+    (Writes(30), &[0, 1, 2, 3, 4, 5, 6, 7, 8, 9], 14_600, 65_535),
+    (Acknowledged(0, &[(1, 2)]), &[10], 14_600, 65_535),
+    (Acknowledged(2, &[]), &[11, 12, 13], 17_520, 65_535),
+    (Acknowledged(2, &[(3, 4)]), &[14], 17_520, 65_535),
+    (Acknowledged(2, &[(3, 5)]), &[15], 17_520, 65_535),
+    (Acknowledged(2, &[(3, 6)]), &[2], 8_760, 8_760),
+];
+
 /// The same losses, and nothing is reported: RFC 6582 has it.
 const UNREPORTED: &[Row] = &[
     (Writes(30), &[0, 1, 2, 3, 4, 5, 6, 7, 8, 9], 14_600, 65_535),
@@ -349,7 +406,7 @@ const KEPT: &[Row] = &[
     (Reports(10, &[(18_980, 18_990)]), &[10], 3_650, 3_650),
 ];
 
-const RUNS: [Run; 18] = [
+const RUNS: [Run; 21] = [
     Run {
         name: "two losses are repaired",
         sacks: true,
@@ -367,6 +424,24 @@ const RUNS: [Run; 18] = [
         sacks: true,
         window: WIDE,
         rows: AT_ONCE,
+    },
+    Run {
+        name: "what comes late is waited for",
+        sacks: true,
+        window: WIDE,
+        rows: LATE,
+    },
+    Run {
+        name: "ranges are waited for, too",
+        sacks: true,
+        window: WIDE,
+        rows: LATE_RANGES,
+    },
+    Run {
+        name: "three segments tell a loss where none came behind two",
+        sacks: true,
+        window: WIDE,
+        rows: HARDLY_LATE,
     },
     Run {
         name: "what is lost again waits for the timer",

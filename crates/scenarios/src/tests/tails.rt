@@ -135,13 +135,14 @@ const NEW_BEHIND: &[Row] = &[
     (Expires(240), &[9], 4_380, 5_840),
 ];
 
-/// The window of the peer is five segments since, and then nine: the probe goes out where it is ten again.
+/// The window of the peer is five segments since, and then nine: none is waited for before it is ten again, and then its moment has passed.
 const NARROWED: &[Row] = &[
     (Writes(10), &[0, 1, 2, 3, 4, 5, 6, 7, 8, 9], 14_600, 65_535),
     (Brings(7_300, 0, &[]), &[], 14_600, 65_535),
     (Expires(120), &[], 14_600, 65_535),
     (Brings(13_140, 0, &[]), &[], 14_600, 65_535),
-    (Brings(14_600, 0, &[]), &[9], 14_600, 65_535),
+    (Brings(14_600, 0, &[]), &[], 14_600, 65_535),
+    (Expires(121), &[9], 14_600, 65_535),
 ];
 
 /// The peer has its time for an ACK of a single segment, and half of a segment is less than two.

@@ -1,6 +1,6 @@
 //! What a peer reports that it keeps ahead of a gap, and what that tells (RFC 2018, RFC 6675), by hand.
 
-use stream_buf::Scoreboard;
+use stream_buf::{Scoreboard, Tolerance};
 
 /// What happens to what is reported.
 enum Event {
@@ -20,6 +20,14 @@ fn happens(board: &mut Scoreboard, event: &Event) {
         Event::Reported(start, end, outstanding) => board.report(*start, *end, *outstanding),
         Event::Acked(count) => board.pass(*count),
         Event::Forgotten => board.clear(),
+    }
+}
+
+/// What RFC 6675 tolerates, by the size of segments: two ranges, and the octets of two segments.
+fn usual(smss: u16) -> Tolerance {
+    Tolerance {
+        ranges: 2,
+        octets: 2 * u32::from(smss),
     }
 }
 
@@ -100,7 +108,9 @@ fn reports_tell_losses(rt: HostRuntime) {
         for (event, covered, end, lost_end) in *run {
             happens(&mut board, event);
             assert!(rt; board.covered() == *covered && board.reported_end() == *end);
-            assert!(rt; board.lost_end(1_460) == *lost_end && board.is_empty() == (*covered == 0));
+            assert!(rt;
+                board.lost_end(usual(1_460)) == *lost_end && board.is_empty() == (*covered == 0)
+            );
         }
     }
 }
@@ -120,7 +130,31 @@ fn losses_go_by_the_size_of_segments(rt: HostRuntime) {
     board.report(1_000, 1_600, 3_000);
     board.report(2_000, 2_600, 3_000);
     for (smss, lost_end) in &BY_SIZE {
-        assert!(rt; board.lost_end(*smss) == *lost_end);
+        assert!(rt; board.lost_end(usual(*smss)) == *lost_end);
+    }
+}
+
+/// How many ranges and octets are tolerated of these two, and where losses end.
+const BY_TOLERANCE: [(u32, u32, u32); 6] = [
+    (0, 9_999, 2_000),
+    (1, 9_999, 1_000),
+    (2, 9_999, 0),
+    (32, 1_200, 0),
+    (32, 1_199, 1_000),
+    (32, 599, 2_000),
+];
+
+#[test]
+fn losses_go_by_what_is_tolerated(rt: HostRuntime) {
+    let mut board = Scoreboard::new();
+    board.report(1_000, 1_600, 3_000);
+    board.report(2_000, 2_600, 3_000);
+    for (ranges, octets, lost_end) in &BY_TOLERANCE {
+        let tolerance = Tolerance {
+            ranges: *ranges,
+            octets: *octets,
+        };
+        assert!(rt; board.lost_end(tolerance) == *lost_end);
     }
 }
 
@@ -165,7 +199,7 @@ fn reports_make_most_ranges(rt: HostRuntime) {
     for i in 0..32 {
         board.report(2 * i + 1, 2 * i + 2, 100);
     }
-    assert!(rt; board.covered() == 32 && board.lost_end(1_460) == 59);
+    assert!(rt; board.covered() == 32 && board.lost_end(usual(1_460)) == 59);
     for (start, end, covered) in &MOST_RANGES {
         board.report(*start, *end, 100);
         assert!(rt; board.covered() == *covered);

@@ -21,9 +21,9 @@ signalled b w more = record w {
   congestion = after_signal w.congestion (signal_of b w more) w.sending.smss w.resend.syn_resent;
 }
 
--- what it is to the congestion window depends on the ends of a recovery and of a probe of the tail, and on what is reported alone, of all that is noted of what goes out again
-abbrev event_at : Before → View → ℕ → ℕ → Signal
-event_at b w recover tail = signal_of b (record w { resend = record w.resend { recover = recover; tail = tail; reported = reported_by b w } }) (reports_more b w)
+-- what it is to the congestion window depends on the ends of a recovery and of a probe of the tail, on how late octets came, and on what is reported alone, of all that is noted of what goes out again
+abbrev event_at : Before → View → ℕ → ℕ → ℕ → Signal
+event_at b w recover tail reach = signal_of b (record w { resend = record w.resend { recover = recover; tail = tail; reach = reach; reported = reported_by b w } }) (reports_more b w)
 
 -- its progress, its signal, the wait that it begins, that the peer was heard, and then the clock
 noted : (b : Before) (v progress reported signal waits hears : View) (moved more starts : Bool) (now : Moment) → progress ≡ record v { resend = resend_heard b v now } → reported ≡ told b progress → more ≡ reports_more b progress → signal ≡ signalled b reported more
@@ -36,7 +36,8 @@ noted b v progress reported signal waits hears moved more starts now progressed 
     let same : heard_resend.reported ≡ v.resend.reported = heard_paced b v now (λ p. p.reported ≡ v.resend.reported) refl refl refl in
     let told_is : reported ≡ read = told_so ∙ ap (told b) progressed ∙ ap (λ rs. let x : View = record v { resend = record heard_resend { reported = with_blocks rs v.sending b.blocks } } in x) same in
     let more_is : more ≡ reports_more b v = more_so ∙ ap (reports_more b) progressed ∙ ap (λ rs. b.counts_reports && nat_lt (covered rs) (covered (with_blocks rs v.sending b.blocks))) same in
-    let event : signal_of b read (reports_more b v) ≡ congestion_event_of b v = ap₂ (event_at b v) (heard_paced b v now (λ p. p.recover ≡ v.resend.recover) refl refl refl) (heard_paced b v now (λ p. p.tail ≡ v.resend.tail) refl refl refl) in
+    let event : signal_of b read (reports_more b v) ≡ congestion_event_of b v = ap₂ (λ recover tail. event_at b v recover tail heard_resend.reach) (heard_paced b v now (λ p. p.recover ≡ v.resend.recover) refl refl refl) (heard_paced b v now (λ p. p.tail ≡ v.resend.tail) refl refl refl)
+    ∙ ap (event_at b v v.resend.recover v.resend.tail) (heard_paced b v now (λ p. p.reach ≡ v.resend.reach) refl refl refl) in
     let signal_is : signal ≡ w = signals ∙ ap₂ (signalled b) told_is more_is
     ∙ ap (λ g. record v { resend = resend_signalled (resend_told b v now) g v.congestion (outstanding v.sending); congestion = after_signal v.congestion g v.sending.smss heard_resend.syn_resent }) event
     ∙ ap (λ resent. record w { congestion = after_signal v.congestion (congestion_event_of b v) v.sending.smss resent }) (syn_kept b v now) in
