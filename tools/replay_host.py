@@ -28,12 +28,9 @@ from replay_packets import (
     with_segment,
     without_options,
 )
-from replay_talks import HOST, OURS, PEER, PROTOCOLS, Said, Talk, Talks
+from replay_talks import HOST, LONGEST_WAIT, MILLISECOND, OURS, PEER, PROTOCOLS, Said, Talk, Talks
 from testbed_frames import ARP, REPLY, REQUEST, UDP, arp
 
-MILLISECOND = 1_000_000
-# An acknowledgement waits no longer than this (RFC 1122 section 4.2.3.2): so long ours may answer when the capture has ended.
-LONGEST_WAIT = 500
 BACKLOG = 8
 OWN_MAC = bytes([2, 0, 0, 0, 0, 1])
 # What docs/EMBEDDING.md recommends to a host on a real network.

@@ -8,10 +8,10 @@ from typing import Dict, Iterable, Iterator, List, NamedTuple, Optional, Sequenc
 
 from host import Drop
 from replay_packets import ACK, ALL, FIN, HALF, RST, SYN, URG, is_after
-from replay_talks import HOST, PEER, Said, Talk, key_of, text_of
+from replay_talks import HOST, LONGEST_WAIT, MILLISECOND, PEER, Said, Talk, key_of, text_of
 
-# Marks: the same; the same in other segments, or told by another one; otherwise.
-SAME, ELSEWHERE, OTHERWISE = " ", "~", "!"
+# Marks: the same; the same in other segments, or told by another one; otherwise; and perhaps the same, where the capture ends too early to tell.
+SAME, ELSEWHERE, OTHERWISE, UNKNOWN = " ", "~", "!", "?"
 FLAGS = "FSRPAUEC"
 # What of a segment's flags is compared. PSH follows from how octets are cut, ECE and CWR are an extension.
 COMPARED = FIN | SYN | RST | ACK | URG
@@ -179,12 +179,20 @@ class Ladder:
         for talk in {**captured, **ours}:
             compare(talk, captured.get(talk, []), ours.get(talk, []), is_strict)
         told = [it for answers in captured.values() for it in answers]
-        # What ours says when the capture has ended makes good what was lacking, and nobody knows what else the captured host said then.
-        end = said[-1].place
-        extra = [it for answers in ours.values() for it in answers if it.twin is None and (it.place <= end or it.mark == ELSEWHERE)]
+        extra = [it for answers in ours.values() for it in answers if it.twin is None and not self._is_late(it, said)]
         self._set_side_by_side(peers, told, extra)
         self.heard = len(peers)
         self.rows = self._make_rows(peers, told, [it for it in extra if it.twin is None])
+
+    def _is_late(self, answer: Answer, said: List[Said]) -> bool:
+        """Whether ours says something when the capture has ended. What does not make good for something that was lacking then is left out, and one at its end
+        has a mark of its own: nobody knows what else the captured host said."""
+        if answer.mark == ELSEWHERE:
+            return False
+        last_of_host = max((it.place for it in said if it.side == HOST), default=-1)
+        if answer.place >= last_of_host and answer.moment > said[-1].moment - LONGEST_WAIT * MILLISECOND:
+            answer.mark = UNKNOWN
+        return answer.place > said[-1].place
 
     def count(self, mark: str) -> int:
         """How many rows have a mark, of those that have answers."""

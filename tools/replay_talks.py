@@ -28,8 +28,9 @@ from testbed_frames import ARP, ICMP, REPLY, REQUEST, TCP, UDP, Datagram, mac_te
 
 # Who says something: a peer, the host that the capture is of, or the one that is played in its place.
 PEER, HOST, OURS = "peer", "host", "ours"
-ECHO_REPLY, UNREACHABLE, ECHO = 0, 3, 8
-PORT_UNREACHABLE = 3
+# Nanoseconds. An acknowledgement waits no longer than so many milliseconds (RFC 1122 section 4.2.3.2): so long ours may answer when the capture has ended.
+MILLISECOND, LONGEST_WAIT = 1_000_000, 500
+UNREACHABLE, PORT_UNREACHABLE = 3, 3
 # Messages that are about a datagram (RFC 792), and those that a host sends of its own accord, which no call of this stack makes.
 ERRORS, OWN_MESSAGES = (3, 4, 5, 11, 12), (8, 10, 13, 15, 17)
 PROTOCOLS = {ICMP: "icmp", TCP: "tcp", UDP: "udp"}
