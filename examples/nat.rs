@@ -120,18 +120,23 @@ mod system {
 /// A datagram with a TCP segment, which is rewritten in place (RFC 791 section 3.1, RFC 9293 section 3.1).
 struct Segment<'a> {
     octets: &'a mut [u8],
+    /// Where the segment begins, and where its data.
     head: usize,
+    data: usize,
 }
 
 impl<'a> Segment<'a> {
-    /// The segment that a datagram carries. None where it carries none, or is a fragment.
+    /// The segment that a datagram carries. None where it carries none, or one without its form, or is a fragment.
     fn of(datagram: &'a mut [u8]) -> Option<Segment<'a>> {
         let length = length_of(datagram)?;
         let octets = &mut datagram[..length];
         let head = usize::from(octets[0] & 15) * 4;
         let is_part = octets[6] & 0x3f != 0 || octets[7] != 0;
-        let is_segment = octets[9] == 6 && head >= 20 && octets.len() >= head + 20;
-        (is_segment && !is_part).then_some(Segment { octets, head })
+        if octets[9] != 6 || is_part || head < 20 || length < head + 20 {
+            return None;
+        }
+        let data = head + usize::from(octets[head + 12] >> 4) * 4;
+        (head + 20..=length).contains(&data).then_some(Segment { octets, head, data })
     }
 
     fn word(&self, at: usize) -> u16 {
@@ -189,9 +194,8 @@ impl<'a> Segment<'a> {
 
     /// Cuts the MSS that a SYN tells to `most` (RFC 9293 section 3.7.1). One that tells none stays so: it stands for 536.
     fn clamp(&mut self, most: u16) {
-        let end = self.head + usize::from(self.octets[self.head + 12] >> 4) * 4;
         let mut at = self.head + 20;
-        while self.has_syn() && at + 4 <= end.min(self.octets.len()) {
+        while self.has_syn() && at + 4 <= self.data {
             match (self.octets[at], usize::from(self.octets[at + 1])) {
                 (0, _) => return,
                 (1, _) => at += 1,
@@ -377,7 +381,8 @@ impl Gateway {
     fn new(options: &Options) -> io::Result<Gateway> {
         let routes = [(HOP, 32, None), (Ipv4Addr::UNSPECIFIED, 0, Some(HOP))].map(|(prefix, length, gateway)| Route { prefix, length, gateway });
         let config = Config::new(HOST_MAC, options.addr, &routes).with_recovery(Recovery::Selective).with_first_segments(10);
-        let host = Host::new(&config.with_least_timeout(200).with_threshold(1 << 30)).map_err(io::Error::other)?;
+        let host = Host::new(&config.with_least_timeout(200).with_threshold(1 << 30))
+            .map_err(|error| io::Error::other(format!("no host can be at {}: {error}", options.addr)))?;
         let (teller, told) = channel();
         let (waker, woken) = UnixStream::pair()?;
         woken.set_nonblocking(true)?;
@@ -706,7 +711,7 @@ fn read_options(mut words: impl Iterator<Item = String>) -> Result<Option<Option
         };
         match word.as_str() {
             "--tun" => options.tun = value,
-            "--addr" => options.addr = value.parse().map_err(|_| format!("'{value}' is no IPv4 address"))?,
+            "--addr" => options.addr = value.parse().ok().filter(|it| *it != HOP).ok_or(format!("'{value}' is no address for the gateway"))?,
             _ => options.mtu = value.parse().ok().filter(|it| (576..=1500).contains(it)).ok_or(format!("'{value}' is no MTU from 576 to 1500"))?,
         }
     }

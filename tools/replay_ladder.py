@@ -4,7 +4,7 @@ from __future__ import annotations
 
 import bisect
 import difflib
-from typing import Dict, Iterable, Iterator, List, NamedTuple, Optional, Sequence, Tuple
+from typing import Dict, Iterable, Iterator, List, NamedTuple, Optional, Sequence, Set, Tuple
 
 from host import Drop
 from replay_packets import ACK, ALL, FIN, HALF, RST, SYN, URG, is_after
@@ -77,6 +77,7 @@ class Told:
         self.end = self.acknowledged = 0
         self.window = -1
         self.again: List[Tuple[int, int]] = []
+        self.has_reset = False
 
     def take(self, answer: Answer) -> Told.Part:
         """What an answer tells that none before it did, and what it tells again."""
@@ -104,10 +105,10 @@ class Told:
         is_repeated: bool
 
     def has(self, part: Told.Part) -> bool:
-        """Whether all of that was told from here too, be it in other segments."""
+        """Whether all of that was told from here too, be it in other segments. Who resets a connection owes no acknowledgement any more."""
         if part.is_repeated or part.end is not None and part.end > self.end:
             return False
-        if part.acknowledged is not None and part.acknowledged > self.acknowledged:
+        if part.acknowledged is not None and part.acknowledged > self.acknowledged and not self.has_reset:
             return False
         return part.again is None or self._came_again(*part.again)
 
@@ -148,11 +149,13 @@ def compare(talk: Talk, captured: List[Answer], ours: List[Answer], is_strict: b
 
 def _excuse(talk: Talk, captured: List[Answer], ours: List[Answer]) -> None:
     """Finds which segments say nothing else than those of the other side, though these are cut or acknowledge otherwise."""
-    told = [Told(talk.first.get(HOST, 0), talk.first.get(PEER, 0)) for _ in range(2)]
-    parts = [[(it, told[side].take(it)) for it in answers if not it.flags & RST] for side, answers in enumerate((captured, ours))]
-    for side, other in ((0, 1), (1, 0)):
-        for answer, part in parts[side]:
-            if answer.mark == OTHERWISE and not answer.flags & SYN and told[other].has(part):
+    sides = [(Told(talk.first.get(HOST, 0), talk.first.get(PEER, 0)), answers) for answers in (captured, ours)]
+    parts = [[(it, told.take(it)) for it in answers if not it.flags & RST] for told, answers in sides]
+    for told, answers in sides:
+        told.has_reset = any(it.flags & RST for it in answers)
+    for mine, (other, _) in zip(parts, reversed(sides)):
+        for answer, part in mine:
+            if answer.mark == OTHERWISE and not answer.flags & SYN and other.has(part):
                 answer.mark = ELSEWHERE
 
 
@@ -203,11 +206,15 @@ class Ladder:
         heard: Dict[Talk, List[int]] = {}
         for said in peers:
             heard.setdefault(said.talk, []).append(said.place)
-        waiting: Dict[Tuple[Talk, int, str], List[Answer]] = {}
+
+        def where(answer: Answer) -> Tuple[Talk, int, bool]:
+            return answer.talk, bisect.bisect_right(heard.get(answer.talk, []), answer.place), answer.mark == ELSEWHERE
+
+        waiting: Dict[Tuple[Talk, int, bool], List[Answer]] = {}
         for answer in extra:
-            waiting.setdefault((answer.talk, bisect.bisect_right(heard.get(answer.talk, []), answer.place), answer.mark), []).append(answer)
+            waiting.setdefault(where(answer), []).append(answer)
         for answer in told:
-            beside = waiting.get((answer.talk, bisect.bisect_right(heard.get(answer.talk, []), answer.place), answer.mark))
+            beside = waiting.get(where(answer))
             if answer.twin is None and beside:
                 answer.twin, beside[0].twin = beside[0], answer
                 del beside[0]
@@ -262,15 +269,16 @@ def lines_of(rows: Sequence[Row], host: str, around: Optional[int]) -> Iterator[
     heads = "the peer sent", f"{host} answered", "ours answered"
     wide = [min(MOST_COLUMNS, max([len(head)] + [len(texts) for texts in column])) for head, column in zip(heads, _columns(rows))]
     yield f"{'seconds':>12}      {_cell(heads[0], wide[0])}  {_cell(heads[1], wide[1])}    {heads[2]}"
-    numbers: Dict[Talk, int] = {}
+    numbers = {talk: number + 1 for number, talk in enumerate(dict.fromkeys(row.talk for row in rows))}
+    named: Set[Talk] = set()
     last = -1
     for at in shown:
         row = rows[at]
         if at != last + 1:
             yield f"{'..':>12}"
         last = at
-        if row.talk not in numbers:
-            numbers[row.talk] = len(numbers) + 1
+        if row.talk not in named:
+            named.add(row.talk)
             yield f"{'':12} {numbers[row.talk]:>3} = {row.talk.name_of(host)}"
         moment = (row.moment - rows[0].moment) / 1_000_000_000
         cells = f"{_cell(row.peer, wide[0])}  {_cell(row.captured, wide[1])}"

@@ -155,7 +155,7 @@ class Talks:
         self.macs.setdefault(self.addr, frame[6:12] if side == HOST else frame[:6])
         self.macs.setdefault(peer, frame[:6] if side == HOST else frame[6:12])
         whole = self._parts.add(datagram)
-        if side == HOST and not _is_answer(datagram):
+        if side == HOST and not _is_answer(whole or datagram):
             return self._left("that the host sent of its own accord and no call of this stack makes")
         return self._said(side, frame, moment, self._talk_of(side, peer, datagram), datagram, whole)
 
