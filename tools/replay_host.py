@@ -15,6 +15,7 @@ from replay_packets import (
     FIN,
     MOST_FRAME,
     RST,
+    SEGMENT_SIZE,
     SELECTIVE,
     SYN,
     WINDOW_SCALE,
@@ -52,6 +53,7 @@ class Use:
     came: int = 0  # the peer's next number
     acknowledged: Optional[int] = None  # what the peer acknowledged, where ours had not sent it yet
     frame: bytes = b""  # the frame that did
+    lacking: Optional[List[Tuple[int, int]]] = None  # positions of the peer's stream that the capture lacks and ours has not either
 
 
 class Play:
@@ -67,7 +69,7 @@ class Play:
         self.answers: List[Said] = []
         self.drops: Dict[int, Drop] = {}
         self.notes: List[str] = []
-        self.held_back = 0
+        self.held_back = self.made_up = 0
         self._now = self._place = self._moment = 0
         self._begin = talks.said[0].moment if talks.said else 0
         self._uses: Dict[Talk, Use] = {}
@@ -114,7 +116,7 @@ class Play:
             self._prepare_port(talk)
         if talk.kind == "udp" and said.datagram is not None and not said.datagram.offset:
             self._prepare_datagrams(talk)
-        for frame in pieces(said.frame):
+        for frame in self._lacking_before(said) + pieces(said.frame):
             if len(frame) > MOST_FRAME:
                 self.notes.append(f"a datagram of {talk.name_of(self._addr)} is longer than a frame, and was not played")
                 return
@@ -123,6 +125,22 @@ class Play:
                 self.drops[said.place] = drop
             self._serve(talk)
             self._drain()
+
+    def _lacking_before(self, said: Said) -> List[bytes]:
+        """Frames of zeros in the place of those before this one that the captured host had got, and the capture lacks."""
+        segment, talk = said.segment, said.talk
+        if segment is None or PEER not in talk.first or segment.flags & RST:
+            return []
+        use = self._use(talk)
+        use.lacking = talk.lacking() if use.lacking is None else use.lacking
+        frames = []
+        while use.lacking and use.lacking[0][1] <= talk.position(segment.number, use.lacking[0][1]):
+            begin, end = use.lacking.pop(0)
+            self.made_up += end - begin
+            for at in range(begin, end, SEGMENT_SIZE):
+                number, size = (talk.first[PEER] + at) % ALL, min(SEGMENT_SIZE, end - at)
+                frames.append(with_segment(said.frame, number, segment.acknowledged, ACK, b"", bytes(size)))
+        return frames
 
     def _prepare_port(self, talk: Talk) -> None:
         """Before a SYN of a peer: there is a listener where the captured host took the connection, and none where it refused it."""

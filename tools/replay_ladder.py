@@ -7,7 +7,7 @@ import difflib
 from typing import Dict, Iterable, Iterator, List, NamedTuple, Optional, Sequence, Set, Tuple
 
 from host import Drop
-from replay_packets import ACK, ALL, FIN, HALF, RST, SYN, URG, is_after
+from replay_packets import ACK, ALL, FIN, RST, SYN, URG, is_after, nearest
 from replay_talks import HOST, LONGEST_WAIT, MILLISECOND, PEER, Said, Talk, key_of, text_of
 
 # Marks: the same; the same in other segments, or told by another one; otherwise; and perhaps the same, where the capture ends too early to tell.
@@ -16,11 +16,6 @@ FLAGS = "FSRPAUEC"
 # What of a segment's flags is compared. PSH follows from how octets are cut, ECE and CWR are an extension.
 COMPARED = FIN | SYN | RST | ACK | URG
 MOST_COLUMNS = 64
-
-
-def nearest(number: int, position: int) -> int:
-    """The position, counted without wrapping, that a sequence number has and that is nearest to another."""
-    return position + (number - position + HALF) % ALL - HALF
 
 
 class Answer:

@@ -20,6 +20,8 @@ MOST_RECORD = 1 << 20
 FIN, SYN, RST, PSH, ACK, URG = 1, 2, 4, 8, 16, 32
 # Sequence numbers are those below ALL, and compared by the sign of their difference.
 ALL, HALF = 1 << 32, 1 << 31
+# The most octets of a segment in a frame.
+SEGMENT_SIZE = 1460
 # Options of TCP (RFC 9293 section 3.1, RFC 7323, RFC 2018).
 END_OF_OPTIONS, NO_OPERATION, WINDOW_SCALE, SELECTIVE = 0, 1, 3, 4
 # Where the checksum of a protocol stands.
@@ -59,6 +61,11 @@ class Segment(NamedTuple):
 def is_after(one: int, other: int) -> bool:
     """Whether a sequence number is past another."""
     return 0 < (one - other) % ALL < HALF
+
+
+def nearest(number: int, position: int) -> int:
+    """The position, counted without wrapping, that a sequence number has and that is nearest to another."""
+    return position + (number - position + HALF) % ALL - HALF
 
 
 def read_capture(path: str) -> Tuple[List[Record], bool]:

@@ -21,6 +21,7 @@ from replay_packets import (
     ipv4_of,
     mended,
     name_of,
+    nearest,
     options_of,
     read_segment,
 )
@@ -51,6 +52,9 @@ class Talk:
         # Options that the host's SYN had, and whether it reset the connection once it had closed its side.
         self.agreed: Tuple[int, ...] = ()
         self.is_closed = self.is_reset_at_end = False
+        # Which positions of the peer's stream the capture has, and up to which the host acknowledged it. The SYN is position 0.
+        self._came: List[Tuple[int, int]] = []
+        self._acknowledged = 0
 
     @property
     def ends(self) -> Tuple[str, int, int, int]:
@@ -85,6 +89,24 @@ class Talk:
         if by_host:
             self.is_heard = self.is_heard or not segment.flags & RST
             self.is_closed = self.is_closed or bool(segment.flags & FIN)
+            if segment.flags & ACK:
+                self._acknowledged = max(self._acknowledged, self.position(segment.acknowledged, self._acknowledged))
+        elif segment.span:
+            begin = self.position(segment.number, self._came[-1][1] if self._came else 0)
+            self._came.append((begin, begin + segment.span))
+
+    def position(self, number: int, near: int) -> int:
+        """The position of the peer's stream that a number of it has."""
+        return nearest(number - self.first.get(PEER, 0), near)
+
+    def lacking(self) -> List[Tuple[int, int]]:
+        """The positions that the host acknowledged, though the capture lacks them and has later ones: the capturing machine lost their frames."""
+        found, end = [], 0
+        for begin, behind in sorted(self._came):
+            if end < begin <= self._acknowledged:
+                found.append((end, begin))
+            end = max(end, behind)
+        return found
 
     def begins_anew(self, side: str, segment: Segment) -> bool:
         """Whether a segment opens a further connection of the same pair."""
