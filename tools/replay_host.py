@@ -4,8 +4,10 @@ capture, and the program's calls are those that the captured host's frames tell 
 from __future__ import annotations
 
 import dataclasses
+import errno
 import ipaddress
 import struct
+from collections import Counter
 from typing import Dict, List, Optional, Tuple
 
 from host import Drop, Host, Kind, Recovery
@@ -68,7 +70,7 @@ class Play:
             raise Refused(f"no host can be at {self._addr} with the MAC {self.mac.hex(':')}: {error.strerror}") from None
         self.answers: List[Said] = []
         self.drops: Dict[int, Drop] = {}
-        self.notes: List[str] = []
+        self.notes: Counter[str] = Counter()
         self.held_back = self.made_up = 0
         self._now = self._place = self._moment = 0
         self._begin = talks.said[0].moment if talks.said else 0
@@ -118,7 +120,7 @@ class Play:
             self._prepare_datagrams(talk)
         for frame in self._lacking_before(said) + pieces(said.frame):
             if len(frame) > MOST_FRAME:
-                self.notes.append(f"a datagram of {talk.name_of(self._addr)} is longer than a frame, and was not played")
+                self.notes[f"a datagram of {talk.name_of(self._addr)} is longer than a frame, and was not played"] += 1
                 return
             drop = self.host.deliver(self._now, talk.first.get(HOST, 0), self._fitted(talk, frame))
             if drop is not None:
@@ -148,8 +150,8 @@ class Play:
         if talk.is_refused and talk.port in self._listeners:
             self.host.close(self._listeners.pop(talk.port))
         elif talk.is_taken and talk.port not in self._listeners:
-            listener = self.host.socket()
-            if self._bind(listener, talk.port):
+            listener = self._socket(Kind.TCP, talk.port)
+            if listener is not None:
                 self.host.listen(listener, BACKLOG)
                 self._listeners[talk.port] = listener
 
@@ -157,20 +159,25 @@ class Play:
         """There is a socket at a UDP port, unless the captured host told that there is none."""
         is_wanted = talk.is_taken or not talk.is_refused
         if is_wanted and talk.port not in self._datagrams:
-            id = self.host.socket(Kind.UDP)
-            if self._bind(id, talk.port):
+            id = self._socket(Kind.UDP, talk.port)
+            if id is not None:
                 self._datagrams[talk.port] = id
         elif not is_wanted and talk.port in self._datagrams:
             self.host.close(self._datagrams.pop(talk.port))
 
-    def _bind(self, id: int, port: int) -> bool:
+    def _socket(self, kind: Kind, port: int) -> Optional[int]:
+        """A socket that is bound to a port; None where there can't be one."""
+        id = None
         try:
+            id = self.host.socket(kind)
             self.host.bind(id, ("0.0.0.0", port))
-            return True
+            return id
         except OSError as error:
-            self.notes.append(f"no socket can be bound to port {port}: {error.strerror}")
-            self.host.close(id)
-            return False
+            where = "" if error.errno == errno.EMFILE else f" at port {port}"
+            self.notes[f"no {kind.name} socket can be had{where}: {error.strerror}"] += 1
+            if id is not None:
+                self.host.close(id)
+            return None
 
     def _fitted(self, talk: Talk, frame: bytes) -> bytes:
         """The frame as the peer would have sent it to ours: a SYN without the options that the captured host didn't have, and no acknowledgement of what ours
@@ -220,7 +227,7 @@ class Play:
             try:
                 self.host.sendto(self._datagrams[talk.port], (talk.peer, talk.peer_port), octets)
             except OSError as error:
-                self.notes.append(f"a datagram of {talk.name_of(self._addr)} can't be sent: {error.strerror}")
+                self.notes[f"a datagram of {talk.name_of(self._addr)} can't be sent: {error.strerror}"] += 1
 
     def _follow_segment(self, talk: Talk, segment: Segment) -> None:
         use = self._use(talk)
@@ -237,15 +244,15 @@ class Play:
             self._push(talk, use)
 
     def _connect(self, talk: Talk, use: Use, segment: Segment) -> None:
-        id = self.host.socket()
-        if not self._bind(id, talk.port):
+        id = self._socket(Kind.TCP, talk.port)
+        if id is None:
             return
         try:
             self.host.connect(self._now, segment.number, id, (talk.peer, talk.peer_port))
             self.host.set_nodelay(id)
             use.id = id
         except OSError as error:
-            self.notes.append(f"{talk.name_of(self._addr)} can't be opened: {error.strerror}")
+            self.notes[f"{talk.name_of(self._addr)} can't be opened: {error.strerror}"] += 1
             self.host.close(id)
 
     def _take_octets(self, use: Use, segment: Segment) -> None:

@@ -151,7 +151,7 @@ class Talks:
     def _leave_unknown(self) -> None:
         unknown = sum(not it.talk.is_known for it in self.said)
         if unknown:
-            self.left_out["of connections that began before the capture"] = unknown
+            self.left_out["of connections whose begin the capture lacks"] = unknown
         self.said = [it for it in self.said if it.talk.is_known]
 
     def hear_arp(self, frame: bytes, moment: int) -> Optional[Said]:
