@@ -16,6 +16,7 @@ from replay_packets import (
     ALL,
     FIN,
     MOST_FRAME,
+    MOST_LACKING,
     RST,
     SEGMENT_SIZE,
     SELECTIVE,
@@ -45,7 +46,7 @@ class Use:
     """A connection in use: the socket that has it; what the captured host had sent and its program is still to give; and the numbers of both sides."""
 
     id: int = 0
-    unsent: bytes = b""
+    unsent: bytearray = dataclasses.field(default_factory=bytearray)
     given: Optional[int] = None  # the captured host's next number
     is_closing: bool = False  # its FIN was seen
     is_closed: bool = False  # our side is closed
@@ -53,8 +54,9 @@ class Use:
     is_over: bool = False  # the socket is gone, or failed
     sent: Optional[int] = None  # our next number
     came: int = 0  # the peer's next number
-    acknowledged: Optional[int] = None  # what the peer acknowledged, where ours had not sent it yet
-    frame: bytes = b""  # the frame that did
+    acknowledged: Optional[int] = None  # what the peer acknowledged, where ours had not sent it yet,
+    frame: bytes = b""  # the frame that did,
+    told: int = 0  # and how much of that was delivered
     lacking: Optional[List[Tuple[int, int]]] = None  # positions of the peer's stream that the capture lacks and ours has not either
 
 
@@ -193,19 +195,19 @@ class Play:
             lacking = tuple(kind for kind in (WINDOW_SCALE, SELECTIVE) if kind not in talk.agreed)
             return without_options(frame, lacking) if talk.is_taken and segment.options else frame
         if segment.flags & ACK and not segment.flags & (RST | SYN) and use.sent is not None and is_after(segment.acknowledged, use.sent):
-            use.acknowledged, use.frame = segment.acknowledged, frame
+            use.acknowledged, use.frame, use.told = segment.acknowledged, frame, use.sent
             self.held_back += 1
             return with_segment(frame, segment.number, use.sent, segment.flags, segment.options, segment.data)
         return frame
 
     def _acknowledge(self, talk: Talk, use: Use) -> None:
-        """The peer acknowledges what ours has sent by now, as far as it had in the capture."""
-        assert use.acknowledged is not None and use.sent is not None
+        """The peer acknowledges what ours has sent more by now, as far as it had in the capture."""
+        if use.acknowledged is None or use.sent is None or not is_after(use.sent, use.told):
+            return
         is_all = not is_after(use.acknowledged, use.sent)
-        number = use.acknowledged if is_all else use.sent
-        frame = with_segment(use.frame, use.came, number, ACK, b"", b"")
+        use.told = use.acknowledged if is_all else use.sent
         use.acknowledged = None if is_all else use.acknowledged
-        self.host.deliver(self._now, 0, frame)
+        self.host.deliver(self._now, 0, with_segment(use.frame, use.came, use.told, ACK, b"", b""))
         self._serve(talk)
 
     # The calls of the program.
@@ -260,8 +262,8 @@ class Play:
         if use.given is None:
             use.given = segment.number
         end = (segment.number + len(segment.data)) % ALL
-        if is_after(end, use.given) and not use.is_closing:
-            new = (end - use.given) % ALL
+        new = (end - use.given) % ALL
+        if 0 < new <= MOST_LACKING and not use.is_closing:
             use.unsent += segment.data[-new:].rjust(new, b"\0")
             use.given = end
         use.is_closing = use.is_closing or bool(segment.flags & FIN)
@@ -271,8 +273,8 @@ class Play:
         if not use.id or use.is_over:
             return
         try:
-            while use.unsent and (taken := self.host.try_send(use.id, use.unsent)):
-                use.unsent = use.unsent[taken:]
+            while use.unsent and (room := self.host.send_room(use.id)):
+                del use.unsent[: self.host.send(use.id, use.unsent[:room])]
             if use.is_closing and not use.unsent and not use.is_closed:
                 self.host.shutdown_write(use.id)
                 use.is_closed = True
@@ -328,7 +330,7 @@ class Play:
         while frame := self.host.next_frame(self._now):
             talk = self._take_frame(frame)
             use = None if talk is None else self._uses.get(talk)
-            if talk is not None and use is not None and use.acknowledged is not None and use.sent is not None:
+            if talk is not None and use is not None:
                 self._acknowledge(talk, use)
 
     def _take_frame(self, frame: bytes) -> Optional[Talk]:

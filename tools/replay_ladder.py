@@ -7,7 +7,7 @@ import difflib
 from typing import Dict, Iterable, Iterator, List, NamedTuple, Optional, Sequence, Set, Tuple
 
 from host import Drop
-from replay_packets import ACK, ALL, FIN, RST, SYN, URG, is_after, nearest
+from replay_packets import ACK, ALL, FIN, MOST_LACKING, RST, SYN, URG, is_after, nearest
 from replay_talks import HOST, LONGEST_WAIT, MILLISECOND, PEER, Said, Talk, key_of, text_of
 
 # Marks: the same; the same in other segments, or told by another one; otherwise; and perhaps the same, where the capture ends too early to tell.
@@ -64,6 +64,18 @@ class Answer:
         return len(self.data) + bool(self.flags & SYN) + bool(self.flags & FIN)
 
 
+class Part(NamedTuple):
+    """Where octets begin, and these; where new ones end, which come again, what is acknowledged, and whether it says nothing but what was said, as a
+    duplicate ACK."""
+
+    begin: int
+    data: bytes
+    end: Optional[int]
+    again: Optional[Tuple[int, int]]
+    acknowledged: Optional[int]
+    is_repeated: bool
+
+
 class Told:
     """What a side has told its peer in a connection: positions are counted from its SYN, which is 0, without wrapping."""
 
@@ -71,39 +83,42 @@ class Told:
         self.first, self.peer_first = first, peer_first
         self.end = self.acknowledged = 0
         self.window = -1
+        self.octets = bytearray(1)  # in the place of the SYN stands a 0
         self.again: List[Tuple[int, int]] = []
         self.has_reset = False
 
-    def take(self, answer: Answer) -> Told.Part:
+    def take(self, answer: Answer) -> Part:
         """What an answer tells that none before it did, and what it tells again."""
         segment = answer.segment
         assert segment is not None
         begin = nearest(segment.number - self.first, self.end)
         end = begin + answer.span
-        part = self.Part(end if end > self.end else None, (begin, min(end, self.end)) if begin < self.end and end > begin else None, None, False)
+        again = (begin, min(end, self.end)) if begin < self.end and end > begin else None
+        part = Part(begin, answer.data, end if end > self.end else None, again, None, False)
+        self._keep(part)
         if segment.flags & ACK:
             acknowledged = nearest(answer.acknowledged - self.peer_first, self.acknowledged)
             is_new = acknowledged > self.acknowledged
             part = part._replace(acknowledged=acknowledged, is_repeated=not is_new and end == begin and answer.window == self.window)
             self.acknowledged = max(acknowledged, self.acknowledged)
-        if part.again:
-            self.again.append(part.again)
+        if again is not None:
+            self.again.append(again)
         self.end, self.window = max(end, self.end), answer.window
         return part
 
-    class Part(NamedTuple):
-        """Where new octets end, which come again, what is acknowledged, and whether it says nothing but what was said, as a duplicate ACK."""
+    def _keep(self, part: Part) -> None:
+        """Keeps octets at their place; those that the capture lacks are 0."""
+        if part.data and 0 < part.begin <= len(self.octets) + MOST_LACKING:
+            self.octets.extend(bytes(max(0, part.begin - len(self.octets))))
+            self.octets[part.begin : part.begin + len(part.data)] = part.data
 
-        end: Optional[int]
-        again: Optional[Tuple[int, int]]
-        acknowledged: Optional[int]
-        is_repeated: bool
-
-    def has(self, part: Told.Part) -> bool:
+    def has(self, part: Part) -> bool:
         """Whether all of that was told from here too, be it in other segments. Who resets a connection owes no acknowledgement any more."""
         if part.is_repeated or part.end is not None and part.end > self.end:
             return False
         if part.acknowledged is not None and part.acknowledged > self.acknowledged and not self.has_reset:
+            return False
+        if self.octets[max(0, part.begin) : part.begin + len(part.data)] != part.data:
             return False
         return part.again is None or self._came_again(*part.again)
 
@@ -177,20 +192,21 @@ class Ladder:
         for talk in {**captured, **ours}:
             compare(talk, captured.get(talk, []), ours.get(talk, []), is_strict)
         told = [it for answers in captured.values() for it in answers]
-        extra = [it for answers in ours.values() for it in answers if it.twin is None and not self._is_late(it, said)]
+        self._last_of_host = max((it.place for it in said if it.side == HOST), default=-1)
+        self._last = said[-1]
+        extra = [it for answers in ours.values() for it in answers if it.twin is None and not self._is_late(it)]
         self._set_side_by_side(peers, told, extra)
         self.heard = len(peers)
         self.rows = self._make_rows(peers, told, [it for it in extra if it.twin is None])
 
-    def _is_late(self, answer: Answer, said: List[Said]) -> bool:
+    def _is_late(self, answer: Answer) -> bool:
         """Whether ours says something when the capture has ended. What does not make good for something that was lacking then is left out, and one at its end
         has a mark of its own: nobody knows what else the captured host said."""
         if answer.mark == ELSEWHERE:
             return False
-        last_of_host = max((it.place for it in said if it.side == HOST), default=-1)
-        if answer.place >= last_of_host and answer.moment > said[-1].moment - LONGEST_WAIT * MILLISECOND:
+        if answer.place >= self._last_of_host and answer.moment > self._last.moment - LONGEST_WAIT * MILLISECOND:
             answer.mark = UNKNOWN
-        return answer.place > said[-1].place
+        return answer.place > self._last.place
 
     def count(self, mark: str) -> int:
         """How many rows have a mark, of those that have answers."""
@@ -251,7 +267,8 @@ class Ladder:
             return str(number)
         if side not in talk.first:
             return f"={number}"
-        return str(nearest(number - talk.first[side], 0) if nearest(number - talk.first[side], 0) >= -1 else (number - talk.first[side]) % ALL)
+        position = (number - talk.first[side]) % ALL
+        return str(-1 if position == ALL - 1 else position)  # a probe of a silent peer may stand below the SYN
 
 
 def lines_of(rows: Sequence[Row], host: str, around: Optional[int]) -> Iterator[str]:

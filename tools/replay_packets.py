@@ -20,8 +20,8 @@ MOST_RECORD = 1 << 20
 FIN, SYN, RST, PSH, ACK, URG = 1, 2, 4, 8, 16, 32
 # Sequence numbers are those below ALL, and compared by the sign of their difference.
 ALL, HALF = 1 << 32, 1 << 31
-# The most octets of a segment in a frame.
-SEGMENT_SIZE = 1460
+# The most octets of a segment in a frame, and the most that a capture may lack in one place: what is further off is none of the stream.
+SEGMENT_SIZE, MOST_LACKING = 1460, 1 << 24
 # Options of TCP (RFC 9293 section 3.1, RFC 7323, RFC 2018).
 END_OF_OPTIONS, NO_OPERATION, WINDOW_SCALE, SELECTIVE = 0, 1, 3, 4
 # Where the checksum of a protocol stands.

@@ -12,6 +12,7 @@ from typing import Dict, Iterable, List, NamedTuple, Optional, Tuple
 from replay_packets import (
     ACK,
     FIN,
+    MOST_LACKING,
     RST,
     SYN,
     Reassembly,
@@ -103,7 +104,7 @@ class Talk:
         """The positions that the host acknowledged, though the capture lacks them and has later ones: the capturing machine lost their frames."""
         found, end = [], 0
         for begin, behind in sorted(self._came):
-            if end < begin <= self._acknowledged:
+            if end < begin <= min(self._acknowledged, end + MOST_LACKING):
                 found.append((end, begin))
             end = max(end, behind)
         return found
