@@ -2,7 +2,7 @@
    driver's own: it jumps to the next moment at which a frame arrives or a timer acts, so that seconds here are those of the hosts. */
 #define _POSIX_C_SOURCE 200809L
 
-#include "joined.h"
+#include "wire.h"
 
 #include <inttypes.h>
 #include <stdio.h>
@@ -13,28 +13,16 @@
 
 enum {
     OCTETS = 10 << 20,
-    RUNS = 9,                                      /* of each kind, each with losses of its own; odd, so that there is a middle one */
-    WIRE_SIZE = 8192,                              /* frames: more than the largest windows of them, and all that acknowledge these */
-    LONGEST = 100000000,                           /* milliseconds, behind which a run has come to a halt */
-    ETHERNET_SIZE = 14,
-    IPV4_TYPE = 0x0800,
-    IPV4_SIZE = 20,                                /* without options */
-    SYN = 2
-};
-
-struct frame {
-    enum end from;
-    bool is_lost;
-    uint64_t arrives;
-    size_t len;
-    uint8_t octets[FRAME_SIZE];
+    RUNS = 9,            /* of each kind, each with losses of its own; odd, so that there is a middle one */
+    LONGEST = 100000000, /* milliseconds, behind which a run has come to a halt */
+    READ_SIZE = 65536,
+    PORT = 80
 };
 
 /* What a run is to be. */
 struct load {
     const struct stack *stacks[ENDS];
-    uint64_t delay, seed;                          /* milliseconds on the wire; which losses */
-    uint64_t loss;                                 /* frames in 100 that are lost, each way */
+    struct faults faults;
 };
 
 /* What it did. */
@@ -42,17 +30,11 @@ struct run {
     uint64_t milliseconds, resent;
 };
 
-uint64_t moment;
-
 static struct load load;
-static struct frame wire[WIRE_SIZE];               /* a ring: all frames take the same time */
-static size_t wire_first, wire_count;
-static bool loses;                                 /* once the connection is open */
-static uint64_t chance[ENDS];
-static uint8_t source[OCTETS], sink[OCTETS];
+static uint64_t ids[ENDS];
+static bool moves;       /* once the connection is open */
+static uint8_t source[OCTETS];
 static size_t written, read_so_far;
-static uint64_t resent;                            /* segments of the near host without an octet that none before had */
-static uint32_t top;                               /* the sequence number behind them */
 
 void fail(const char *what)
 {
@@ -60,175 +42,85 @@ void fail(const char *what)
     exit(1);
 }
 
-/* ---- The wire ------------------------------------------------------------------------------------------------------------------------ */
-
-/* Marsaglia's xorshift: the same numbers in each run. */
-static uint64_t drawn(uint64_t *state)
-{
-    *state ^= *state << 13;
-    *state ^= *state >> 7;
-    *state ^= *state << 17;
-    return *state;
-}
-
-static uint32_t number_at(const uint8_t *at, size_t len)
-{
-    uint32_t number = 0;
-    for (size_t i = 0; i < len; i++) {
-        number = number << 8 | at[i];
-    }
-    return number;
-}
-
-/* Compares the octets of data of a frame of the near host with those before. */
-static void count_resent(const uint8_t *frame)
-{
-    const uint8_t *tcp = frame + ETHERNET_SIZE + IPV4_SIZE;
-    if (number_at(frame + 12, 2) != IPV4_TYPE) {
-        return;
-    }
-    const uint32_t seq = number_at(tcp + 4, 4);
-    if ((tcp[13] & SYN) != 0) {
-        top = seq + 1;
-        return;
-    }
-    const uint32_t data = number_at(frame + ETHERNET_SIZE + 2, 2) - IPV4_SIZE - (uint32_t)(tcp[12] >> 4) * 4;
-    if (data != 0 && (int32_t)(seq + data - top) > 0) {
-        top = seq + data;
-    } else if (data != 0) {
-        resent++;
-    }
-}
-
-static struct frame *frame_at(size_t place)
-{
-    return &wire[(wire_first + place) % WIRE_SIZE];
-}
-
-uint8_t *wire_place(void)
-{
-    if (wire_count == WIRE_SIZE) {
-        fail("the wire is full");
-    }
-    return frame_at(wire_count)->octets;
-}
-
-/* The losses of a seed are the same frames, by their count from each host, whatever the hosts are. */
-void wire_push(enum end end, size_t len)
-{
-    struct frame *frame = frame_at(wire_count);
-    frame->from = end;
-    frame->arrives = moment + load.delay;
-    frame->len = len;
-    frame->is_lost = loses && (drawn(&chance[end]) >> 32) % 100 < load.loss;
-    wire_count++;
-    if (end == NEAR) {
-        count_resent(frame->octets);
-    }
-}
-
 /* ---- The application ----------------------------------------------------------------------------------------------------------------- */
 
-void was_read(const uint8_t *octets, size_t len)
+/* The near host has as much to write as it takes. */
+static void write_octets(void)
 {
-    if (len > OCTETS - read_so_far) {
-        fail("more was read than was written");
+    if (written < OCTETS) {
+        written += stacks[NEAR]->send(NEAR, ids[NEAR], source + written, OCTETS - written);
     }
-    memcpy(sink + read_so_far, octets, len);
-    read_so_far += len;
 }
 
-/* The near host has as much to write as it takes, and the far one reads all there is. */
+/* The far one reads all there is. */
+static void read_octets(void)
+{
+    static uint8_t buffer[READ_SIZE];
+    for (size_t len; (len = stacks[FAR]->recv(FAR, ids[FAR], buffer, sizeof buffer)) != 0;) {
+        if (len > OCTETS - read_so_far || memcmp(buffer, source + read_so_far, len) != 0) {
+            fail("other octets were read than were written");
+        }
+        read_so_far += len;
+    }
+}
+
 static void work(enum end end)
 {
-    if (loses && end == NEAR && written < OCTETS) {
-        written += load.stacks[NEAR]->send(source + written, OCTETS - written);
-    } else if (loses && end == FAR) {
-        load.stacks[FAR]->read();
-    }
-    load.stacks[end]->emit(end);
-}
-
-/* The first frame that is on the wire arrives. */
-static void hear(void)
-{
-    const struct frame *frame = frame_at(0);
-    const enum end end = frame->from == NEAR ? FAR : NEAR;
-    if (!frame->is_lost) {
-        load.stacks[end]->deliver(end, frame->octets, frame->len);
-    }
-    const bool is_lost = frame->is_lost;
-    wire_first = (wire_first + 1) % WIRE_SIZE;
-    wire_count--;
-    if (!is_lost) {
-        work(end);
+    if (!moves && end == FAR && ids[FAR] == 0) {
+        ids[FAR] = stacks[FAR]->accept(FAR);
+    } else if (moves && end == NEAR) {
+        write_octets();
+    } else if (moves) {
+        read_octets();
     }
 }
 
-/* The clock jumps to the next moment at which there is something to do, a millisecond at least. */
-static void pass_time(void)
+static bool is_open(enum end end)
 {
-    uint64_t next = wire_count == 0 ? UINT64_MAX : frame_at(0)->arrives;
-    for (int end = NEAR; end < ENDS; end++) {
-        const uint64_t timer = load.stacks[end]->next((enum end)end);
-        next = timer < next ? timer : next;
-    }
-    if (next == UINT64_MAX || next > LONGEST) {
+    return ids[end] != 0 && stacks[end]->standing(end, ids[end]) == OPEN;
+}
+
+static void go_on_or_fail(void)
+{
+    go_on(LONGEST, work);
+    if (moment >= LONGEST) {
         fail("nothing moves");
-    }
-    moment = next > moment ? next : moment + 1;
-    for (int end = NEAR; end < ENDS; end++) {
-        load.stacks[end]->tick((enum end)end);
-        work((enum end)end);
-    }
-}
-
-static void go_on(void)
-{
-    if (wire_count != 0 && frame_at(0)->arrives <= moment) {
-        hear();
-    } else {
-        pass_time();
     }
 }
 
 /* ---- Runs ---------------------------------------------------------------------------------------------------------------------------- */
 
-static void set_chance(void)
+/* Opens the connection, of which nothing is lost. */
+static void open_connection(void)
 {
-    for (int end = NEAR; end < ENDS; end++) {
-        chance[end] = (2 * load.seed + (uint64_t)end + 1) * 0x9E3779B97F4A7C15;
+    const struct faults none = {.delay = load.faults.delay};
+    moment = 1;
+    wire_set(&none);
+    memcpy(stacks, load.stacks, sizeof stacks);
+    stacks[FAR]->make(FAR);
+    stacks[FAR]->listen(FAR, PORT);
+    stacks[NEAR]->make(NEAR);
+    ids[NEAR] = stacks[NEAR]->connect(NEAR, 0, PORT);
+    let_work(NEAR, work);
+    while (!is_open(NEAR) || !is_open(FAR)) {
+        go_on_or_fail();
     }
 }
 
-/* A run begins once the connection is open, which nothing is lost of. */
+/* A run begins once the connection is open. */
 static struct run transfer(void)
 {
     struct run run;
-    moment = 1;
-    set_chance();
-    for (int end = FAR; end >= NEAR; end--) {
-        load.stacks[end]->open((enum end)end);
-        load.stacks[end]->emit((enum end)end);
-    }
-    bool is_open[ENDS] = {false};
-    while (!is_open[NEAR] || !is_open[FAR]) {
-        go_on();
-        for (int end = NEAR; end < ENDS; end++) {
-            is_open[end] = load.stacks[end]->is_open((enum end)end);
-        }
-    }
+    open_connection();
     const uint64_t before = moment;
-    loses = true;
-    work(NEAR);
+    wire_set(&load.faults);
+    moves = true;
+    let_work(NEAR, work);
     while (read_so_far < OCTETS) {
-        go_on();
-    }
-    if (memcmp(source, sink, OCTETS) != 0) {
-        fail("other octets were read than were written");
+        go_on_or_fail();
     }
     run.milliseconds = moment - before;
-    run.resent = resent;
+    run.resent = traffic[NEAR].resent;
     return run;
 }
 
@@ -254,7 +146,7 @@ static struct run transfer_apart(void)
     close(ends[0]);
     if (waitpid(child, &status, 0) != child || status != 0 || !came) {
         fprintf(stderr, "joined: %s to %s, %" PRIu64 " ms late, %" PRIu64 " %% lost, losses %" PRIu64 "\n", load.stacks[NEAR]->name,
-                load.stacks[FAR]->name, load.delay, load.loss, load.seed);
+                load.stacks[FAR]->name, load.faults.delay, load.faults.loss, load.faults.seed);
         fail("a run failed");
     }
     return run;
@@ -283,10 +175,10 @@ static int compare(const void *one, const void *other)
 static void print_runs(uint64_t runs)
 {
     uint64_t milliseconds[RUNS], again[RUNS];
-    for (load.seed = 0; load.seed < runs; load.seed++) {
+    for (load.faults.seed = 0; load.faults.seed < runs; load.faults.seed++) {
         const struct run run = transfer_apart();
-        milliseconds[load.seed] = run.milliseconds;
-        again[load.seed] = run.resent;
+        milliseconds[load.faults.seed] = run.milliseconds;
+        again[load.faults.seed] = run.resent;
     }
     qsort(milliseconds, runs, sizeof milliseconds[0], compare);
     qsort(again, runs, sizeof again[0], compare);
@@ -310,13 +202,13 @@ int main(void)
     }
     for (int d = 0; d < DELAYS; d++) {
         for (int l = 0; l < LOSSES; l++) {
-            load.delay = delays[d];
-            load.loss = losses[l];
-            printf("%" PRIu64 " ms late, %" PRIu64 " %% lost: seconds, and segments sent again, each the least, middle and most\n", load.delay,
-                   load.loss);
+            load.faults.delay = delays[d];
+            load.faults.loss = losses[l];
+            printf("%" PRIu64 " ms late, %" PRIu64 " %% lost: seconds, and segments sent again, each the least, middle and most\n", load.faults.delay,
+                   load.faults.loss);
             for (int p = 0; p < PAIRS; p++) {
                 memcpy(load.stacks, pairs[p], sizeof load.stacks);
-                print_runs(load.loss == 0 ? 1 : RUNS);
+                print_runs(load.faults.loss == 0 ? 1 : RUNS);
             }
         }
     }

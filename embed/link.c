@@ -145,8 +145,10 @@ static void side_put(struct side *side, uint64_t now, const uint8_t *frame, size
 
 static void record(const struct link *link, const uint8_t *frame, size_t len)
 {
+    struct timespec at;
     if (link->capture != NULL) {
-        pcap_add(link->capture, frame, len);
+        clock_gettime(CLOCK_REALTIME, &at);
+        pcap_add(link->capture, (uint64_t)at.tv_sec * 1000000 + (uint64_t)at.tv_nsec / 1000, frame, len);
     }
 }
 

@@ -1,7 +1,6 @@
-/* A capture in the classic format of tcpdump: magic a1b2c3d4, version 2.4, moments in microseconds, link type 1 (Ethernet). */
-#include "tap.h"
+#include "pcap.h"
 
-#include <time.h>
+enum { SECOND = 1000000 };
 
 struct file_head {
     uint32_t magic;
@@ -24,11 +23,9 @@ FILE *pcap_begin(const char *path)
     return file;
 }
 
-void pcap_add(FILE *capture, const uint8_t *frame, size_t len)
+void pcap_add(FILE *capture, uint64_t moment, const uint8_t *frame, size_t len)
 {
-    struct timespec at;
-    clock_gettime(CLOCK_REALTIME, &at);
-    const struct record_head head = {(uint32_t)at.tv_sec, (uint32_t)(at.tv_nsec / 1000), (uint32_t)len, (uint32_t)len};
+    const struct record_head head = {(uint32_t)(moment / SECOND), (uint32_t)(moment % SECOND), (uint32_t)len, (uint32_t)len};
     fwrite(&head, sizeof head, 1, capture);
     fwrite(frame, 1, len, capture);
 }

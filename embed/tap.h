@@ -5,6 +5,7 @@
 #define _GNU_SOURCE 1
 
 #include "host.h"
+#include "pcap.h"
 
 #include <poll.h>
 #include <stdbool.h>
@@ -57,11 +58,6 @@ void link_send(struct link *link, uint64_t now, const uint8_t *frame, size_t len
 void link_flush(struct link *link, uint64_t now);
 /* When the first of the frames that wait is due, or NEVER. */
 uint64_t link_deadline(const struct link *link);
-
-/* Begins a capture in a file of this name: NULL, and errno, where it can't. */
-FILE *pcap_begin(const char *path);
-/* Adds a frame with the present moment. A failure shows when the file is closed. */
-void pcap_add(FILE *capture, const uint8_t *frame, size_t len);
 
 /* A port of the host, and the endpoint of the system's to which its connections are joined. */
 struct forward {
