@@ -56,28 +56,6 @@ impl Connection {
         ensures fate { result ≡ fate self.old segment.now }
         ensures after { self.new ≡ after_segment_at self.old segment.now now }
     {
-        if self.congestion.repairs() {
-            self.segment_repaired(now, segment)
-        } else {
-            self.segment_here(now, segment)
-        }
-    }
-
-    /// The same where losses are repaired: apart, so that what reports ask costs a host nothing that takes none.
-    #[inline(never)]
-    fn segment_repaired(&mut self, now: Moment, segment: &TcpView<'_>) -> Fate
-        ensures fate { result ≡ fate self.old segment.now }
-        ensures after { self.new ≡ after_segment_at self.old segment.now now }
-    {
-        self.segment_here(now, segment)
-    }
-
-    /// Takes it, whatever is made of losses.
-    #[inline(always)]
-    fn segment_here(&mut self, now: Moment, segment: &TcpView<'_>) -> Fate
-        ensures fate { result ≡ fate self.old segment.now }
-        ensures after { self.new ≡ after_segment_at self.old segment.now now }
-    {
         if self.state == State::Closed {
             return Fate::Stays;
         }
@@ -599,33 +577,6 @@ impl Connection {
 
     /// Takes an acknowledgement, and says whether the rest of the segment is read.
     fn hear_ack(&mut self, acknowledgement: Seq) -> bool
-        requires { (is_syn_sent self.old.state || is_closed self.old.state) ≡ false }
-        ensures read_on { result ≡ is_read_on self.old acknowledgement.0 }
-        ensures opened { result ≡ true → is_opening self.new.state ≡ false }
-        ensures after { self.new ≡ after_ack self.old acknowledgement.0 }
-    {
-        if self.resend.reported().is_empty() {
-            self.hear_ack_here(acknowledgement)
-        } else {
-            self.hear_ack_reported(acknowledgement)
-        }
-    }
-
-    /// The same where something is reported.
-    #[cold]
-    #[inline(never)]
-    fn hear_ack_reported(&mut self, acknowledgement: Seq) -> bool
-        requires { (is_syn_sent self.old.state || is_closed self.old.state) ≡ false }
-        ensures read_on { result ≡ is_read_on self.old acknowledgement.0 }
-        ensures opened { result ≡ true → is_opening self.new.state ≡ false }
-        ensures after { self.new ≡ after_ack self.old acknowledgement.0 }
-    {
-        self.hear_ack_here(acknowledgement)
-    }
-
-    /// Takes it, whatever is reported.
-    #[inline(always)]
-    fn hear_ack_here(&mut self, acknowledgement: Seq) -> bool
         requires { (is_syn_sent self.old.state || is_closed self.old.state) ≡ false }
         ensures read_on { result ≡ is_read_on self.old acknowledgement.0 }
         ensures opened { result ≡ true → is_opening self.new.state ≡ false }

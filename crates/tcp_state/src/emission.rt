@@ -65,28 +65,6 @@ impl Connection {
         ensures first { result ≡ first_due self.now }
         ensures may { IfSome result (MayGoOut self.now) }
     {
-        if self.congestion.repairs() {
-            self.due_repaired()
-        } else {
-            self.due_here()
-        }
-    }
-
-    /// The same where losses are repaired.
-    #[inline(never)]
-    fn due_repaired(&self) -> Option<Due>
-        ensures first { result ≡ first_due self.now }
-        ensures may { IfSome result (MayGoOut self.now) }
-    {
-        self.due_here()
-    }
-
-    /// What it is, whatever is made of losses.
-    #[inline(always)]
-    fn due_here(&self) -> Option<Due>
-        ensures first { result ≡ first_due self.now }
-        ensures may { IfSome result (MayGoOut self.now) }
-    {
         if self.owes_reset {
             return Some(Due::Rst);
         }
