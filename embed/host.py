@@ -23,7 +23,7 @@ import errno
 import ipaddress
 import os
 import sys
-from typing import Any, Iterator, Mapping, NoReturn, Optional, Tuple, Union
+from typing import Any, Dict, List, Mapping, NoReturn, Optional, Tuple, TypeVar, Union
 
 __all__ = ["Counters", "Drop", "Host", "Info", "Kind", "Ready", "Recovery", "State"]
 
@@ -31,6 +31,7 @@ VERSION = "0.3.0"
 FRAME_SIZE = 1514
 DATAGRAM_SIZE = 65507
 
+T = TypeVar("T")
 Address = Union[str, int]
 Endpoint = Tuple[str, int]
 Octets = Union[bytes, bytearray, memoryview]
@@ -156,8 +157,8 @@ class _Handle(ctypes.Structure):
 class _Endpoint(ctypes.Structure):
     _fields_ = [("addr", ctypes.c_uint32), ("port", ctypes.c_uint16)]
 
-    def __iter__(self) -> Iterator[Any]:
-        return iter((str(ipaddress.IPv4Address(self.addr)), self.port))
+    def read(self) -> Endpoint:
+        return str(ipaddress.IPv4Address(self.addr)), self.port
 
 
 class _Route(ctypes.Structure):
@@ -186,7 +187,7 @@ _ENDPOINT = ctypes.POINTER(_Endpoint)
 _U16, _U32, _U64, _SIZE, _OCTETS = ctypes.c_uint16, ctypes.c_uint32, ctypes.c_uint64, ctypes.c_size_t, ctypes.c_char_p
 
 # The arguments of each call behind the handle. Each answers an int64_t, but the two of _SILENT, which answer nothing.
-_CALLS = {
+_CALLS: Dict[str, List[Any]] = {
     "host_new_from": [_OCTETS, _SIZE, ctypes.POINTER(_Route), _SIZE],
     "host_free": [],
     "host_socket": [_U32],
@@ -278,14 +279,18 @@ def _answer(number: int) -> int:
     """What a call answered, where it isn't refused."""
     if number >= 0:
         return number
+    raise _refusal(number)
+
+
+def _refusal(number: int) -> OSError:
     code = _ERRNO[-number - 1]
-    raise OSError(code, os.strerror(code))
+    return OSError(code, os.strerror(code))
 
 
-def _done(answer: Any) -> Any:
+def _done(answer: Optional[T]) -> T:
     """What a `try_` call answered, where there was something to do."""
     if answer is None:
-        _answer(_EAGAIN)
+        raise _refusal(_EAGAIN)
     return answer
 
 
@@ -387,7 +392,7 @@ class Host:
         """`accept`, or None where none waits."""
         peer = _Endpoint()
         accepted = self._try("host_accept", _id(id), peer)
-        return None if accepted is None else (accepted, tuple(peer))
+        return None if accepted is None else (accepted, peer.read())
 
     def connect(self, now: int, isn: int, id: int, peer: Tuple[Address, int]) -> None:
         """Begins to open a connection, with the initial number `isn`."""
@@ -446,7 +451,7 @@ class Host:
         """`recvfrom`, or None where none came."""
         size, source = self._room(size), _Endpoint()
         length = self._try("host_recvfrom", _id(id), self._buffer, size, source)
-        return None if length is None else (ctypes.string_at(self._buffer, length), tuple(source))
+        return None if length is None else (ctypes.string_at(self._buffer, length), source.read())
 
     def state(self, id: int) -> State:
         """The State of a socket."""
@@ -456,13 +461,13 @@ class Host:
         """Where a socket is: our end of its connection, else where it is bound; ("0.0.0.0", 0) where it isn't."""
         end = _Endpoint()
         self._call("host_sockname", _id(id), end)
-        return tuple(end)
+        return end.read()
 
     def peername(self, id: int) -> Endpoint:
         """The other end of a socket's connection, also of one that is over."""
         end = _Endpoint()
         self._call("host_peername", _id(id), end)
-        return tuple(end)
+        return end.read()
 
     # Questions that change nothing.
 
@@ -471,13 +476,14 @@ class Host:
         names = [field.name for field in dataclasses.fields(Info)]
         numbers = (ctypes.c_int64 * len(names))()
         self._call("host_info_into", _id(id), numbers, len(numbers))
-        told = dict(zip(names, numbers))
+        told: Dict[str, Any] = dict(zip(names, numbers))
         for name in ("srtt", "rttvar", "retransmission", "probe", "delayed_ack", "override", "ends"):
             told[name] = None if told[name] < 0 else told[name]
         for name, parts in (("srtt", 8), ("rttvar", 4)):
             told[name] = None if told[name] is None else told[name] / parts
         told["error"] = _ERRNO[-told["error"] - 1] if told["error"] else None
-        return Info(**{**told, "state": State(told["state"])})
+        told["state"] = State(told["state"])
+        return Info(**told)
 
     def counters(self) -> Counters:
         """The Counters of the host."""
@@ -488,12 +494,12 @@ class Host:
     def would_connect(self, id: int, peer: Tuple[Address, int]) -> Optional[Tuple[Endpoint, Endpoint]]:
         """The two endpoints of the connection that `connect` would open now, the lesser first; None where it would be refused."""
         pair = (_Endpoint * 2)()
-        return tuple(map(tuple, pair)) if self._call("host_would_connect", _id(id), *_ends(peer), pair) else None
+        return (pair[0].read(), pair[1].read()) if self._call("host_would_connect", _id(id), *_ends(peer), pair) else None
 
     def would_open(self, frame: Octets) -> Optional[Tuple[Endpoint, Endpoint]]:
         """The two endpoints of the connection that delivering this frame would open; None where it would open none."""
         frame, pair = bytes(frame), (_Endpoint * 2)()
-        return tuple(map(tuple, pair)) if self._call("host_would_open", frame, len(frame), pair) else None
+        return (pair[0].read(), pair[1].read()) if self._call("host_would_open", frame, len(frame), pair) else None
 
     def ready(self, id: int) -> "Ready":
         """What a socket is Ready for."""

@@ -15,7 +15,7 @@ from __future__ import annotations
 
 import ipaddress
 import struct
-from typing import Optional, Tuple, Union
+from typing import List, Optional, Tuple, Union
 
 __all__ = ["PORT_FIRST", "PORTS", "Ports", "SECRET_SIZE", "TABLE_SIZE", "isn_of", "siphash"]
 
@@ -72,7 +72,7 @@ class Ports:
     """What counts the dynamic ports: the table of RFC 6056 section 3.3.4, of octets that are drawn as the secret is (`secrets.token_bytes(TABLE_SIZE)`)."""
 
     def __init__(self, drawn: bytes) -> None:
-        self._next = list(struct.unpack("<16H", drawn))
+        self._next: List[int] = list(struct.unpack("<16H", drawn))
 
     def port(self, secret: bytes, local: Union[str, int], peer: Endpoint) -> int:
         """A dynamic port for a connection from our address to `peer`; each call goes on to the next. Call again, 64 times at most, where it is in use."""

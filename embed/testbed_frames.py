@@ -24,7 +24,7 @@ def checksum(octets: bytes) -> int:
     """The Internet checksum of RFC 1071: 0 of octets that have theirs among them, where it holds."""
     if len(octets) % 2:
         octets += b"\0"
-    total = sum(struct.unpack(f"!{len(octets) // 2}H", octets))
+    total: int = sum(struct.unpack(f"!{len(octets) // 2}H", octets))
     while total >> 16:
         total = (total & 0xFFFF) + (total >> 16)
     return ~total & 0xFFFF

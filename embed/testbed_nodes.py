@@ -248,7 +248,8 @@ class Router:
 
     def _route_to(self, target: int) -> Optional[_Route]:
         address = ipaddress.IPv4Address(target)
-        return max((route for route in self._routes if address in route.prefix), key=lambda it: it.prefix.prefixlen, default=None)
+        fitting = [route for route in self._routes if address in route.prefix]
+        return max(fitting, key=lambda it: it.prefix.prefixlen) if fitting else None
 
     def _give(self, route: _Route, target: int, octets: bytes) -> None:
         """A datagram goes to the next hop on its way, once the MAC of that is known."""

@@ -202,7 +202,8 @@ class Tls:
 
     def _recv(self, size: int) -> Generator[Wait, None, bytes]:
         try:
-            return (yield from self._drive(lambda: self.object.read(size)))
+            octets: bytes = yield from self._drive(lambda: self.object.read(size))
+            return octets
         except (ssl.SSLZeroReturnError, ssl.SSLEOFError):
             return b""
 

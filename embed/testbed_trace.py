@@ -5,6 +5,7 @@ from __future__ import annotations
 import csv
 import dataclasses
 import enum
+import importlib
 from typing import Any, List, Sequence, Tuple
 
 from host import Host, Info
@@ -52,14 +53,14 @@ class Trace:
         """Draws the congestion window, the octets in flight, the smoothed round trip and the timeout over time: by matplotlib, where it is there, in the
         format of the path's ending. Elsewhere it is a picture in SVG, and the path must end so: else ImportError."""
         try:
-            from matplotlib.figure import Figure  # type: ignore[import-not-found, unused-ignore]
+            figures = importlib.import_module("matplotlib.figure")
         except ImportError:
             if not path.endswith(".svg"):
                 raise ImportError("without matplotlib the picture is one in SVG, whose path ends in .svg") from None
             with open(path, "w", encoding="ascii") as file:
                 file.write(self._svg())
             return
-        figure = Figure(figsize=(9, 6))
+        figure = figures.Figure(figsize=(9, 6))
         for axes, (unit, names) in zip(figure.subplots(len(PANELS), sharex=True), PANELS):
             for name, colour in zip(names, COLOURS):
                 points = self._points(name)

@@ -10,7 +10,7 @@ import http.client
 import os
 import random
 import sys
-from typing import List, Tuple
+from typing import Any, List, Tuple
 
 sys.path.insert(0, os.path.join(os.path.dirname(os.path.abspath(__file__)), "..", "embed"))
 from testbed import Link, Network, Socket, Station, Trace, decode
@@ -41,7 +41,8 @@ async def serve(net: Network, station: Station, traces: List[Trace]) -> None:
 def fetch(station: Station) -> Tuple[int, bytes]:
     """Runs in a blocking task: plain Python, over a socket of the network."""
     connection = http.client.HTTPConnection(SERVER)
-    connection.sock = station.create_connection((SERVER, 80), timeout=60)  # type: ignore[assignment]
+    socket: Any = station.create_connection((SERVER, 80), timeout=60)
+    connection.sock = socket
     connection.request("GET", "/")
     response = connection.getresponse()
     return response.status, response.read()

@@ -9,11 +9,16 @@ from host import Host, Recovery
 from isn import SECRET_SIZE, isn_of
 
 dice, frames, now = random.Random(1), 0, 0
-octets = dice.randbytes(200_000)
+octets = dice.getrandbits(1_600_000).to_bytes(200_000, "little")
 link, peer = {"10.0.0.0/24": None}, ("10.0.0.2", 80)
-secret = dice.randbytes(SECRET_SIZE)  # a program on a real link takes secrets.token_bytes
-real = {"recovery": Recovery.SELECTIVE, "first_segments": 10, "least_timeout": 200, "first_threshold": 1 << 30}
-with Host("02:00:00:00:00:01", "10.0.0.1", link, **real) as a, Host("02:00:00:00:00:02", "10.0.0.2", link, **real) as b:
+secret = dice.getrandbits(8 * SECRET_SIZE).to_bytes(SECRET_SIZE, "little")  # a program on a real link takes secrets.token_bytes
+
+
+def real_host(mac: str, addr: str) -> Host:  # as docs/EMBEDDING.md recommends it where frames are lost
+    return Host(mac, addr, link, recovery=Recovery.SELECTIVE, first_segments=10, least_timeout=200, first_threshold=1 << 30)
+
+
+with real_host("02:00:00:00:00:01", "10.0.0.1") as a, real_host("02:00:00:00:00:02", "10.0.0.2") as b:
     listener = b.socket()
     b.bind(listener, ("0.0.0.0", 80))
     b.listen(listener, 1)

@@ -37,8 +37,13 @@ from testbed_frames import ARP, REPLY, REQUEST, UDP, arp
 
 BACKLOG = 8
 OWN_MAC = bytes([2, 0, 0, 0, 0, 1])
-# What docs/EMBEDDING.md recommends to a host on a real network.
-REAL = {"recovery": Recovery.SELECTIVE, "first_segments": 10, "least_timeout": 200, "first_threshold": 1 << 30}
+
+
+def _real_host(mac: bytes, addr: int) -> Host:
+    """A host as docs/EMBEDDING.md recommends it on a real network."""
+    return Host(
+        mac, addr, {"0.0.0.0/0": None}, recovery=Recovery.SELECTIVE, first_segments=10, least_timeout=200, first_threshold=1 << 30
+    )
 
 
 @dataclasses.dataclass
@@ -67,7 +72,7 @@ class Play:
         self.talks, self.macs, self._addr = talks, talks.macs, str(ipaddress.IPv4Address(talks.addr))
         self.mac = talks.macs.get(talks.addr, OWN_MAC)
         try:
-            self.host = Host(self.mac, talks.addr, {"0.0.0.0/0": None}, **REAL)
+            self.host = _real_host(self.mac, talks.addr)
         except OSError as error:
             raise Refused(f"no host can be at {self._addr} with the MAC {self.mac.hex(':')}: {error.strerror}") from None
         self.answers: List[Said] = []
@@ -354,7 +359,8 @@ class Play:
             talk = self._talk("arp", int.from_bytes(frame[38:42], "big"))
             return Said(self._place, self._moment, OURS, frame, talk, None, None, None)
         whole = self._parts.add(datagram)
-        kind, ports = PROTOCOLS[datagram.protocol], (0, 0)
+        kind = PROTOCOLS[datagram.protocol]
+        ports: Tuple[int, ...] = 0, 0
         if kind != "icmp" and whole is not None:
             ports = struct.unpack_from("!HH", whole.payload)
         segment = None if whole is None else read_segment(whole)

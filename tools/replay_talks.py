@@ -158,31 +158,36 @@ class Talks:
     def hear_arp(self, frame: bytes, moment: int) -> Optional[Said]:
         """A request of a peer for the host's address, or the host's reply. Requests of the host are its own: what it knew before isn't in the capture."""
         if len(frame) < 42:
-            return self._left("of other kinds or hosts")
+            self._leave("of other kinds or hosts")
+            return None
         operation, mac, sender, _, target = struct.unpack_from("!H6sI6sI", frame, 20)
         self.macs.setdefault(sender, mac)
         if operation == REQUEST and target == self.addr != sender:
             return self._said(PEER, frame, moment, self.talk("arp", sender), None, None)
         if operation == REPLY and sender == self.addr:
             return self._said(HOST, frame, moment, self.talk("arp", target), None, None)
-        return self._left("of ARP that the host's own requests drew" if self.addr in (sender, target) else "of other kinds or hosts")
+        self._leave("of ARP that the host's own requests drew" if self.addr in (sender, target) else "of other kinds or hosts")
+        return None
 
     def hear_ipv4(self, frame: bytes, moment: int) -> Optional[Said]:
         """A datagram from or to the host."""
         datagram = ipv4_of(frame)
         if datagram is None or self.addr not in (datagram.source, datagram.target) or datagram.source == datagram.target:
-            return self._left("of other kinds or hosts")
+            self._leave("of other kinds or hosts")
+            return None
         if frame[0] & 1:
-            return self._left("to all or to a group")
+            self._leave("to all or to a group")
+            return None
         side, peer = (HOST, datagram.target) if datagram.source == self.addr else (PEER, datagram.source)
         self.macs.setdefault(self.addr, frame[6:12] if side == HOST else frame[:6])
         self.macs.setdefault(peer, frame[:6] if side == HOST else frame[6:12])
         whole = self._parts.add(datagram)
         if side == HOST and not _is_answer(whole or datagram):
-            return self._left("that the host sent of its own accord and no call of this stack makes")
+            self._leave("that the host sent of its own accord and no call of this stack makes")
+            return None
         return self._said(side, frame, moment, self._talk_of(side, peer, datagram), datagram, whole)
 
-    def _left(self, why: str) -> None:
+    def _leave(self, why: str) -> None:
         self.left_out[why] += 1
 
     def _said(self, side: str, frame: bytes, moment: int, talk: Talk, datagram: Optional[Datagram], whole: Optional[Datagram]) -> Said:
@@ -215,7 +220,8 @@ class Talks:
     def _talk_of(self, side: str, peer: int, datagram: Datagram) -> Talk:
         if datagram.offset:
             return self._fragments.get(name_of(datagram)) or self.talk("ipv4", peer)
-        kind, ports = PROTOCOLS.get(datagram.protocol, "ipv4"), (0, 0)
+        kind = PROTOCOLS.get(datagram.protocol, "ipv4")
+        ports: Tuple[int, ...] = 0, 0
         if kind in ("tcp", "udp") and len(datagram.payload) >= 4:
             ports = struct.unpack_from("!HH", datagram.payload)
         talk = self.talk(kind, peer, *(ports if side == PEER else ports[::-1]))
