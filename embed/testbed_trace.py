@@ -6,6 +6,7 @@ import csv
 import dataclasses
 import enum
 import importlib
+import math
 from typing import Any, List, Sequence, Tuple
 
 from host import Host, Info
@@ -15,7 +16,7 @@ __all__ = ["Trace"]
 # The panels of a picture: what it counts, and the fields of Info that it shows.
 PANELS = (("octets", ("cwnd", "in_flight")), ("milliseconds", ("srtt", "rto")))
 COLOURS = ("#1f77b4", "#d62728")
-WIDTH, HEIGHT, LEFT, GAP = 900, 260, 90, 40
+WIDTH, HEIGHT, LEFT, RIGHT, GAP = 900, 260, 90, 30, 40
 
 Point = Tuple[float, float]
 
@@ -66,6 +67,7 @@ class Trace:
                 points = self._points(name)
                 axes.step([x for x, _ in points], [y for _, y in points], where="post", label=name, color=colour)
             axes.set_ylabel(unit)
+            axes.set_ylim(bottom=0)
             axes.legend()
         axes.set_xlabel("milliseconds")
         figure.savefig(path)
@@ -82,29 +84,41 @@ class Trace:
         ]
         for number, (unit, names) in enumerate(PANELS):
             parts += self._panel(GAP + number * (HEIGHT + GAP), unit, names, last)
+        parts.append(f'<text x="{(LEFT + WIDTH - RIGHT) // 2}" y="{tall - 6}" text-anchor="middle">milliseconds</text>')
         return "\n".join(parts + ["</svg>", ""])
 
     def _panel(self, top: int, unit: str, names: Sequence[str], last: int) -> List[str]:
-        """One panel: its frame, the greatest numbers of both axes, and a line of steps for each name."""
-        wide, bottom = WIDTH - LEFT - 20, top + HEIGHT
+        """One panel: its frame, lines at round numbers of both axes, and a line of steps for each name."""
+        wide, bottom = WIDTH - LEFT - RIGHT, top + HEIGHT
         series = [self._points(name) for name in names]
-        most = max((y for points in series for _, y in points), default=0) or 1
-        parts = [
-            f'<rect x="{LEFT}" y="{top}" width="{wide}" height="{HEIGHT}" fill="none" stroke="#888"/>',
-            f'<text x="{LEFT - 6}" y="{top + 10}" text-anchor="end">{most:.0f}</text>',
-            f'<text x="{LEFT - 6}" y="{top + 26}" text-anchor="end">{unit}</text>',
-            f'<text x="{LEFT - 6}" y="{bottom}" text-anchor="end">0</text>',
-            f'<text x="{LEFT + wide}" y="{bottom + 16}" text-anchor="end">{last} ms</text>',
-        ]
+        rows = _round_numbers(max((y for points in series for _, y in points), default=0) or 1, 5)
+        most = rows[-1]
+        parts = [f'<text transform="translate(16 {top + HEIGHT // 2}) rotate(-90)" text-anchor="middle">{unit}</text>']
+        for row in rows:
+            y_at = f"{bottom - HEIGHT * row / most:.1f}"
+            parts.append(f'<path d="M{LEFT} {y_at}h{wide}" stroke="#ddd"/>')
+            parts.append(f'<text x="{LEFT - 6}" y="{y_at}" dy="4" text-anchor="end">{row:.10g}</text>')
+        for column in _round_numbers(last, 8)[:-1]:
+            x_at = f"{LEFT + wide * column / last:.1f}"
+            parts.append(f'<path d="M{x_at} {top}v{HEIGHT}" stroke="#ddd"/>')
+            parts.append(f'<text x="{x_at}" y="{bottom + 16}" text-anchor="middle">{column:.10g}</text>')
+        parts.append(f'<rect x="{LEFT}" y="{top}" width="{wide}" height="{HEIGHT}" fill="none" stroke="#888"/>')
         for place, (name, colour, points) in enumerate(zip(names, COLOURS, series)):
             corners: List[str] = []
             y = ""
             for moment, value in points:
                 x, before, y = f"{LEFT + wide * moment / last:.1f}", y, f"{bottom - HEIGHT * value / most:.1f}"
                 corners += [f"{x},{before}", f"{x},{y}"] if before else [f"{x},{y}"]
-            parts.append(f'<polyline fill="none" stroke="{colour}" points="{" ".join(corners)}"/>')
+            parts.append(f'<polyline fill="none" stroke="{colour}" stroke-width="{2 - place}" points="{" ".join(corners)}"/>')
             parts.append(f'<text x="{LEFT + 10 + 90 * place}" y="{top - 6}" fill="{colour}">{name}</text>')
         return parts
+
+
+def _round_numbers(most: float, count: int) -> List[float]:
+    """Round numbers from 0 on at even steps, of which about so many are needed; only the last is more than `most`."""
+    power = 10.0 ** math.floor(math.log10(most / count))
+    step = next(factor * power for factor in (1, 2, 5, 10) if factor * power * count >= most)
+    return [step * number for number in range(math.floor(most / step) + 2)]
 
 
 def _cell(value: Any) -> Any:
