@@ -15,7 +15,9 @@ with Host("02:00:00:00:00:01", "10.0.0.1", {"10.0.0.0/24": None}) as host:
     while host.state(caller) is State.SYN_SENT:
         while host.next_frame(now):
             requests += 1
-        now = host.next_deadline()
+        deadline = host.next_deadline()
+        assert deadline is not None
+        now = deadline
         host.tick(now)
     assert (now, requests, host.next_deadline()) == (483_000, 483, None)
     try:
