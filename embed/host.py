@@ -283,6 +283,7 @@ def _answer(number: int) -> int:
 
 
 def _refusal(number: int) -> OSError:
+    """What a call raises that answered this number, which is negative."""
     code = _ERRNO[-number - 1]
     return OSError(code, os.strerror(code))
 

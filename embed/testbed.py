@@ -57,8 +57,8 @@ import ipaddress
 import random
 from typing import Any, Callable, Dict, Generator, Iterator, List, Mapping, Optional, Tuple, TypeVar, Union, overload
 
-from host import Endpoint, Host, Kind, Octets, Recovery
-from testbed_frames import Capture, decode
+from host import Endpoint, Host, Kind, Recovery
+from testbed_frames import Capture, Packet, decode
 from testbed_nodes import Link, Node, Port, Probe, Router, Switch
 from testbed_sockets import BlockingListener, BlockingSocket, Datagrams, Listener, Socket, Tls
 from testbed_tasks import MILLISECOND, Call, Crowd, Steps, Task, Thread, Wait
@@ -303,9 +303,9 @@ class Station:
         self.network.touch(self)
         return self.host
 
-    def deliver(self, frame: Octets) -> None:
-        """A frame arrives: from the link, or one made by hand or by scapy (`bytes(packet)`)."""
-        self.turn().deliver(self.network.now, self._dice.getrandbits(32), frame)
+    def deliver(self, frame: Packet) -> None:
+        """A frame arrives: from the link, or one made by hand, or a packet of scapy."""
+        self.turn().deliver(self.network.now, self._dice.getrandbits(32), bytes(frame))
 
     def connect(self, peer: Endpoint, timeout: Optional[float] = None) -> Call[Socket]:
         """Opens a connection, from a port of the seed. ConnectionRefusedError and TimeoutError, as the host tells, or after `timeout` milliseconds."""

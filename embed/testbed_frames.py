@@ -8,9 +8,9 @@ from __future__ import annotations
 
 import ipaddress
 import struct
-from typing import BinaryIO, List, NamedTuple, Optional
+from typing import BinaryIO, List, NamedTuple, Optional, SupportsBytes, Union
 
-__all__ = ["Capture", "arp", "checksum", "decode", "ethernet", "icmp_error", "ipv4"]
+__all__ = ["Capture", "Packet", "arp", "checksum", "decode", "ethernet", "icmp_error", "ipv4"]
 
 BROADCAST = b"\xff" * 6
 ARP, IPV4 = 0x0806, 0x0800
@@ -18,6 +18,8 @@ REQUEST, REPLY = 1, 2
 ICMP, TCP, UDP = 1, 6, 17
 LEAST_FRAME = 60
 DONT_FRAGMENT = 0x4000
+# What `bytes` makes the octets of a frame of: these, or a packet of scapy.
+Packet = Union[bytes, bytearray, memoryview, SupportsBytes]
 
 
 def checksum(octets: bytes) -> int:

@@ -6,9 +6,9 @@ import errno
 import ipaddress
 import random
 import struct
-from typing import Any, Callable, Dict, Generator, List, NamedTuple, Optional, Protocol, Tuple, Union
+from typing import Callable, Dict, Generator, List, NamedTuple, Optional, Protocol, Tuple, Union
 
-from testbed_frames import ARP, ICMP, IPV4, REPLY, REQUEST, Datagram, arp, checksum, ethernet, icmp_error, read_ipv4
+from testbed_frames import ARP, ICMP, IPV4, REPLY, REQUEST, Datagram, Packet, arp, checksum, ethernet, icmp_error, read_ipv4
 from testbed_tasks import MILLISECOND, Call, Crowd, Wait
 
 __all__ = ["Link", "Node", "Port", "Probe", "Router", "Switch"]
@@ -144,8 +144,8 @@ class Probe:
         """Its one port."""
         return self._port
 
-    def send(self, frame: Any) -> None:
-        """Sends octets, or what `bytes` makes octets of, as a packet of scapy. Outside of tasks it goes out when the network runs."""
+    def send(self, frame: Packet) -> None:
+        """Sends a frame, made by hand or by scapy. Outside of tasks it goes out when the network runs."""
         octets = bytes(frame)
         self._ground.at(self._ground.clock, lambda: self._port.send(octets))
 
