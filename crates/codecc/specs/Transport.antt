@@ -1,0 +1,55 @@
+-- Segments of TCP as they are told and written (RFC 9293 section 3.1).
+use Rattle.std.specs.Prelude.{ℕ, ◌+◌, ◌*◌, ◌/◌, ◌&&◌, nat_lt, Bool, ℤ, pos, neg_ℤ, List, ◌++◌, length, slice_index, slice_range, Option, Some, None}
+use Rattle.byteorder.specs.Endian.{big_bytes}
+use Rattle.inet_sum.specs.Sum.{checksum_of}
+use Rattle.ipv4.specs.declared.addr.Addr.{Addr}
+use Rattle.tcp_segment.specs.Segment.{Segment, bit, mss_option_of, scale_option_of, sack_permitted_of, summed_octets}
+use Rattle.tcp_segment.specs.Reading.{header_len, checksum_in}
+use Rattle.codecc.specs.declared.types.CodecTcp.{CodecTcp}
+use Rattle.codecc.specs.Network.{is_header_len}
+
+-- -1 where there is none
+abbrev pub told_or_none : Option ℕ → ℤ
+told_or_none None = neg_ℤ (pos 1)
+told_or_none (Some number) = pos number
+
+-- A segment of these octets as it is told. Its payload begins behind the header; the control bits are all eight of their octet, the two of
+-- congestion notification among them (RFC 3168).
+abbrev pub told_segment : List ℕ → Segment → CodecTcp
+told_segment octets s = record {
+  number = s.number;
+  acknowledgement = s.acknowledgement;
+  mss = told_or_none (mss_option_of s);
+  shift = told_or_none (scale_option_of s);
+  source = s.source;
+  destination = s.destination;
+  header_len = header_len octets;
+  payload_len = length s.octets;
+  window = s.window;
+  checksum = checksum_in octets;
+  urgent = s.urgent;
+  flags = slice_index octets 13;
+  sacks = bit (sack_permitted_of s) 1;
+}
+
+abbrev pub segment_len : CodecTcp → ℕ
+segment_len c = c.header_len + c.payload_len
+
+-- lengths that a header can say, and the pseudo header
+abbrev pub segment_fits : CodecTcp → Bool
+segment_fits c = is_header_len c.header_len && nat_lt (segment_len c) 65536
+
+-- The octets of a header before its options, with this checksum: ports, number, acknowledgement, the header's length in words and the control
+-- bits, window, checksum, urgent pointer. The four bits between are zero.
+abbrev pub segment_header : CodecTcp → ℕ → List ℕ
+segment_header c checksum =
+    big_bytes 2 c.source ++ big_bytes 2 c.destination
+    ++ big_bytes 4 c.number
+    ++ big_bytes 4 c.acknowledgement
+    ++ big_bytes 2 (4096 * (c.header_len / 4) + c.flags) ++ big_bytes 2 c.window
+    ++ big_bytes 2 checksum ++ big_bytes 2 c.urgent
+
+-- the same before what stands in a buffer: with the checksum of the pseudo header and the segment with a checksum of zero
+abbrev pub written_segment_header : Addr → Addr → CodecTcp → List ℕ → List ℕ
+written_segment_header src dst c old =
+    segment_header c (checksum_of (summed_octets src dst (segment_header c 0 ++ slice_range old 20 (segment_len c))))
