@@ -1,10 +1,13 @@
 -- Segments of TCP as they are told and written (RFC 9293 section 3.1).
-use Rattle.std.specs.Prelude.{ℕ, ◌+◌, ◌*◌, ◌/◌, ◌&&◌, nat_lt, Bool, ℤ, pos, neg_ℤ, List, ◌++◌, length, slice_index, slice_range, Option, Some, None}
+use Rattle.std.specs.Prelude.{ℕ, get_or, ◌+◌, ◌*◌, ◌/◌, ◌&&◌, nat_lt, Bool, ℤ, pos, neg_ℤ, List, [], ◌∷◌, ◌++◌, length, slice_index, slice_range, Option, Some, None}
 use Rattle.byteorder.specs.Endian.{big_bytes}
 use Rattle.inet_sum.specs.Sum.{checksum_of}
 use Rattle.ipv4.specs.declared.addr.Addr.{Addr}
-use Rattle.tcp_segment.specs.Segment.{Segment, bit, mss_option_of, scale_option_of, sack_permitted_of, summed_octets}
+use Rattle.tcp_segment.specs.Segment.{Segment, bit, mss_option_of, scale_option_of, sack_permitted_of, blocks_of, summed_octets}
 use Rattle.tcp_segment.specs.Reading.{header_len, checksum_in}
+use Rattle.tcp_segment.specs.declared.blocks.Block.{Block}
+use Rattle.tcp_segment.specs.Blocks.{nothing}
+use Rattle.codecc.specs.declared.types.CodecBlock.{CodecBlock}
 use Rattle.codecc.specs.declared.types.CodecTcp.{CodecTcp}
 use Rattle.codecc.specs.Network.{is_header_len}
 
@@ -12,6 +15,14 @@ use Rattle.codecc.specs.Network.{is_header_len}
 abbrev pub told_or_none : Option ℕ → ℤ
 told_or_none None = neg_ℤ (pos 1)
 told_or_none (Some number) = pos number
+
+-- the block of a place as it is told, and zeros where there is none
+abbrev pub block_at : List Block → ℕ → CodecBlock
+block_at blocks place = let block = get_or blocks place nothing in record { left = block.left.0; right = block.right.0 }
+
+-- blocks as they are told: four places
+abbrev pub told_blocks : List Block → List CodecBlock
+told_blocks blocks = block_at blocks 0 ∷ block_at blocks 1 ∷ block_at blocks 2 ∷ block_at blocks 3 ∷ []
 
 -- A segment of these octets as it is told. Its payload begins behind the header; the control bits are all eight of their octet, the two of
 -- congestion notification among them (RFC 3168).
@@ -21,6 +32,7 @@ told_segment octets s = record {
   acknowledgement = s.acknowledgement;
   mss = told_or_none (mss_option_of s);
   shift = told_or_none (scale_option_of s);
+  blocks = told_blocks (blocks_of s);
   source = s.source;
   destination = s.destination;
   header_len = header_len octets;
@@ -30,6 +42,7 @@ told_segment octets s = record {
   urgent = s.urgent;
   flags = slice_index octets 13;
   sacks = bit (sack_permitted_of s) 1;
+  block_count = length (blocks_of s);
 }
 
 abbrev pub segment_len : CodecTcp → ℕ

@@ -12,4 +12,4 @@ mod transport;
 mod types;
 mod user;
 
-pub use types::{CodecArp, CodecEther, CodecIcmp, CodecIpv4, CodecTcp, CodecUdp};
+pub use types::{CodecArp, CodecBlock, CodecEther, CodecIcmp, CodecIpv4, CodecTcp, CodecUdp};

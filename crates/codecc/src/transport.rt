@@ -4,13 +4,13 @@ ghost use Rattle.std.specs.Prelude.{◌≡◌, ◌+◌, ◌<◌, ◌≤◌, ◌^
 ghost use Rattle.tcp_segment.specs.Segment.{Segment, HasForm, IsParsed};
 ghost use Rattle.codecc.specs.Calls.{Parses, segment_fault, addr_of, emitted, after_emit};
 ghost use Rattle.codecc.specs.Network.{is_header_len};
-ghost use Rattle.codecc.specs.Transport.{told_segment, told_or_none, segment_fits, segment_len, segment_header, written_segment_header};
+ghost use Rattle.codecc.specs.Transport.{told_segment, told_blocks, block_at, told_or_none, segment_fits, segment_len, segment_header, written_segment_header};
 
 use crate::convert::{NO_ROOM, UNFIT, addr_of, has_room, put};
 use crate::network::is_header_len;
-use crate::types::CodecTcp;
+use crate::types::{CodecBlock, CodecTcp};
 use ipv4::{Addr, Protocol, sum_between};
-use tcp_segment::{SegmentFault, Seq, TcpView};
+use tcp_segment::{Block, SegmentFault, Seq, TcpView};
 
 /// The length of a header without options, in octets.
 const FIXED_LEN: usize = 20;
@@ -38,11 +38,14 @@ fn told(view: &TcpView<'_>, octets: &[u8]) -> CodecTcp
 {
     let Seq(number) = view.number();
     let Seq(acknowledgement) = view.acknowledgement();
+    let reported = view.blocks();
+    let blocks = told_blocks(reported.as_slice());
     CodecTcp {
         number,
         acknowledgement,
         mss: told_or_none(view.mss_option()),
         shift: told_or_none(view.scale_option().map(u16::from)),
+        blocks,
         source: view.source(),
         destination: view.destination(),
         header_len: 4 * u16::from(TcpView::offset_in(octets)),
@@ -52,6 +55,7 @@ fn told(view: &TcpView<'_>, octets: &[u8]) -> CodecTcp
         urgent: view.urgent(),
         flags: octets[13],
         sacks: u8::from(view.is_sack_permitted()),
+        block_count: reported.len() as u8,
     }
 }
 
@@ -62,6 +66,31 @@ fn told_or_none(number: Option<u16>) -> i32
     match number {
         Some(number) => i32::from(number),
         None => -1,
+    }
+}
+
+/// Blocks as they are told, and zeros behind them.
+fn told_blocks(blocks: &[Block]) -> [CodecBlock; 4]
+    ensures { result ≡ told_blocks blocks.now }
+{
+    [
+        told_block(blocks, 0),
+        told_block(blocks, 1),
+        told_block(blocks, 2),
+        told_block(blocks, 3),
+    ]
+}
+
+/// The block of a place as it is told; zeros where there is none.
+fn told_block(blocks: &[Block], place: usize) -> CodecBlock
+    ensures { result ≡ block_at blocks.now place }
+{
+    match blocks.get(place) {
+        Some(block) => CodecBlock {
+            left: block.left.0,
+            right: block.right.0,
+        },
+        None => CodecBlock { left: 0, right: 0 },
     }
 }
 

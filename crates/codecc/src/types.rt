@@ -92,6 +92,16 @@ pub struct CodecUdp {
     pub unsummed: u8,
 }
 
+/// Octets that the sender of a segment holds ahead of a gap (RFC 2018 section 3): `struct codec_block`.
+#[derive(Clone, Copy, Debug)]
+#[repr(C)]
+pub struct CodecBlock {
+    /// The number of the first of them.
+    pub left: u32,
+    /// The number behind the last of them.
+    pub right: u32,
+}
+
 /// The header of a segment (RFC 9293 section 3.1): `struct codec_tcp`.
 #[derive(Clone, Copy, Debug)]
 #[repr(C)]
@@ -104,6 +114,8 @@ pub struct CodecTcp {
     pub mss: i32,
     /// The shift in the window scale option that was read, and -1 where there is none.
     pub shift: i32,
+    /// The blocks that an option reports, and zeros behind them.
+    pub blocks: [CodecBlock; 4],
     /// The port that it comes from.
     pub source: u16,
     /// The port that it goes to.
@@ -122,4 +134,6 @@ pub struct CodecTcp {
     pub flags: u8,
     /// 1 where an option that was read permits selective acknowledgements, and else 0.
     pub sacks: u8,
+    /// How many blocks were reported.
+    pub block_count: u8,
 }
