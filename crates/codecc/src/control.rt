@@ -3,11 +3,11 @@
 ghost use Rattle.std.specs.Prelude.{◌≡◌, true};
 ghost use Rattle.icmp.specs.Message.{IsParsed};
 ghost use Rattle.codecc.specs.Calls.{Parses, icmp_fault, emitted, after_emit};
-ghost use Rattle.codecc.specs.Control.{told_message, message_len, message_header, written_message};
+ghost use Rattle.codecc.specs.Control.{told_message, told_quote, message_len, message_header, written_message};
 
-use crate::convert::{NO_ROOM, has_room, told};
-use crate::types::CodecIcmp;
-use icmp::{HEADER_LEN, IcmpFault, IcmpView};
+use crate::convert::{NO_ROOM, has_room, number_of, told};
+use crate::types::{CodecIcmp, CodecQuote};
+use icmp::{HEADER_LEN, IcmpFault, IcmpView, Quote};
 
 /// Reads the header of a message into `icmp`, and answers 0; or -7 where there are fewer than 8 octets, and else -8 where the checksum is wrong.
 #[unsafe(no_mangle)]
@@ -18,6 +18,7 @@ pub extern "C" fn codec_icmp_parse(octets: &[u8], icmp: &mut CodecIcmp) -> i64
         Ok(view) => {
             *icmp = CodecIcmp {
                 payload_len: view.payload().len(),
+                quote: told_quote(view.quote()),
                 checksum: view.checksum(),
                 identifier: view.identifier(),
                 number: view.number(),
@@ -28,6 +29,32 @@ pub extern "C" fn codec_icmp_parse(octets: &[u8], icmp: &mut CodecIcmp) -> i64
         }
         Err(IcmpFault::UpperHeader) => -7,
         Err(IcmpFault::UpperSum) => -8,
+    }
+}
+
+/// A quote as it is told; zeros where there is none.
+fn told_quote(quote: Option<Quote>) -> CodecQuote
+    ensures { result ≡ told_quote quote }
+{
+    match quote {
+        Some(quote) => CodecQuote {
+            source: number_of(quote.source.addr),
+            destination: number_of(quote.destination.addr),
+            number: quote.number,
+            source_port: quote.source.port,
+            destination_port: quote.destination.port,
+            protocol: quote.protocol.0,
+            is_there: 1,
+        },
+        None => CodecQuote {
+            source: 0,
+            destination: 0,
+            number: 0,
+            source_port: 0,
+            destination_port: 0,
+            protocol: 0,
+            is_there: 0,
+        },
     }
 }
 

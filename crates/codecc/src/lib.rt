@@ -12,4 +12,6 @@ mod transport;
 mod types;
 mod user;
 
-pub use types::{CodecArp, CodecBlock, CodecEther, CodecIcmp, CodecIpv4, CodecTcp, CodecUdp};
+pub use types::{
+    CodecArp, CodecBlock, CodecEther, CodecIcmp, CodecIpv4, CodecQuote, CodecTcp, CodecUdp,
+};

@@ -58,12 +58,34 @@ pub struct CodecIpv4 {
     pub protocol: u8,
 }
 
+/// What an error quotes of the datagram that caused it (RFC 792): `struct codec_quote`.
+#[derive(Clone, Copy, Debug)]
+#[repr(C)]
+pub struct CodecQuote {
+    /// The address that it came from.
+    pub source: u32,
+    /// The address that it was for.
+    pub destination: u32,
+    /// The four octets behind the ports: a segment's number.
+    pub number: u32,
+    /// The port that it came from.
+    pub source_port: u16,
+    /// The port that it went to.
+    pub destination_port: u16,
+    /// What its payload was.
+    pub protocol: u8,
+    /// 1 where the data begin with a quote, and else 0, with all the others 0.
+    pub is_there: u8,
+}
+
 /// The header of a message (RFC 792): `struct codec_icmp`.
 #[derive(Clone, Copy, Debug)]
 #[repr(C)]
 pub struct CodecIcmp {
     /// How many octets stand behind the header.
     pub payload_len: usize,
+    /// What the data quote, which counts in an error.
+    pub quote: CodecQuote,
     /// The checksum that was read.
     pub checksum: u16,
     /// The identifier of an echo, or what another type has in its place.
