@@ -32,6 +32,10 @@ message_len c = 8 + c.payload_len
 abbrev pub message_header : CodecIcmp → ℕ → List ℕ
 message_header c checksum = spelling (record { kind = c.kind; code = c.code; checksum = checksum; identifier = c.identifier; number = c.number; payload = [] })
 
--- the same before the data that stand in a buffer: with the checksum of the message with a checksum of zero
+-- the checksum of the message with these data: that of its octets with a checksum of zero
+abbrev pub message_checksum : CodecIcmp → List ℕ → ℕ
+message_checksum c payload = checksum_of (message_header c 0 ++ payload)
+
+-- its header before the data that stand in a buffer
 abbrev pub written_message : CodecIcmp → List ℕ → List ℕ
-written_message c old = message_header c (checksum_of (message_header c 0 ++ slice_range old 8 (message_len c)))
+written_message c old = message_header c (message_checksum c (slice_range old 8 (message_len c)))

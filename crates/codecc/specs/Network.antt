@@ -37,7 +37,7 @@ datagram_len c = c.header_len + c.payload_len
 -- the fields that a header has room for, of a payload that has its place
 abbrev pub datagram_fits : CodecIpv4 → Bool
 datagram_fits c =
-    is_header_len c.header_len && nat_lt c.flags 8 && nat_lt c.offset 8192 && nat_lt (datagram_len c) 65536
+    is_header_len c.header_len && nat_lt c.flags 8 && nat_lt (datagram_len c) 65536
     && has_place (is_set c.flags 1) c.offset c.payload_len
 
 -- The octets of a header before its options: version 4 and its length in words, type of service, total length, identification, flags and
@@ -49,6 +49,28 @@ fixed_header c checksum =
     ++ c.ttl ∷ c.protocol ∷ [] ++ big_bytes 2 checksum
     ++ (addr_of c.source).0 ++ (addr_of c.destination).0
 
--- the same before the options that stand in a buffer: with the checksum of the whole header with a checksum of zero
+-- the checksum before these options: that of the whole header with a checksum of zero
+abbrev pub header_checksum : CodecIpv4 → List ℕ → ℕ
+header_checksum c options = checksum_of (fixed_header c 0 ++ options)
+
+-- the same before the options that stand in a buffer
 abbrev pub written_header : CodecIpv4 → List ℕ → List ℕ
-written_header c old = fixed_header c (checksum_of (fixed_header c 0 ++ slice_range old 20 c.header_len))
+written_header c old = fixed_header c (header_checksum c (slice_range old 20 c.header_len))
+
+-- the datagram that a struct says, with these options and this payload
+abbrev pub datagram_of : CodecIpv4 → List ℕ → List ℕ → Datagram
+datagram_of c options payload = record {
+  service = c.service;
+  identification = c.identification;
+  reserved = is_set c.flags 4;
+  dont_fragment = is_set c.flags 2;
+  more_fragments = is_set c.flags 1;
+  offset = c.offset;
+  ttl = c.ttl;
+  protocol = c.protocol;
+  checksum = c.checksum;
+  source = addr_of c.source;
+  destination = addr_of c.destination;
+  options = options;
+  payload = payload;
+}

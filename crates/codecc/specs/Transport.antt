@@ -4,7 +4,8 @@ use Rattle.byteorder.specs.Endian.{big_bytes}
 use Rattle.inet_sum.specs.Sum.{checksum_of}
 use Rattle.ipv4.specs.declared.addr.Addr.{Addr}
 use Rattle.tcp_segment.specs.Segment.{Segment, bit, mss_option_of, scale_option_of, sack_permitted_of, blocks_of, summed_octets}
-use Rattle.tcp_segment.specs.Reading.{header_len, checksum_in}
+use Rattle.tcp_segment.specs.Options.{HeaderOption}
+use Rattle.tcp_segment.specs.Reading.{header_len, checksum_in, flags_in}
 use Rattle.tcp_segment.specs.declared.blocks.Block.{Block}
 use Rattle.tcp_segment.specs.Blocks.{nothing}
 use Rattle.codecc.specs.declared.types.CodecBlock.{CodecBlock}
@@ -62,7 +63,24 @@ segment_header c checksum =
     ++ big_bytes 2 (4096 * (c.header_len / 4) + c.flags) ++ big_bytes 2 c.window
     ++ big_bytes 2 checksum ++ big_bytes 2 c.urgent
 
--- the same before what stands in a buffer: with the checksum of the pseudo header and the segment with a checksum of zero
+-- the checksum before these octets: that of the pseudo header and the segment with a checksum of zero
+abbrev pub segment_checksum : Addr → Addr → CodecTcp → List ℕ → ℕ
+segment_checksum src dst c behind = checksum_of (summed_octets src dst (segment_header c 0 ++ behind))
+
+-- its header before what stands in a buffer
 abbrev pub written_segment_header : Addr → Addr → CodecTcp → List ℕ → List ℕ
-written_segment_header src dst c old =
-    segment_header c (checksum_of (summed_octets src dst (segment_header c 0 ++ slice_range old 20 (segment_len c))))
+written_segment_header src dst c old = segment_header c (segment_checksum src dst c (slice_range old 20 (segment_len c)))
+
+-- the segment that a struct says, with these options and these octets
+abbrev pub segment_of : CodecTcp → List HeaderOption → List ℕ → Segment
+segment_of c options octets = record {
+  source = c.source;
+  destination = c.destination;
+  number = c.number;
+  acknowledgement = c.acknowledgement;
+  flags = flags_in c.flags;
+  window = c.window;
+  urgent = c.urgent;
+  options = options;
+  octets = octets;
+}

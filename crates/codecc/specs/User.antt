@@ -28,11 +28,12 @@ user_datagram_fits c = nat_lt (user_datagram_len c) 65536
 abbrev pub user_header : CodecUdp → ℕ → List ℕ
 user_header c checksum = big_bytes 2 c.source ++ big_bytes 2 c.destination ++ big_bytes 2 (user_datagram_len c) ++ big_bytes 2 checksum
 
--- The checksum before the payload that stands in a buffer: that of the pseudo header and the datagram with a checksum of zero, 0xFFFF where it
--- is 0. It is 0 where there is to be none.
+-- The checksum before this payload: that of the pseudo header and the datagram with a checksum of zero, 0xFFFF where it is 0. It is 0 where there
+-- is to be none.
 abbrev pub user_checksum : Addr → Addr → CodecUdp → List ℕ → ℕ
-user_checksum src dst c old =
-    if c.unsummed == 0 then checksum_field (checksum_of (summed src dst (user_header c 0 ++ slice_range old 8 (user_datagram_len c)))) else 0
+user_checksum src dst c payload =
+    if c.unsummed == 0 then checksum_field (checksum_of (summed src dst (user_header c 0 ++ payload))) else 0
 
+-- its header before the payload that stands in a buffer
 abbrev pub written_user_header : Addr → Addr → CodecUdp → List ℕ → List ℕ
-written_user_header src dst c old = user_header c (user_checksum src dst c old)
+written_user_header src dst c old = user_header c (user_checksum src dst c (slice_range old 8 (user_datagram_len c)))

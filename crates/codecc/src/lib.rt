@@ -4,6 +4,7 @@
 
 mod control;
 mod convert;
+pub mod laws;
 mod link;
 mod network;
 mod resolution;

@@ -102,7 +102,6 @@ fn fits(ipv4: &CodecIpv4) -> bool
 {
     is_header_len(ipv4.header_len)
         && ipv4.flags < 8
-        && ipv4.offset < 8_192
         && u32::from(ipv4.header_len) + u32::from(ipv4.payload_len) < 65_536
         && has_place(ipv4)
 }
