@@ -84,3 +84,15 @@ segment_of c options octets = record {
   options = options;
   octets = octets;
 }
+
+-- a struct with this checksum, and with what the options of this segment tell
+abbrev pub with_options_told : CodecTcp → ℕ → Segment → CodecTcp
+with_options_told c checksum s = record c {
+  mss = told_or_none (mss_option_of s);
+  shift = told_or_none (scale_option_of s);
+  blocks = told_blocks (blocks_of s);
+  payload_len = length s.octets;
+  checksum = checksum;
+  sacks = bit (sack_permitted_of s) 1;
+  block_count = length (blocks_of s);
+}

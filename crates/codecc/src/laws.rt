@@ -1,6 +1,7 @@
 //! Laws of the definitions that the contracts of this crate cite: each is the contract of a function that does nothing.
 
-ghost use Rattle.std.specs.Prelude.{◌≡◌, ℕ, ◌<◌, ◌+◌, ◌*◌, ◌/◌, ◌^◌, pos, List, ◌++◌, length};
+ghost use Rattle.std.specs.Prelude.{◌≡◌, ℕ, ◌<◌, ◌+◌, ◌*◌, ◌/◌, ◌^◌, pos, true, List, ◌++◌, length};
+ghost use Rattle.arp.specs.Packet as arp;
 ghost use Rattle.ether.specs.Frame as ether;
 ghost use Rattle.icmp.specs.Message as icmp;
 ghost use Rattle.icmp.specs.Reading.{quote_in};
@@ -11,16 +12,18 @@ ghost use Rattle.tcp_segment.specs.Segment as tcp;
 ghost use Rattle.udp.specs.declared.head.Head as udp_head;
 ghost use Rattle.udp.specs.Datagram as udp;
 ghost use Rattle.udp.specs.Sent as udp_sent;
+ghost use Rattle.codecc.specs.declared.types.CodecArp.{CodecArp};
 ghost use Rattle.codecc.specs.declared.types.CodecEther.{CodecEther};
+ghost use Rattle.codecc.specs.Resolution.{told_packet, is_operation, packet_octets};
 ghost use Rattle.codecc.specs.declared.types.CodecIcmp.{CodecIcmp};
 ghost use Rattle.codecc.specs.declared.types.CodecIpv4.{CodecIpv4};
 ghost use Rattle.codecc.specs.declared.types.CodecTcp.{CodecTcp};
 ghost use Rattle.codecc.specs.declared.types.CodecUdp.{CodecUdp};
-ghost use Rattle.codecc.specs.Calls.{Parses, frame_fault, icmp_fault, ipv4_fault, udp_fault};
+ghost use Rattle.codecc.specs.Calls.{Parses, arp_fault, segment_fault, frame_fault, icmp_fault, ipv4_fault, udp_fault};
 ghost use Rattle.codecc.specs.Control.{told_message, told_quote, message_checksum, message_header};
 ghost use Rattle.codecc.specs.Link.{told_frame, frame_header};
-ghost use Rattle.codecc.specs.Network.{told_datagram, datagram_of, fixed_header, header_checksum};
-ghost use Rattle.codecc.specs.Transport.{segment_checksum, segment_header, segment_of};
+ghost use Rattle.codecc.specs.Network.{told_datagram, datagram_fits, datagram_of, is_header_len, fixed_header, header_checksum};
+ghost use Rattle.codecc.specs.Transport.{segment_checksum, segment_header, segment_of, told_segment, with_options_told};
 ghost use Rattle.codecc.specs.User.{told_user_datagram, user_checksum, user_header};
 
 /// The head that is written before a payload parses to what was written (RFC 894).
@@ -58,11 +61,27 @@ pub fn datagrams_read_back()
         → Parses (ipv4.IsParsed (fixed_header head head.checksum ++ options ++ payload ++ padding)) ipv4_fault told_datagram (pos 0) old head }
 {}
 
-/// What is written before well-formed options and octets, with its checksum, spells the segment that the struct says (RFC 9293 section 3.1).
-pub fn segments_spell()
-    ensures { (src dst : Addr) (c : CodecTcp) (options : List HeaderOption) (padding octets : List ℕ) → length src.0 ≡ 4 → length dst.0 ≡ 4
+/// The header that is written before well-formed options and octets, with its checksum, parses to what was written, and to what the options tell (RFC
+/// 9293 section 3.1).
+pub fn segments_read_back()
+    ensures { (src dst : Addr) (c old : CodecTcp) (options : List HeaderOption) (padding octets : List ℕ) → length src.0 ≡ 4 → length dst.0 ≡ 4
         → tcp.FieldsFit (segment_of c options octets) → c.flags < 2 ^ 8 → AreOptions options padding
-        → c.header_len ≡ 20 + length (joined options ++ padding) → c.header_len < 64 → c.header_len ≡ 4 * (c.header_len / 4) → c.header_len + length octets < 2 ^ 16
+        → c.header_len ≡ 20 + length (joined options ++ padding) → is_header_len c.header_len ≡ true → c.header_len + length octets < 2 ^ 16
         → let behind = (joined options ++ padding) ++ octets in
-        tcp.Spells src dst (segment_of c options octets) (segment_header c (segment_checksum src dst c behind) ++ behind) }
+        let checksum = segment_checksum src dst c behind in
+        let written = segment_header c checksum ++ behind in
+        Parses (tcp.IsParsed src dst written) segment_fault (told_segment written) (pos 0) old (with_options_told c checksum (segment_of c options octets)) }
+{}
+
+/// A packet that is written parses to what was written, whatever padding follows (RFC 826).
+pub fn packets_read_back()
+    ensures { (c old : CodecArp) (padding : List ℕ) → length c.sender_mac ≡ 6 → length c.target_mac ≡ 6 → c.sender_addr < 2 ^ 32 → c.target_addr < 2 ^ 32
+        → is_operation c.operation ≡ true → Parses (arp.IsParsed (packet_octets c ++ padding)) arp_fault told_packet (pos 0) old c }
+{}
+
+/// The fields that an emit takes are those of a datagram (RFC 791 section 3.1), where each is of its own width.
+pub fn fields_fit()
+    ensures { (c : CodecIpv4) (options payload : List ℕ) → c.header_len ≡ 20 + length options → c.payload_len ≡ length payload
+        → c.service < 2 ^ 8 → c.identification < 2 ^ 16 → c.ttl < 2 ^ 8 → c.protocol < 2 ^ 8 → c.checksum < 2 ^ 16
+        → datagram_fits c ≡ true → ipv4.IsDatagram (datagram_of c options payload) }
 {}
