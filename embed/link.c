@@ -1,4 +1,4 @@
-/* The TAP device of a run, with the faults of a trial on either side. */
+/* The TAP or TUN device of a run, with the faults of a trial on either side. */
 #include "tap.h"
 
 #include <errno.h>
@@ -39,11 +39,11 @@ static void await_carrier(struct ifreq *request)
     }
 }
 
-int link_open(struct link *link, const char *name)
+static int open_device(struct link *link, const char *name, short kind)
 {
     struct ifreq request;
     memset(&request, 0, sizeof request);
-    request.ifr_flags = IFF_TAP | IFF_NO_PI;
+    request.ifr_flags = (short)(kind | IFF_NO_PI);
     if (strlen(name) >= sizeof request.ifr_name) {
         errno = ENAMETOOLONG;
         return -1;
@@ -58,6 +58,23 @@ int link_open(struct link *link, const char *name)
     }
     await_carrier(&request);
     return 0;
+}
+
+int link_open(struct link *link, const char *name)
+{
+    return open_device(link, name, IFF_TAP);
+}
+
+/* The hop's MAC is the host's but for the last bit, so that it is another one, and no group's (RFC 894 has the header). */
+int link_open_tun(struct link *link, const char *name, const uint8_t mac[6])
+{
+    link->is_tun = true;
+    memcpy(link->head, mac, 6);
+    memcpy(link->head + 6, mac, 6);
+    link->head[11] ^= 1;
+    link->head[12] = 0x08;
+    link->head[13] = 0x00;
+    return open_device(link, name, IFF_TUN);
 }
 
 static void queue_free(struct side *side)
@@ -152,16 +169,39 @@ static void record(const struct link *link, const uint8_t *frame, size_t len)
     }
 }
 
+/* How many octets of each frame the device doesn't have. */
+static size_t head_of(const struct link *link)
+{
+    return link->is_tun ? ETHERNET_HEAD : 0;
+}
+
+/* A frame that came, with the header that its device leaves out: its length, or what `read` answers where there is none. */
+static ssize_t read_frame(const struct link *link, uint8_t frame[FRAME_MOST])
+{
+    const size_t head = head_of(link);
+    memcpy(frame, link->head, head);
+    const ssize_t len = read(link->device, frame + head, FRAME_MOST - head);
+    return len <= 0 ? len : len + (ssize_t)head;
+}
+
+/* A TUN device has datagrams of IPv6 too. */
+static bool is_taken(const struct link *link, const uint8_t *frame)
+{
+    return !link->is_tun || frame[ETHERNET_HEAD] >> 4 == 4;
+}
+
 bool link_read(struct link *link, uint64_t now)
 {
     uint8_t frame[FRAME_MOST];
     for (int i = 0; i < READ_MOST; i++) {
-        const ssize_t len = read(link->device, frame, sizeof frame);
+        const ssize_t len = read_frame(link, frame);
         if (len <= 0) {
             return len == 0 || errno == EAGAIN || errno == EINTR;
         }
-        record(link, frame, (size_t)len);
-        side_put(&link->in, now, frame, (size_t)len);
+        if (is_taken(link, frame)) {
+            record(link, frame, (size_t)len);
+            side_put(&link->in, now, frame, (size_t)len);
+        }
     }
     return true;
 }
@@ -174,18 +214,49 @@ size_t link_recv(struct link *link, uint64_t now, uint8_t frame[FRAME_MOST])
 /* What the device doesn't take is lost; whoever misses it sends again. */
 void link_flush(struct link *link, uint64_t now)
 {
+    const size_t head = head_of(link);
     uint8_t frame[FRAME_MOST];
     size_t len;
     while ((len = queue_take(&link->out, now, frame)) != 0) {
-        if (write(link->device, frame, len) == (ssize_t)len) {
+        if (write(link->device, frame + head, len - head) == (ssize_t)(len - head)) {
             record(link, frame, len);
         }
     }
 }
 
+/* The length of a frame with an IPv4 datagram, without padding (RFC 894, RFC 791 section 3.1); 0 of any other frame. */
+static size_t datagram_frame(const uint8_t *frame, size_t len)
+{
+    if (len < ETHERNET_HEAD + 20 || frame[12] != 0x08 || frame[13] != 0x00) {
+        return 0;
+    }
+    const size_t whole = ETHERNET_HEAD + ((size_t)frame[16] << 8 | frame[17]);
+    return whole >= ETHERNET_HEAD + 20 && whole <= len ? whole : 0;
+}
+
+/* Any address is at the hop (RFC 826). */
+bool link_answers(const struct link *link, const uint8_t *frame, size_t len, uint8_t reply[ARP_SIZE])
+{
+    static const uint8_t request[10] = {0x08, 0x06, 0, 1, 0x08, 0x00, 6, 4, 0, 1};
+    if (!link->is_tun || len < ARP_SIZE || memcmp(frame + 12, request, sizeof request) != 0) {
+        return false;
+    }
+    memcpy(reply, link->head, 12);
+    memcpy(reply + 12, request, sizeof request);
+    reply[21] = 2;
+    memcpy(reply + 22, link->head + 6, 6);
+    memcpy(reply + 28, frame + 38, 4);
+    memcpy(reply + 32, frame + 22, 10);
+    return true;
+}
+
+/* Over a TUN device datagrams go alone: any other frame of the host is dropped. */
 void link_send(struct link *link, uint64_t now, const uint8_t *frame, size_t len)
 {
-    side_put(&link->out, now, frame, len);
+    const size_t whole = link->is_tun ? datagram_frame(frame, len) : len;
+    if (whole != 0) {
+        side_put(&link->out, now, frame, whole);
+    }
     link_flush(link, now);
 }
 

@@ -10,13 +10,16 @@
 
 static const char help[] =
     "Usage: tap --tap NAME --addr ADDR[/LENGTH] [OPTION]..\n"
+    "       tap --tun NAME --addr ADDR[/LENGTH] [OPTION]..\n"
     "\n"
-    "Gives a TAP device to one host of the stack, and serves on it TCP and UDP echo (port 7) and TCP discard (9).\n"
+    "Gives a TAP or TUN device to one host of the stack, and serves on it TCP and UDP echo (port 7) and TCP discard (9).\n"
     "\n"
     "The host:\n"
     "  --tap NAME                 the device, as `ip tuntap add NAME mode tap` makes it; where there is none, one for this run\n"
+    "  --tun NAME                 in its place a TUN device (mode tun), which has IPv4 datagrams without Ethernet: all addresses are at one hop,\n"
+    "                             whose MAC this program tells; a capture has the Ethernet headers\n"
     "  --addr ADDR[/LENGTH]       its address, and the length of the link's prefix (24)\n"
-    "  --gateway ADDR             where all goes that is not for the link (nowhere)\n"
+    "  --gateway ADDR             where all goes that is not for the link (nowhere); with --tun any address will do\n"
     "  --mac MAC                  its MAC (02:00 and the four octets of the address)\n"
     "  --no-scale                 no window scale option: a connection holds 65,535 octets each way, and not 1,048,576\n"
     "  --recovery WORD            how losses are repaired: `plain`, by RFC 5681 alone, with timeouts of a second at least; `newreno`, with ten segments\n"
@@ -159,10 +162,11 @@ static void read_forward(struct options *options, const char *port, const char *
     forward->to.port = read_port("--forward", strrchr(to, ':') + 1);
 }
 
-enum { TAP = 1, ADDR, GATEWAY, MAC, NO_SCALE, RECOVERY, CONNECT, FORWARD, SOURCE, LOSE, DROP, REPEAT, DELAY, PCAP, OPENINGS, IDLE, PATIENCE, STATS, VERBOSE, HELP };
+enum { TAP = 1, TUN, ADDR, GATEWAY, MAC, NO_SCALE, RECOVERY, CONNECT, FORWARD, SOURCE, LOSE, DROP, REPEAT, DELAY, PCAP, OPENINGS, IDLE, PATIENCE, STATS, VERBOSE, HELP };
 
 static const struct option words[] = {
-    {"tap", required_argument, NULL, TAP},           {"addr", required_argument, NULL, ADDR},     {"gateway", required_argument, NULL, GATEWAY},
+    {"tap", required_argument, NULL, TAP},           {"tun", required_argument, NULL, TUN},
+    {"addr", required_argument, NULL, ADDR},         {"gateway", required_argument, NULL, GATEWAY},
     {"mac", required_argument, NULL, MAC},           {"no-scale", no_argument, NULL, NO_SCALE},
     {"recovery", required_argument, NULL, RECOVERY},
     {"connect", required_argument, NULL, CONNECT},   {"forward", required_argument, NULL, FORWARD},
@@ -229,7 +233,10 @@ static void read_one(struct options *options, int which, int argc, char **argv)
 {
     switch (which) {
     case TAP:
-        options->device = optarg;
+        options->tap = optarg;
+        break;
+    case TUN:
+        options->tun = optarg;
         break;
     case ADDR:
         read_own(options, optarg);
@@ -281,8 +288,12 @@ static void word_fault(int which, char **argv)
 
 static void complete(struct options *options)
 {
+    if (options->tap != NULL && options->tun != NULL) {
+        usage_fault("--tap and --tun exclude each other");
+    }
+    options->device = options->tun == NULL ? options->tap : options->tun;
     if (options->device == NULL || options->addr == 0) {
-        usage_fault("--tap and --addr are wanted");
+        usage_fault("--tap or --tun, and --addr are wanted");
     }
     if (options->connects && options->forward_count != 0) {
         usage_fault("--connect and --forward exclude each other");

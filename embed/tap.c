@@ -1,4 +1,4 @@
-/* One host of the stack on a TAP device: docs/EMBEDDING.md has the loop, and `tap --help` what it can be asked for. */
+/* One host of the stack on a TAP or TUN device: docs/EMBEDDING.md has the loop, and `tap --help` what it can be asked for. */
 #include "tap.h"
 
 #include <errno.h>
@@ -116,6 +116,12 @@ static bool open_host(struct tap *tap)
     return done >= 0;
 }
 
+static int open_device(struct tap *tap)
+{
+    const struct options *options = &tap->options;
+    return options->tun == NULL ? link_open(&tap->link, options->tap) : link_open_tun(&tap->link, options->tun, options->mac);
+}
+
 static bool open_link(struct tap *tap)
 {
     tap->link.in.faults = tap->options.in;
@@ -127,11 +133,22 @@ static bool open_link(struct tap *tap)
             return false;
         }
     }
-    if (link_open(&tap->link, tap->options.device) != 0) {
+    if (open_device(tap) != 0) {
         fail(tap, tap->options.device, strerror(errno));
         return false;
     }
     return true;
+}
+
+/* A frame of the host goes out, or is answered here, before the next is asked for. */
+static void send_one(struct tap *tap, const uint8_t *frame, size_t len)
+{
+    uint8_t reply[ARP_SIZE];
+    if (link_answers(&tap->link, frame, len, reply)) {
+        host_deliver(&tap->host, tap->now, 0, reply, sizeof reply);
+    } else {
+        link_send(&tap->link, tap->now, frame, len);
+    }
 }
 
 /* Sends what is due: false where more may be. */
@@ -143,7 +160,7 @@ static bool drain(struct tap *tap)
         if (len <= 0) {
             return true;
         }
-        link_send(&tap->link, tap->now, frame, (size_t)len);
+        send_one(tap, frame, (size_t)len);
     }
     return false;
 }

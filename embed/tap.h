@@ -15,6 +15,8 @@
 
 enum {
     FRAME_MOST = 2048,    /* room for a frame of the device; the host drops one of more than 1,514 octets */
+    ETHERNET_HEAD = 14,
+    ARP_SIZE = 42,        /* of a frame with an ARP packet, without padding */
     FORWARDS = 4,         /* how many --forward there may be */
     CONNECTIONS = 64,     /* how many connections are served at once */
     POLLED = CONNECTIONS + 2
@@ -38,20 +40,27 @@ struct side {
     struct waiting *first, *last;
 };
 
-/* A TAP device, with faults on either side of it, and the capture of what crosses it, if any. */
+/* A TAP or TUN device, with faults on either side of it, and the capture of what crosses it, if any. On a TUN device, which has datagrams
+   alone, `head` is what is put in front of each that comes: the Ethernet header of a frame of the one hop to the host. */
 struct link {
     int device;
+    bool is_tun;
+    uint8_t head[ETHERNET_HEAD];
     FILE *capture;
     struct side in, out;
 };
 
 /* Opens the TAP device of this name: 0, or -1 and errno. Faults and capture are the caller's to set. */
 int link_open(struct link *link, const char *name);
+/* The same of a TUN device, for a host with this MAC. */
+int link_open_tun(struct link *link, const char *name, const uint8_t mac[6]);
 void link_close(struct link *link);
 /* Takes what waits at the device, a bounded number of frames: false once the device fails. */
 bool link_read(struct link *link, uint64_t now);
 /* A frame that the host is to hear now: its length, or 0 where there is none yet. */
 size_t link_recv(struct link *link, uint64_t now, uint8_t frame[FRAME_MOST]);
+/* Whether a frame of the host is an ARP request that nobody hears but this program, as on a TUN device, and what the hop replies. */
+bool link_answers(const struct link *link, const uint8_t *frame, size_t len, uint8_t reply[ARP_SIZE]);
 /* A frame of the host: it goes out now, or later, or is lost. */
 void link_send(struct link *link, uint64_t now, const uint8_t *frame, size_t len);
 /* Sends what has waited for its time. */
@@ -66,6 +75,7 @@ struct forward {
 };
 
 struct options {
+    const char *tap, *tun;        /* the device by either option; the other is NULL */
     const char *device, *capture;
     uint8_t mac[6];
     bool has_mac, no_scale, verbose;
