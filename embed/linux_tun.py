@@ -1,34 +1,36 @@
 """Checks of `tap --tun` for embed/try-examples: a host of the stack on a TUN device, at whose other end is Linux, in the network namespace of the process.
 One that doesn't hold raises AssertionError or OSError."""
 
+from __future__ import annotations
+
 import contextlib
 import os
 import random
 import socket
-import struct
 import subprocess
 import tempfile
 import threading
 import time
+from typing import Iterator, List
 
 TAP = os.path.join(os.path.dirname(os.path.abspath(__file__)), "out", "tap")
 DEVICE, LINUX, OURS, AFAR = "tun2", "10.2.0.1", "10.2.0.2", "10.3.0.1"  # AFAR: an address of Linux's beyond the prefix of the device
 PAGE = random.Random(61).randbytes(1_000_000)
 
 
-def want(holds, what):
+def want(holds: bool, what: str) -> None:
     if not holds:
         raise AssertionError(what)
 
 
-def run(command):
+def run(command: str) -> str:
     done = subprocess.run(command.split(), capture_output=True, text=True, timeout=30)
     want(done.returncode == 0, f"{command}: {done.stderr.strip() or done.stdout}")
     return done.stdout
 
 
 @contextlib.contextmanager
-def device():
+def device() -> Iterator[None]:
     run(f"ip tuntap add dev {DEVICE} mode tun")
     try:
         for command in f"addr add {LINUX}/24 dev {DEVICE}", f"link set {DEVICE} up", f"addr replace {AFAR}/32 dev lo":
@@ -39,7 +41,7 @@ def device():
 
 
 @contextlib.contextmanager
-def tap(*words, status=0):
+def tap(*words: str, status: int = 0) -> Iterator[subprocess.Popen[bytes]]:
     """The program on the device, which is ended with the `with`, and then has this status."""
     pipe = subprocess.PIPE
     with device():
@@ -58,14 +60,14 @@ def tap(*words, status=0):
             process.wait()
 
 
-def read_all(connection):
+def read_all(connection: socket.socket) -> bytes:
     return b"".join(iter(lambda: connection.recv(1 << 16), b""))
 
 
-def sent_beside(connection):
+def sent_beside(connection: socket.socket) -> threading.Thread:
     """A thread that gives the page, and then the end."""
 
-    def send():
+    def send() -> None:
         connection.sendall(PAGE)
         connection.shutdown(socket.SHUT_WR)
 
@@ -74,7 +76,7 @@ def sent_beside(connection):
     return thread
 
 
-def echo_tcp(source, port=7):
+def echo_tcp(source: str, port: int = 7) -> None:
     with socket.create_connection((OURS, port), 20, (source, 0)) as connection:
         thread = sent_beside(connection)
         came = read_all(connection)
@@ -82,7 +84,7 @@ def echo_tcp(source, port=7):
     want(came == PAGE, f"an echo of {len(PAGE)} octets to {source}, and not {len(came)}")
 
 
-def echo_udp(source):
+def echo_udp(source: str) -> None:
     with socket.socket(socket.AF_INET, socket.SOCK_DGRAM) as client:
         client.bind((source, 0))
         client.connect((OURS, 7))
@@ -93,37 +95,38 @@ def echo_udp(source):
             want(client.recv(65536) == PAGE[:size], f"an echo of {size} octets to {source}")
 
 
-def frames_of(path):
+def frames_of(path: str) -> List[bytes]:
     """The frames of a capture (docs/FORMATS.md)."""
     with open(path, "rb") as file:
         octets = file.read()
-    at, frames = 24, []
+    at = 24
+    frames: List[bytes] = []
     while at < len(octets):
-        length, = struct.unpack_from("<I", octets, at + 8)
+        length = int.from_bytes(octets[at + 8:at + 12], "little")
         frames.append(octets[at + 16:at + 16 + length])
         at += 16 + length
     return frames
 
 
-def linux_tun_words():
+def linux_tun_words() -> None:
     done = subprocess.run([TAP, "--tap", "tap0", "--tun", DEVICE, "--addr", OURS], capture_output=True, text=True, timeout=10)
     told = "tap: --tap and --tun exclude each other; tap --help tells how\n"
     want((done.returncode, done.stdout, done.stderr) == (2, "", told), f"a refusal, and not {done.returncode} {done.stderr}")
 
 
-def linux_tun_ping():
+def linux_tun_ping() -> None:
     with tap():
         for size in 0, 56, 1472:
             want(" 20 received" in run(f"ping -q -c 20 -i 0.01 -W 2 -s {size} {OURS}"), f"20 echoes of {size} octets")
 
 
-def linux_tun_echo():
+def linux_tun_echo() -> None:
     with tap():
         echo_udp(LINUX)
         echo_tcp(LINUX)
 
 
-def linux_tun_gateway():
+def linux_tun_gateway() -> None:
     """Beyond the prefix of the device: with a gateway, which may have any address."""
     with tap("--gateway", "192.0.2.1"):
         run(f"ping -q -c 5 -i 0.01 -W 2 -I {AFAR} {OURS}")
@@ -132,12 +135,25 @@ def linux_tun_gateway():
         echo_tcp(LINUX)
 
 
-def linux_tun_losses():
+def linux_tun_losses() -> None:
     with tap("--lose", "11", "--delay", "3"):
         echo_tcp(LINUX)
 
 
-def linux_tun_connect():
+def give(process: subprocess.Popen[bytes]) -> None:
+    """Gives the page to the standard input of a program, and then the end."""
+    assert process.stdin is not None
+    process.stdin.write(PAGE)
+    process.stdin.close()
+
+
+def taken(process: subprocess.Popen[bytes]) -> bytes:
+    """What a program prints until it ends."""
+    assert process.stdout is not None
+    return process.stdout.read()
+
+
+def linux_tun_connect() -> None:
     with socket.create_server(("0.0.0.0", 0)) as server:
         server.settimeout(20)
         with tap("--connect", LINUX, str(server.getsockname()[1])) as process:
@@ -145,10 +161,10 @@ def linux_tun_connect():
             with connection:
                 want(peer[0] == OURS, f"a connection from {OURS}, and not {peer[0]}")
                 thread = sent_beside(connection)
-                reader = threading.Thread(target=lambda: (process.stdin.write(PAGE), process.stdin.close()))
+                reader = threading.Thread(target=give, args=(process,))
                 reader.start()
-                printed = []
-                printer = threading.Thread(target=lambda: printed.append(process.stdout.read()))
+                printed: List[bytes] = []
+                printer = threading.Thread(target=lambda: printed.append(taken(process)))
                 printer.start()
                 came = read_all(connection)
                 for it in thread, reader, printer:
@@ -158,8 +174,8 @@ def linux_tun_connect():
             process.stdin = process.stdout = None
 
 
-def linux_tun_forward():
-    def answer_one():
+def linux_tun_forward() -> None:
+    def answer_one() -> None:
         connection, _ = server.accept()
         with connection:
             connection.sendall(read_all(connection))
@@ -173,7 +189,7 @@ def linux_tun_forward():
         thread.join(20)
 
 
-def linux_tun_capture():
+def linux_tun_capture() -> None:
     """The frames are between the host and one hop, without padding; a datagram of IPv6 is passed over."""
     with tempfile.TemporaryDirectory() as folder:
         path = os.path.join(folder, "pcap")
