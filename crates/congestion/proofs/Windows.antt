@@ -6,9 +6,9 @@ use Rattle.std.proofs.lemmas.Bool.Decides.{nat_tests}
 use Rattle.std.proofs.lemmas.List.Sums.{fold-append}
 use Rattle.congestion.specs.declared.control.Control.{Control}
 use Rattle.congestion.specs.Control.{repairs, initial_segments}
-use Rattle.congestion.specs.Window.{Window, bounded, initial_window, is_recovering, most_counted, growth, after_new_ack, after_partial_ack, after_expiry, after_duplicate, after_loss, third_is_next}
+use Rattle.congestion.specs.Window.{Window, bounded, initial_window, is_recovering, most_counted, growth, after_new_ack, after_partial_ack, after_expiry, after_duplicate, after_loss, after_undo, third_is_next}
 use Rattle.congestion.specs.Events.{Event, IsOfPlain, after_event, window_after}
-use Rattle.congestion.specs.Events.Event.{NewAck, PartialAck, Expiry, Duplicate, Loss}
+use Rattle.congestion.specs.Events.Event.{NewAck, PartialAck, Expiry, Duplicate, Loss, Undo}
 
 -- what holds of every window with segments of this size
 record IsReached (control : Control) (smss : ℕ) (w : Window) : Type 0 where
@@ -17,6 +17,7 @@ record IsReached (control : Control) (smss : ℕ) (w : Window) : Type 0 where
   least : smss ≤ w.cwnd
   most : w.cwnd ≤ 2 ^ 30
   threshold : smss ≤ w.ssthresh
+  prior : w.prior_cwnd ≤ 2 ^ 30
 
 new_ack_keeps : (control : Control) (smss octets flight : ℕ) (w : Window) → smss ≤ 1460 → IsReached control smss w → IsReached control smss (after_new_ack w octets flight)
 new_ack_keeps control smss octets flight w most reached = record {
@@ -25,6 +26,7 @@ new_ack_keeps control smss octets flight w most reached = record {
   least = grind (arith, nat_tests);
   most = omega arith;
   threshold = reached.threshold;
+  prior = reached.prior;
 }
 
 partial_ack_keeps : (control : Control) (smss octets : ℕ) (w : Window) → smss ≤ 1460 → IsReached control smss w → IsReached control smss (after_partial_ack w octets)
@@ -34,6 +36,7 @@ partial_ack_keeps control smss octets w most reached = record {
   least = omega arith;
   most = grind (arith, nat_tests);
   threshold = reached.threshold;
+  prior = reached.prior;
 }
 
 expiry_keeps : (control : Control) (smss flight : ℕ) (w : Window) → smss ≤ 1460 → IsReached control smss w → IsReached control smss (after_expiry w flight)
@@ -43,6 +46,7 @@ expiry_keeps control smss flight w most reached = record {
   least = omega arith;
   most = omega arith;
   threshold = grind (arith, nat_tests);
+  prior = omega arith;
 }
 
 duplicate_keeps : (control : Control) (smss flight : ℕ) (w : Window) → smss ≤ 1460 → IsReached control smss w → IsReached control smss (after_duplicate w flight)
@@ -52,6 +56,7 @@ duplicate_keeps control smss flight w most reached = record {
   least = grind (arith, nat_tests);
   most = grind (arith, nat_tests);
   threshold = grind (arith, nat_tests);
+  prior = grind (arith, nat_tests);
 }
 
 loss_keeps : (control : Control) (smss flight : ℕ) (w : Window) → smss ≤ 1460 → IsReached control smss w → IsReached control smss (after_loss w flight)
@@ -61,6 +66,17 @@ loss_keeps control smss flight w most reached = record {
   least = omega arith;
   most = omega arith;
   threshold = omega arith;
+  prior = reached.most;
+}
+
+undo_keeps : (control : Control) (smss : ℕ) (w : Window) → IsReached control smss w → IsReached control smss (after_undo w)
+undo_keeps control smss w reached = record {
+  same = reached.same;
+  segment = reached.segment;
+  least = omega (arith, reached.least);
+  most = omega (arith, reached.most, reached.prior);
+  threshold = omega (arith, reached.threshold);
+  prior = reached.prior;
 }
 
 event_keeps : (control : Control) (smss : ℕ) (w : Window) (e : Event) → smss ≤ 1460 → IsReached control smss w → IsReached control smss (after_event w e)
@@ -69,6 +85,7 @@ event_keeps control smss w (PartialAck octets) most reached = partial_ack_keeps 
 event_keeps control smss w (Expiry flight) most reached = expiry_keeps control smss flight w most reached
 event_keeps control smss w (Duplicate flight) most reached = duplicate_keeps control smss flight w most reached
 event_keeps control smss w (Loss flight) most reached = loss_keeps control smss flight w most reached
+event_keeps control smss w Undo most reached = undo_keeps control smss w reached
 
 events_keep : (control : Control) (smss : ℕ) (events : List Event) (w : Window) → smss ≤ 1460 → IsReached control smss w → IsReached control smss (fold after_event w events)
 events_keep control smss [] w most reached = reached
@@ -92,6 +109,7 @@ first_reached control smss resent most =
       least = fits.0;
       most = omega (arith, fits.1);
       threshold = omega arith;
+      prior = omega arith;
     }
 
 reached : (control : Control) (smss : ℕ) (resent : Bool) (events : List Event) → smss ≤ 1460 → IsReached control smss (window_after control smss resent events)
@@ -116,6 +134,7 @@ event_ends control smss w (PartialAck _) whole most has ends = elim whole [ ]
 event_ends control smss w (Expiry flight) whole most has ends = grind (arith, nat_tests)
 event_ends control smss w (Duplicate flight) whole most has ends = grind (arith, nat_tests)
 event_ends control smss w (Loss _) whole most has ends = elim whole [ ]
+event_ends control smss w Undo whole most has ends = elim whole [ ]
 
 events_end : (control : Control) (smss : ℕ) (events : List Event) (w : Window) → AllByRecursion IsOfPlain events → smss ≤ 1460 → IsReached control smss w → EndsNoHigher w → EndsNoHigher (fold after_event w events)
 events_end control smss [] w whole most has ends = ends
@@ -185,3 +204,4 @@ recovery-begins w (PartialAck octets) stands begins = grind arith
 recovery-begins w (Expiry flight) stands begins = grind arith
 recovery-begins w (Duplicate flight) stands begins = (flight, inl (refl, grind (arith, nat_tests)))
 recovery-begins w (Loss flight) stands begins = (flight, inr refl)
+recovery-begins w Undo stands begins = cc

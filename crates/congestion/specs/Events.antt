@@ -1,7 +1,7 @@
 -- The congestion window after a list of events (RFC 5681 sections 3.1 and 3.2, RFC 6582 section 3.2, RFC 6675 section 5).
 use Rattle.std.specs.Prelude.{ℕ, ⊤, Bool, List, fold}
 use Rattle.congestion.specs.declared.control.Control.{Control}
-use Rattle.congestion.specs.Window.{Window, initial_window, after_new_ack, after_partial_ack, after_expiry, after_duplicate, after_loss}
+use Rattle.congestion.specs.Window.{Window, initial_window, after_new_ack, after_partial_ack, after_expiry, after_duplicate, after_loss, after_undo}
 
 -- what happens to the window of a connection
 pub data Event : Type 0 where
@@ -15,6 +15,8 @@ pub data Event : Type 0 where
   Duplicate : ℕ → Event
   -- reports tell that what stands at SND.UNA is lost, with so many octets in flight
   Loss : ℕ → Event
+  -- nothing was lost when a segment last counted so
+  Undo : Event
 
 abbrev pub after_event : Window → Event → Window
 after_event w (NewAck octets flight) = after_new_ack w octets flight
@@ -22,11 +24,13 @@ after_event w (PartialAck octets) = after_partial_ack w octets
 after_event w (Expiry flight) = after_expiry w flight
 after_event w (Duplicate flight) = after_duplicate w flight
 after_event w (Loss flight) = after_loss w flight
+after_event w Undo = after_undo w
 
 -- what comes also where losses are not repaired
 abbrev pub IsOfPlain : Event → Type 0
 IsOfPlain (PartialAck octets) = ⊥
 IsOfPlain (Loss flight) = ⊥
+IsOfPlain Undo = ⊥
 IsOfPlain _ = ⊤
 
 -- the window of a connection to which these events came, the first one first

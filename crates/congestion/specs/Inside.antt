@@ -11,4 +11,6 @@ view_of c = record {
   duplicates = c.duplicates;
   expired = c.expired;
   restarts = c.restarts;
+  prior_cwnd = c.prior_cwnd;
+  prior_ssthresh = c.prior_ssthresh;
 }

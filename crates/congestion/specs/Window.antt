@@ -16,6 +16,9 @@ pub record Window : Type 0 where
   pub expired : Bool
   -- whether the slow start that runs began with an expiry
   pub restarts : Bool
+  -- the window and the threshold as they were when a segment last counted as lost; 0 where none did since the timer last expired
+  pub prior_cwnd : ℕ
+  pub prior_ssthresh : ℕ
 
 -- no window is larger than 2 ^ 30
 abbrev pub bounded : ℕ → ℕ
@@ -30,6 +33,8 @@ initial_window control smss resent = record {
   duplicates = 0;
   expired = false;
   restarts = false;
+  prior_cwnd = 0;
+  prior_ssthresh = 0;
 }
 
 -- A recovery runs from the third duplicate ACK (section 3.2), or from a loss that reports tell (RFC 6675 section 5), to the ACK or the expiry that ends it.
@@ -95,7 +100,7 @@ deflated w octets = max w.smss (w.cwnd - octets + (if nat_le w.smss octets then 
 abbrev pub after_partial_ack : Window → ℕ → Window
 after_partial_ack w octets = record w { cwnd = deflated w octets; expired = false }
 
--- the timer expired. A segment that is lost again leaves the threshold as it is.
+-- the timer expired. A segment that is lost again leaves the threshold as it is. What stood before is not to come back.
 abbrev pub after_expiry : Window → ℕ → Window
 after_expiry w flight = record w {
   cwnd = w.smss;
@@ -103,6 +108,8 @@ after_expiry w flight = record w {
   duplicates = 0;
   expired = true;
   restarts = true;
+  prior_cwnd = 0;
+  prior_ssthresh = 0;
 }
 
 -- whether the next duplicate ACK is the third
@@ -116,6 +123,8 @@ after_third w flight = let half = half_of (flight_within w flight) w.smss in rec
   ssthresh = half;
   duplicates = 3;
   restarts = false;
+  prior_cwnd = w.cwnd;
+  prior_ssthresh = w.ssthresh;
 }
 
 -- Reports tell a loss: the window is half of what is in flight, without that which limited transmit sent. Nothing is added for what left the network, since the sender's pipe counts that (RFC 6675 section 5, step 4.2).
@@ -125,7 +134,13 @@ after_loss w flight = let half = half_of (flight_within w flight) w.smss in reco
   ssthresh = half;
   duplicates = 3;
   restarts = false;
+  prior_cwnd = w.cwnd;
+  prior_ssthresh = w.ssthresh;
 }
+
+-- Nothing was lost when a segment last counted so: the window and the threshold are no less than they were before (RFC 3708 section 3).
+abbrev pub after_undo : Window → Window
+after_undo w = record w { cwnd = max w.cwnd w.prior_cwnd; ssthresh = max w.ssthresh w.prior_ssthresh }
 
 -- a duplicate ACK; in a recovery it tells that one more segment has left the network
 abbrev pub after_duplicate : Window → ℕ → Window
@@ -143,3 +158,5 @@ pub record IsSound (w : Window) : Type 0 where
   pub ssthresh_least : 2 * w.smss ≤ w.ssthresh
   pub ssthresh_most : w.ssthresh ≤ 2 ^ 31
   pub duplicates : w.duplicates ≤ 3
+  pub prior_cwnd : w.prior_cwnd ≤ 2 ^ 30
+  pub prior_ssthresh : w.prior_ssthresh ≤ 2 ^ 31

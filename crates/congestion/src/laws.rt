@@ -7,7 +7,7 @@ ghost use Rattle.std.specs.List.{AllByRecursion};
 ghost use Rattle.congestion.specs.Control.{plain, repairs};
 ghost use Rattle.congestion.specs.Window.{Window, is_recovering, goes_on, allowed, third_is_next};
 ghost use Rattle.congestion.specs.Events.{Event, IsOfPlain, after_event, window_after};
-ghost use Rattle.congestion.specs.Events.Event.{NewAck, PartialAck, Expiry, Duplicate, Loss};
+ghost use Rattle.congestion.specs.Events.Event.{NewAck, PartialAck, Expiry, Duplicate, Loss, Undo};
 
 /// What a call makes of the window is what one more event makes of it (RFC 5681 sections 3.1 and 3.2).
 pub fn one_more_event()
@@ -82,6 +82,7 @@ pub fn a_recovery_ends()
     ensures expiry { (w : Window) (flight : ℕ) → is_recovering (after_event w (Expiry flight)) ≡ false }
     ensures partial { (w : Window) (octets : ℕ) → is_recovering (after_event w (PartialAck octets)) ≡ is_recovering w }
     ensures duplicate { (w : Window) (flight : ℕ) → is_recovering w ≡ true → is_recovering (after_event w (Duplicate flight)) ≡ true }
+    ensures undo { (w : Window) → is_recovering (after_event w Undo) ≡ is_recovering w }
     ensures begins { (w : Window) (e : Event) → is_recovering w ≡ false → is_recovering (after_event w e) ≡ true
         → (flight : ℕ) × (((e ≡ Duplicate flight) × (third_is_next w ≡ true)) ⊎ (e ≡ Loss flight)) }
 {}
@@ -95,6 +96,19 @@ pub fn a_loss_halves_the_window()
     ensures alone { (w : Window) (flight : ℕ) → let after = after_event w (Loss flight) in allowed after ≡ after.cwnd }
     ensures restarts { (w : Window) (flight : ℕ) → (after_event w (Loss flight)).restarts ≡ false }
     ensures stays { (w : Window) (flight : ℕ) → (after_event w (Loss flight)).control ≡ w.control }
+{}
+
+/// What a loss took from the window and the threshold comes back where it is undone (RFC 3708 section 3), whatever acknowledgements came since; a window that is larger by then stays. An expiry is not undone, nor what was before it. A recovery that runs
+/// goes on.
+pub fn an_undo_gives_back_what_a_loss_took()
+    ensures loss { (w : Window) (flight : ℕ) → let lost = after_event w (Loss flight) in let after = after_event lost Undo in (after.cwnd ≡ max lost.cwnd w.cwnd) × (after.ssthresh ≡ max lost.ssthresh w.ssthresh) }
+    ensures third { (w : Window) (flight : ℕ) → third_is_next w ≡ true → let lost = after_event w (Duplicate flight) in let after = after_event lost Undo in (w.cwnd ≤ after.cwnd) × (w.ssthresh ≤ after.ssthresh) }
+    ensures whole { (w : Window) (octets flight : ℕ) → let after = after_event w (NewAck octets flight) in (after.prior_cwnd ≡ w.prior_cwnd) × (after.prior_ssthresh ≡ w.prior_ssthresh) }
+    ensures partial { (w : Window) (octets : ℕ) → let after = after_event w (PartialAck octets) in (after.prior_cwnd ≡ w.prior_cwnd) × (after.prior_ssthresh ≡ w.prior_ssthresh) }
+    ensures never { (w : Window) → w.prior_cwnd ≡ 0 → w.prior_ssthresh ≡ 0 → let after = after_event w Undo in (after.cwnd ≡ w.cwnd) × (after.ssthresh ≡ w.ssthresh) }
+    ensures expiry { (w : Window) (flight : ℕ) → let after = after_event w (Expiry flight) in (after.prior_cwnd ≡ 0) × (after.prior_ssthresh ≡ 0) }
+    ensures begins { (control : Control) (smss : ℕ) (resent : Bool) → let w = window_after control smss resent [] in (w.prior_cwnd ≡ 0) × (w.prior_ssthresh ≡ 0) }
+    ensures counts { (w : Window) → let after = after_event w Undo in (after.duplicates ≡ w.duplicates) × (after.expired ≡ w.expired) × (after.restarts ≡ w.restarts) }
 {}
 
 /// A partial ACK of a segment or more takes what it acknowledges from the window, but for a segment, as long as a segment is left (RFC 6582 section 3.2, step 3); and none raises it.

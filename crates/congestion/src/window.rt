@@ -2,7 +2,7 @@
 
 ghost use Rattle.std.specs.Prelude.{◌≡◌, ◌≤◌, ◌*◌};
 ghost use Rattle.congestion.specs.Control.{repairs, usual_segments, initial_cwnd, initial_ssthresh};
-ghost use Rattle.congestion.specs.Window.{IsSound, initial_window, is_recovering, goes_on, allowed, in_slow_start, growth, most_counted, half_of, flight_within, ending_cwnd, deflated, after_new_ack, after_partial_ack, after_expiry, third_is_next, after_duplicate, after_loss};
+ghost use Rattle.congestion.specs.Window.{IsSound, initial_window, is_recovering, goes_on, allowed, in_slow_start, growth, most_counted, half_of, flight_within, ending_cwnd, deflated, after_new_ack, after_partial_ack, after_expiry, third_is_next, after_duplicate, after_loss, after_undo};
 
 use crate::control::Control;
 use std::marker::Model;
@@ -32,6 +32,8 @@ pub struct Cwnd {
     duplicates: u8,
     expired: bool,
     restarts: bool,
+    prior_cwnd: u32,
+    prior_ssthresh: u32,
 }
 
 impl Model for Cwnd {
@@ -62,6 +64,8 @@ impl Cwnd {
             duplicates: 0,
             expired: false,
             restarts: false,
+            prior_cwnd: 0,
+            prior_ssthresh: 0,
         }
     }
 
@@ -164,6 +168,8 @@ impl Cwnd {
         self.duplicates = 0;
         self.expired = true;
         self.restarts = true;
+        self.prior_cwnd = 0;
+        self.prior_ssthresh = 0;
     }
 
     /// Takes a duplicate ACK with so many octets in flight (RFC 5681 section 3.2). The answer is
@@ -191,10 +197,21 @@ impl Cwnd {
     pub fn lost(&mut self, flight: u32)
         ensures { self.new ≡ after_loss self.old flight }
     {
+        self.prior_cwnd = self.cwnd;
+        self.prior_ssthresh = self.ssthresh;
         self.ssthresh = half_of(self.flight_within(flight), self.smss);
         self.cwnd = self.ssthresh.min(MOST_CWND);
         self.duplicates = DUPLICATE_THRESHOLD;
         self.restarts = false;
+    }
+
+    /// Nothing was lost when a segment last counted so: the window and the threshold are no less than they were before (RFC 3708 section 3). After an expiry
+    /// nothing comes back.
+    pub fn undo(&mut self)
+        ensures { self.new ≡ after_undo self.old }
+    {
+        self.cwnd = self.cwnd.max(self.prior_cwnd);
+        self.ssthresh = self.ssthresh.max(self.prior_ssthresh);
     }
 
     fn in_slow_start(&self) -> bool

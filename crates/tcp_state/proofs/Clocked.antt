@@ -17,9 +17,9 @@ use Rattle.tcp_state.specs.declared.emission.Due.TheVariants.{Rst, Syn, Text, Pr
 use Rattle.tcp_state.specs.declared.emission.Stretch.{Stretch}
 use Rattle.tcp_halves.specs.Stream.{outstanding, after_sent}
 use Rattle.tcp_state.specs.View.{View, is_opening, is_syn_received, is_closed}
-use Rattle.tcp_state.specs.Resend.{Resend, mark_past, resend_probed, resend_acknowledged, resend_first, resend_lost, resend_ends}
+use Rattle.tcp_state.specs.Resend.{Resend, mark_past, resend_probed, resend_acknowledged, resend_first, resend_lost, resend_ends, excused_by, gives_back}
 use Rattle.tcp_state.specs.Timing.{KeepsTime, probes, retransmits, awaits_more, running, retransmission_timer, probe_timer, delayed_ack_timer, override_timer, interval_of, awaits_first, unheard_since, clocked, retransmission_expired, probe_expired, after_expiry, delayed_ack_expired, override_expired, after_timers, after_expiries}
-use Rattle.tcp_state.specs.Arrival.{after_heard, is_rejected, begins_wait, answers_probe, is_counted_duplicate, blocks_told, before, since_after, is_moved, resend_heard, resend_told, told, reports_more, resend_after, congestion_event_of, is_partial, behind_ack, told_behind, ends_tail, whole_signal, acknowledged_signal, tells_loss, report_event, resend_counted, resend_signalled, congestion_after, timed_by, after_segment_at, report_signal}
+use Rattle.tcp_state.specs.Arrival.{after_heard, is_rejected, begins_wait, answers_probe, is_counted_duplicate, blocks_told, before, since_after, is_moved, resend_heard, resend_told, told, reports_more, resend_after, congestion_event_of, is_partial, behind_ack, told_behind, ends_tail, whole_signal, acknowledged_signal, tells_loss, report_event, resend_counted, resend_signalled, congestion_after, timed_by, after_segment_at, report_signal, came_twice, is_since_loss, tells_needless, given_back, resend_left, congestion_left}
 use Rattle.tcp_state.specs.Due.{probe_stretch, end_of, after_syn_ack_paid, after_resent, after_first_sent, after_numbers, after_new_octets, after_new_text, brings_new_octets, after_syn_again, after_syn_out, after_stretch, after_probe, after_going_out, after_emitted}
 use Rattle.tcp_state.specs.Edges.{after_first}
 use Rattle.tcp_state.specs.Congestion.{Signal, after_signal}
@@ -335,26 +335,31 @@ OwingAt v w = w ≡ record v { owes_ack = w.owes_ack; since = w.since; timers = 
 pub unmoved : (v : View) → not (v.sending.una == v.sending.una) ≡ false
 unmoved v = ap not (equal v.sending.una)
 
+-- what reports nothing tells of nothing that came twice
+pub silent_needed : (v : View) (s : Segment) → blocks_told v s ≡ [] → tells_needless v s ≡ false
+unfolding tells_needless
+silent_needed v s silent = ap (λ bs. came_twice s.acknowledgement bs && is_since_loss v bs && (v.resend.tail == 0) && not (probes v)) silent
+
 -- a segment that acknowledges nothing new, reports nothing, does not answer a probe, and is no duplicate ACK changes no timer by itself
-pub timed_unmoved : (b : Before) (w : View) (now : Moment) → is_moved b w ≡ false → b.answers_probe ≡ false → b.is_duplicate ≡ false → b.blocks ≡ []
+pub timed_unmoved : (b : Before) (w : View) (now : Moment) → is_moved b w ≡ false → b.answers_probe ≡ false → b.is_duplicate ≡ false → b.blocks ≡ [] → b.needless ≡ false
     → timed_by b w now ≡ clocked false (record w { since = since_after b w now; alive = heard_now w.alive now }) now
-timed_unmoved b w now same quiet first silent =
+timed_unmoved b w now same quiet first silent needed =
     let since = since_after b w now in
     let alive = heard_now w.alive now in
-    let resend : resend_after b w now ≡ w.resend =
-    resend_unlost b w now (inl same) first silent
+    let resend : resend_left b w now ≡ w.resend =
+    ap (λ t. excused_by t (resend_after b w now)) needed ∙ resend_unlost b w now (inl same) first silent
     ∙ (ap (λ t. if t then resend_acknowledged w.resend w.sending.una (is_opening b.state) now else if b.answers_probe then record w.resend { expiries = 0 } else w.resend) same
     ∙ ap (λ t. if t then record w.resend { expiries = 0 } else w.resend) quiet) in
-    let congestion : congestion_after b w ≡ w.congestion = ap (λ e. after_signal w.congestion e w.sending.smss w.resend.syn_resent) (event_none b w same first silent) in
-    ap (λ t. clocked t (record w { since = since; resend = resend_after b w now; congestion = congestion_after b w; alive = alive }) now) same
-    ∙ (ap (λ (p : Resend). clocked false (record w { since = since; resend = p; congestion = congestion_after b w; alive = alive }) now) resend
+    let congestion : congestion_left b w now ≡ w.congestion = ap (λ t. given_back (gives_back t (resend_left b w now)) (congestion_after b w)) needed ∙ ap (λ e. after_signal w.congestion e w.sending.smss w.resend.syn_resent) (event_none b w same first silent) in
+    ap (λ t. clocked t (record w { since = since; resend = resend_left b w now; congestion = congestion_left b w now; alive = alive }) now) same
+    ∙ (ap (λ (p : Resend). clocked false (record w { since = since; resend = p; congestion = congestion_left b w now; alive = alive }) now) resend
     ∙ ap (λ (c : Window). clocked false (record w { since = since; congestion = c; alive = alive }) now) congestion)
 
 timed_owing : (v : View) (s : Segment) (owes : Bool) (now : Moment) → KeepsTime v → answers_probe v s ≡ false → is_counted_duplicate v s ≡ false → blocks_told v s ≡ []
     → OwingAt v (timed_by (before v s) (record v { owes_ack = owes }) now)
 timed_owing v s owes now keeps quiet first silent =
     let w = record v { owes_ack = owes } in
-    subst (λ x. OwingAt v x) (sym (timed_unmoved (before v s) w now (unmoved v) quiet first silent)) (settles v owes (since_after (before v s) w now) (heard_now v.alive now) now keeps)
+    subst (λ x. OwingAt v x) (sym (timed_unmoved (before v s) w now (unmoved v) quiet first silent (silent_needed v s silent))) (settles v owes (since_after (before v s) w now) (heard_now v.alive now) now keeps)
 
 -- a segment that draws an acknowledgement, or nothing, and reports nothing
 pub owing_timed : (v : View) (s : Segment) (now : Moment) → KeepsTime v → answers_probe v s ≡ false → is_counted_duplicate v s ≡ false → blocks_told v s ≡ [] → Owing v (after_heard v s) → OwingAt v (after_segment_at v s now)

@@ -27,11 +27,12 @@ use Rattle.tcp_state.specs.Congestion.Signal.{Begins, Counts, Both, Nothing}
 use Rattle.tcp_state.specs.Timing.{clocked, gives_up, retransmission_expired, probe_expired, after_expiry, after_timers, after_tick}
 use Rattle.tcp_state.specs.Alive.{after_silence}
 use Rattle.tcp_state.specs.Calls.{send_count, beyond_shutdown, shutdown_refusal, after_shutdown, aborted_at, after_release, is_removed_by_close, is_aborted_by_close}
-use Rattle.tcp_state.specs.Arrival.{opened_passively, is_receiving, beyond_fin, after_ack, after_window, after_text, after_fin, after_heard, is_rejected, before, is_moved, resend_heard, resend_after, congestion_event_of, whole_signal, acknowledged_signal, is_partial, reports_more, told, behind_ack, tells_loss, report_event, congestion_after, timed_by, after_segment_at, ends_tail, came_twice, report_signal}
+use Rattle.tcp_state.specs.Arrival.{opened_passively, is_receiving, beyond_fin, after_ack, after_window, after_text, after_fin, after_heard, is_rejected, before, is_moved, resend_heard, resend_after, congestion_event_of, whole_signal, acknowledged_signal, is_partial, reports_more, told, behind_ack, tells_loss, report_event, congestion_after, timed_by, after_segment_at, ends_tail, came_twice, report_signal, tells_needless, given_back, resend_left}
 use Rattle.tcp_state.specs.Due.{after_syn_ack_paid, after_syn_out, after_going_out, first_due}
 use Rattle.tcp_state.specs.Unreachable.{is_unreachable}
 use Rattle.tcp_state.specs.Hop.{unheard_until}
-use Rattle.tcp_state.specs.Edges.{Event, Hears, Ticks, Emits, Sends, Receives, Shuts, SetsNoDelay, SetsKeepAlive, Closes, Aborts, Unreachable, LosesHop, after_first, after_event, congestion_event_at, congestion_event_by}
+use Rattle.tcp_state.specs.Resend.{gives_back}
+use Rattle.tcp_state.specs.Edges.{Event, Hears, Ticks, Emits, Sends, Receives, Shuts, SetsNoDelay, SetsKeepAlive, Closes, Aborts, Unreachable, LosesHop, after_first, after_event, congestion_event_at, congestion_event_by, gives_back_by}
 use Rattle.tcp_state.proofs.Clocked.{by_others, emission_keeps, heard_paced, after_paced, signalled}
 use Rattle.tcp_halves.proofs.Choices.{either, by, clash, and_left, and_right, or_left, or_right}
 use Rattle.tcp_state.proofs.Segments.{by_fin, by_ack, by_hearing, by_clock}
@@ -39,7 +40,7 @@ use Rattle.tcp_state.proofs.Deadlines.{none_comes}
 use Rattle.tcp_state.proofs.TailProbes.{silent_sound, silent_congestion}
 use Rattle.tcp_state.proofs.Emissions.{syn_sends, stretch_sends, probe_sends}
 use Rattle.tcp_state.specs.Selective.{selects}
-use Rattle.tcp_state.proofs.Growth.{IsSize, IsWindow, holds_segment, first_sound, new_ack_sound, partial_ack_sound, expiry_sound, duplicate_sound, loss_sound, duplicate_segment, new_ack_adds, duplicate_adds}
+use Rattle.tcp_state.proofs.Growth.{IsSize, IsWindow, holds_segment, first_sound, new_ack_sound, partial_ack_sound, expiry_sound, duplicate_sound, loss_sound, duplicate_segment, new_ack_adds, duplicate_adds, duplicate_priors, given_sound}
 use Rattle.tcp_state.proofs.Selects.{plain_selects_none}
 
 -- Whether our SYN went out again.
@@ -216,8 +217,8 @@ signal_segment v s fits lives keeps begun =
 -- Every event.
 
 -- an event of a connection is this to its window, and the window is kept
-record Moves (v : View) (signal : Signal) (w : View) : Type 0 where
-  pub window : w.congestion ≡ after_signal v.congestion signal w.sending.smss w.resend.syn_resent
+record Moves (v : View) (back : Bool) (signal : Signal) (w : View) : Type 0 where
+  pub window : w.congestion ≡ given_back back (after_signal v.congestion signal w.sending.smss w.resend.syn_resent)
   pub keeps : IsSound v → KeepsCongestion v → KeepsCongestion w
 
 -- nothing else counts for it
@@ -227,35 +228,36 @@ keeps_on w x congestion segment begun k = record {
   segment = λ on. ap (λ (c : Window). c.smss) congestion ∙ k.segment (begun on) ∙ sym segment;
 }
 
-still : (v w : View) → w.congestion ≡ v.congestion → w.sending.smss ≡ v.sending.smss → (is_idle w.state ≡ false → is_idle v.state ≡ false) → Moves v Nothing w
+still : (v w : View) → w.congestion ≡ v.congestion → w.sending.smss ≡ v.sending.smss → (is_idle w.state ≡ false → is_idle v.state ≡ false) → Moves v false Nothing w
 still v w congestion segment begun = record { window = congestion; keeps = λ sound k. keeps_on v w congestion segment begun k }
 
-heard_moves : (v : View) (s : Segment) (now : Moment) → is_closed v.state ≡ false → Moves v (congestion_event_of (before v s) (after_heard v s)) (timed_by (before v s) (after_heard v s) now)
+heard_moves : (v : View) (s : Segment) (now : Moment) → is_closed v.state ≡ false → (let w = timed_by (before v s) (after_heard v s) now in Moves v (gives_back (tells_needless v s) w.resend) (congestion_event_of (before v s) (after_heard v s)) w)
 heard_moves v s now lives =
     let b = before v s in
     let w = after_heard v s in
     let k = segment_leaves v s in
     let signal = congestion_event_of b w in
+    let back = gives_back (tells_needless v s) (resend_left b w now) in
     record {
-      window = ap (λ c. after_signal c signal w.sending.smss w.resend.syn_resent) k.congestion ∙ ap (λ r. after_signal v.congestion signal w.sending.smss r) (sym (syn_kept_after b w now));
+      window = ap (λ c. given_back back (after_signal c signal w.sending.smss w.resend.syn_resent)) k.congestion ∙ ap (λ r. given_back back (after_signal v.congestion signal w.sending.smss r)) (sym (syn_kept_after b w now));
       keeps = λ sound keeps.
           let size = k.size (record { least = sound.segment_least; most = sound.segment }) in
-          record { sound = signal_sound b w (omega (arith, sound.tail)) size (subst IsWindow (sym k.congestion) keeps.sound); segment = signal_segment v s sound.una lives keeps };
+          record { sound = given_sound (congestion_after b w) back (signal_sound b w (omega (arith, sound.tail)) size (subst IsWindow (sym k.congestion) keeps.sound)); segment = signal_segment v s sound.una lives keeps };
     }
 
 -- the retransmission timer expires
-expiry_moves : (v : View) (now : Moment) → Moves v (if has_come v.timers.retransmission now then Counts (Expiry (outstanding v.sending)) else Nothing) (after_expiry v now)
+expiry_moves : (v : View) (now : Moment) → Moves v false (if has_come v.timers.retransmission now then Counts (Expiry (outstanding v.sending)) else Nothing) (after_expiry v now)
 expiry_moves v now = chosen (has_come v.timers.retransmission now)
   where
-    chosen : (comes : Bool) → Moves v (if comes then Counts (Expiry (outstanding v.sending)) else Nothing) (if comes then retransmission_expired v else if has_come v.timers.probe now then probe_expired v now else v)
+    chosen : (comes : Bool) → Moves v false (if comes then Counts (Expiry (outstanding v.sending)) else Nothing) (if comes then retransmission_expired v else if has_come v.timers.probe now then probe_expired v now else v)
     chosen true = record {
       window = refl;
       keeps = λ sound k. record { sound = expiry_sound v.congestion (outstanding v.sending) (few v) k.sound; segment = k.segment };
     }
-    chosen false = either View (Moves v Nothing) (has_come v.timers.probe now) (probe_expired v now) v (λ probes. still v _ refl refl (λ begun. begun)) (λ other. still v v refl refl (λ begun. begun))
+    chosen false = either View (Moves v false Nothing) (has_come v.timers.probe now) (probe_expired v now) v (λ probes. still v _ refl refl (λ begun. begun)) (λ other. still v v refl refl (λ begun. begun))
 
 -- .. and no other timer counts
-on_time : (v : View) (signal : Signal) (w x : View) → x.congestion ≡ w.congestion → x.sending ≡ w.sending → x.resend.syn_resent ≡ w.resend.syn_resent → x.state ≡ w.state → Moves v signal w → Moves v signal x
+on_time : (v : View) (signal : Signal) (w x : View) → x.congestion ≡ w.congestion → x.sending ≡ w.sending → x.resend.syn_resent ≡ w.resend.syn_resent → x.state ≡ w.state → Moves v false signal w → Moves v false signal x
 on_time v signal w x congestion sending syn state k =
     let segment = ap (λ (t : Sending). t.smss) sending in
     record {
@@ -263,13 +265,13 @@ on_time v signal w x congestion sending syn state k =
       keeps = λ sound keeps. keeps_on w x congestion segment (λ begun. ap is_idle (sym state) ∙ begun) (k.keeps sound keeps);
     }
 
-timers_move : (v : View) (now : Moment) → Moves v (if has_come v.timers.retransmission now then Counts (Expiry (outstanding v.sending)) else Nothing) (clocked false (after_timers v now) now)
+timers_move : (v : View) (now : Moment) → Moves v false (if has_come v.timers.retransmission now then Counts (Expiry (outstanding v.sending)) else Nothing) (clocked false (after_timers v now) now)
 timers_move v now =
     let signal : Signal = if has_come v.timers.retransmission now then Counts (Expiry (outstanding v.sending)) else Nothing in
-    on_time v signal (after_timers v now) (clocked false (after_timers v now) now) refl refl refl refl (by_others (Moves v signal) v now (expiry_moves v now)
+    on_time v signal (after_timers v now) (clocked false (after_timers v now) now) refl refl refl refl (by_others (Moves v false signal) v now (expiry_moves v now)
     (λ w owes k. on_time v signal w _ refl refl refl refl k) (λ w k. on_time v signal w _ refl refl refl refl k))
 
-tick_moves : (v : View) (now : Moment) → Moves v (congestion_event_at v now) (after_tick v now)
+tick_moves : (v : View) (now : Moment) → Moves v false (congestion_event_at v now) (after_tick v now)
 tick_moves v now = chosen (is_at_end v now) (gives_up v now)
   where
     signal : Signal
@@ -281,13 +283,13 @@ tick_moves v now = chosen (is_at_end v now) (gives_up v now)
     acts : View
     acts = if has_come (next_of v.timers) now then clocked false (after_timers asked now) now else asked
 
-    chosen : (over gives : Bool) → Moves v (if over || gives then Nothing else signal) (if over then after_stop v else if gives then after_reset v (Some ETIMEDOUT) else acts)
+    chosen : (over gives : Bool) → Moves v false (if over || gives then Nothing else signal) (if over then after_stop v else if gives then after_reset v (Some ETIMEDOUT) else acts)
     chosen true gives = still v (after_stop v) refl refl (λ begun. cc)
     chosen false true = still v (after_reset v (Some ETIMEDOUT)) refl refl (λ begun. cc)
     chosen false false =
-        either View (Moves v signal) (has_come (next_of v.timers) now) (clocked false (after_timers asked now) now) asked
+        either View (Moves v false signal) (has_come (next_of v.timers) now) (clocked false (after_timers asked now) now) asked
         (λ comes. let k = timers_move asked now in record { window = k.window; keeps = λ sound keeps. k.keeps (silent_sound v now sound) (silent_congestion v now keeps) })
-        (λ early. subst (λ t. Moves v (if t then Counts (Expiry (outstanding v.sending)) else Nothing) asked) (sym (none_comes v now early)) (still v asked refl refl (λ begun. begun)))
+        (λ early. subst (λ t. Moves v false (if t then Counts (Expiry (outstanding v.sending)) else Nothing) asked) (sym (none_comes v now early)) (still v asked refl refl (λ begun. begun)))
 
 -- what goes out keeps the size of a segment
 emission_segment : (v : View) (due : Due) (now : Moment) → (after_going_out v due now).sending.smss ≡ v.sending.smss
@@ -302,7 +304,7 @@ emission_segment v Probe now = ap (λ (t : Sending). t.smss) (probe_sends v)
 emission_segment v Ack now = refl
 emission_segment v KeepAlive now = refl
 
-emission_moves : (v : View) (due : Option Due) (now : Moment) → Moves v Nothing (after_first v due now)
+emission_moves : (v : View) (due : Option Due) (now : Moment) → Moves v false Nothing (after_first v due now)
 emission_moves v None now = still v v refl refl (λ begun. begun)
 emission_moves v (Some due) now =
     let kept = emission_keeps v (Some due) now in
@@ -313,35 +315,35 @@ shut_begun Established e = refl
 shut_begun CloseWait e = refl
 shut_begun _ e = e
 
-moves : (v : View) (e : Event) → Moves v (congestion_event_by v e) (after_event v e)
+moves : (v : View) (e : Event) → Moves v (gives_back_by v e (after_event v e)) (congestion_event_by v e) (after_event v e)
 moves v (Hears s now) = chosen (is_closed v.state) (is_rejected v s) refl
   where
     chosen : (closed rejected : Bool) → is_closed v.state ≡ closed
-        → Moves v (if closed || rejected then Nothing else congestion_event_of (before v s) (after_heard v s)) (if closed || rejected then v else timed_by (before v s) (after_heard v s) now)
+        → (let w = if closed || rejected then v else timed_by (before v s) (after_heard v s) now in Moves v (not (closed || rejected) && gives_back (tells_needless v s) w.resend) (if closed || rejected then Nothing else congestion_event_of (before v s) (after_heard v s)) w)
     chosen true rejected is = still v v refl refl (λ begun. begun)
     chosen false true is = still v v refl refl (λ begun. begun)
     chosen false false is = heard_moves v s now is
 moves v (Ticks now) = tick_moves v now
 moves v (Emits now) = emission_moves v (first_due v) now
 moves v (Sends octets now) =
-    either View (Moves v Nothing) (is_some v.pending_error || is_opening v.state || is_write_closed v.state) v _ (λ refused. still v v refl refl (λ begun. begun))
-    (λ taken. either View (Moves v Nothing) (length (take (send_count v octets) octets) == 0) v _ (λ none. still v v refl refl (λ begun. begun)) (λ some. still v _ refl refl (λ begun. begun)))
+    either View (Moves v false Nothing) (is_some v.pending_error || is_opening v.state || is_write_closed v.state) v _ (λ refused. still v v refl refl (λ begun. begun))
+    (λ taken. either View (Moves v false Nothing) (length (take (send_count v octets) octets) == 0) v _ (λ none. still v v refl refl (λ begun. begun)) (λ some. still v _ refl refl (λ begun. begun)))
 moves v (Receives len) =
-    either View (Moves v Nothing) (is_some v.pending_error || is_opening v.state || (length v.receiving.readable == 0)) v _ (λ nothing. still v v refl refl (λ begun. begun)) (λ some. still v _ refl refl (λ begun. begun))
+    either View (Moves v false Nothing) (is_some v.pending_error || is_opening v.state || (length v.receiving.readable == 0)) v _ (λ nothing. still v v refl refl (λ begun. begun)) (λ some. still v _ refl refl (λ begun. begun))
 moves v (Shuts now) =
-    either View (Moves v Nothing) (is_some (shutdown_refusal v)) v (after_shutdown v now) (λ refused. still v v refl refl (λ begun. begun)) (λ shuts. still v _ refl refl (shut_begun v.state))
+    either View (Moves v false Nothing) (is_some (shutdown_refusal v)) v (after_shutdown v now) (λ refused. still v v refl refl (λ begun. begun)) (λ shuts. still v _ refl refl (shut_begun v.state))
 moves v (SetsNoDelay on now) = still v _ refl refl (λ begun. begun)
 moves v (SetsKeepAlive every now) = still v _ refl refl (λ begun. begun)
 moves v (Closes now) =
-    either View (Moves v Nothing) (is_removed_by_close v) v _ (λ removed. still v v refl refl (λ begun. begun))
-    (λ stays. either View (Moves v Nothing) (is_aborted_by_close v) (aborted_at v now) (after_release v now) (λ aborts. still v _ refl refl (λ begun. cc)) (λ leaves_it. still v _ refl refl (shut_begun v.state)))
-moves v (Aborts now) = either View (Moves v Nothing) (is_closed v.state) v (aborted_at v now) (λ closed. still v v refl refl (λ begun. begun)) (λ aborts. still v _ refl refl (λ begun. cc))
+    either View (Moves v false Nothing) (is_removed_by_close v) v _ (λ removed. still v v refl refl (λ begun. begun))
+    (λ stays. either View (Moves v false Nothing) (is_aborted_by_close v) (aborted_at v now) (after_release v now) (λ aborts. still v _ refl refl (λ begun. cc)) (λ leaves_it. still v _ refl refl (shut_begun v.state)))
+moves v (Aborts now) = either View (Moves v false Nothing) (is_closed v.state) v (aborted_at v now) (λ closed. still v v refl refl (λ begun. begun)) (λ aborts. still v _ refl refl (λ begun. cc))
 moves v (Unreachable number) =
-    either View (Moves v Nothing) (is_unreachable v number) (after_reset v (Some ECONNREFUSED)) v (λ refused. still v _ refl refl (λ begun. cc)) (λ other. still v v refl refl (λ begun. begun))
+    either View (Moves v false Nothing) (is_unreachable v number) (after_reset v (Some ECONNREFUSED)) v (λ refused. still v _ refl refl (λ begun. cc)) (λ other. still v v refl refl (λ begun. begun))
 moves v (LosesHop now) =
-    either View (Moves v Nothing) (has_come (unheard_until v) now) (after_reset v (Some ETIMEDOUT)) v (λ over. still v _ refl refl (λ begun. cc)) (λ waits. still v v refl refl (λ begun. begun))
+    either View (Moves v false Nothing) (has_come (unheard_until v) now) (after_reset v (Some ETIMEDOUT)) v (λ over. still v _ refl refl (λ begun. cc)) (λ waits. still v v refl refl (λ begun. begun))
 
-pub moves_by_events : (v : View) (e : Event) → (after_event v e).congestion ≡ after_signal v.congestion (congestion_event_by v e) (after_event v e).sending.smss (after_event v e).resend.syn_resent
+pub moves_by_events : (v : View) (e : Event) → (after_event v e).congestion ≡ given_back (gives_back_by v e (after_event v e)) (after_signal v.congestion (congestion_event_by v e) (after_event v e).sending.smss (after_event v e).resend.syn_resent)
 moves_by_events v e = (moves v e).window
 
 pub stays_kept : (v : View) (e : Event) → IsSound v → KeepsCongestion v → KeepsCongestion (after_event v e)
@@ -377,14 +379,18 @@ paid_repairs b w c same pays =
     by (repairs c.control ≡ true) (repairs c.control) (λ on. on)
     (λ off.
     let taken = and_left (selects w) (nat_lt 0 b.tail) (and_left (selects w && nat_lt 0 b.tail) (w.resend.tail == 0)
-    (and_left (selects w && nat_lt 0 b.tail && (w.resend.tail == 0)) (not (is_recovering w.congestion)) (and_left (selects w && nat_lt 0 b.tail && (w.resend.tail == 0) && not (is_recovering w.congestion)) (not (came_twice w b.blocks)) pays))) in
+    (and_left (selects w && nat_lt 0 b.tail && (w.resend.tail == 0)) (not (is_recovering w.congestion)) (and_left (selects w && nat_lt 0 b.tail && (w.resend.tail == 0) && not (is_recovering w.congestion)) (not (came_twice w.sending.una b.blocks)) pays))) in
     clash (selects w) taken (plain_selects_none w (ap (λ (x : Window). repairs x.control) same ∙ off)))
 
+-- no more than it was and grows by, nor than it was before it or before the last loss
+abbrev Raised : Window → Window → Type 0
+Raised c x = (x.cwnd ≤ c.cwnd + most_growth c) × (x.prior_cwnd ≤ max c.cwnd c.prior_cwnd)
+
 signal_adds : (b : Before) (w : View) (c : Window) → w.congestion ≡ c → IsWindow c → is_opening b.state ≡ false → is_recovering c ≡ false
-    → (let x = after_signal c (congestion_event_of b w) w.sending.smss w.resend.syn_resent in is_recovering x ≡ false → x.cwnd ≤ c.cwnd + most_growth c)
+    → (let x = after_signal c (congestion_event_of b w) w.sending.smss w.resend.syn_resent in is_recovering x ≡ false → Raised c x)
 signal_adds b w c same sound opened runs =
-    let P : Signal → Type 0 = λ g. (let x = after_signal c g w.sending.smss w.resend.syn_resent in is_recovering x ≡ false → x.cwnd ≤ c.cwnd + most_growth c) in
-    let none : P Nothing = λ ends. omega arith in
+    let P : Signal → Type 0 = λ g. (let x = after_signal c g w.sending.smss w.resend.syn_resent in is_recovering x ≡ false → Raised c x) in
+    let none : P Nothing = λ ends. (omega arith, omega arith) in
     either Signal P (is_closed w.state) Nothing _ (λ closed. none)
     (λ lives. either Signal P (is_moved b w) _ _
     (λ moved. either Signal P (is_opening b.state) Begins (acknowledged_signal b (told b w) (b.held - length w.sending.held) (reports_more b w)) (λ opens. clash (is_opening b.state) opens opened)
@@ -392,21 +398,40 @@ signal_adds b w c same sound opened runs =
     (λ goes. clash (is_recovering c) (ap is_recovering (sym same) ∙ and_right (repairs w.congestion.control) (is_recovering w.congestion) (and_left (goes_on w.congestion) (nat_lt 0 w.resend.recover) goes)) runs)
     (λ whole. let n = b.held - length w.sending.held in
     let ack = NewAck n (outstanding w.sending) in
-    let acked : (after_new_ack c n (outstanding w.sending)).cwnd ≤ c.cwnd + most_growth c = new_ack_adds c n (outstanding w.sending) sound runs in
+    let acked : Raised c (after_new_ack c n (outstanding w.sending)) = (new_ack_adds c n (outstanding w.sending) sound runs, omega arith) in
     either Signal P (reports_more b w) (Both ack (report_event (behind_ack (told b w) n))) _
     (λ more. either WindowEvent (λ e. P (Both ack e)) (tells_loss (behind_ack (told b w) n)) (Loss (outstanding w.sending)) (Duplicate (outstanding w.sending)) (λ loss ends. cc) (λ early ends. acked))
-    (λ alone. either Signal P (ends_tail b w) (Both (Loss b.tail) ack) (Counts ack) (λ pays ends. paid_adds c b.tail n (outstanding w.sending) sound (paid_repairs b w c same pays)) (λ other ends. acked)))))
-    (λ unmoved. let twice_adds : P (Counts (Duplicate (outstanding w.sending))) = λ ends. duplicate_adds c (outstanding w.sending) sound runs ends in
+    (λ alone. either Signal P (ends_tail b w) (Both (Loss b.tail) ack) (Counts ack) (λ pays ends. (paid_adds c b.tail n (outstanding w.sending) sound (paid_repairs b w c same pays), omega arith)) (λ other ends. acked)))))
+    (λ unmoved. let twice_adds : P (Counts (Duplicate (outstanding w.sending))) = λ ends. (duplicate_adds c (outstanding w.sending) sound runs ends, duplicate_priors c (outstanding w.sending) ends) in
     either Signal P b.is_duplicate (Counts (Duplicate (outstanding w.sending))) _ (λ twice. twice_adds)
     (λ other. either Signal P (reports_more b w) (report_signal (told b w)) Nothing
     (λ more. either Signal P (third_is_next w.congestion && not (tells_loss (told b w))) Nothing (Counts (report_event (told b w))) (λ waits. none)
     (λ counts. either WindowEvent (λ e. P (Counts e)) (tells_loss (told b w)) (Loss (outstanding w.sending)) (Duplicate (outstanding w.sending)) (λ loss ends. cc) (λ early. twice_adds))) (λ quiet. none))))
 
-pub raised_by_one : (v : View) (s : Segment) (now : Moment) → KeepsCongestion v → is_opening v.state ≡ false → is_recovering v.congestion ≡ false
+raised_with : (v : View) (s : Segment) → KeepsCongestion v → is_opening v.state ≡ false → is_recovering v.congestion ≡ false
+    → (let x = congestion_after (before v s) (after_heard v s) in is_recovering x ≡ false → Raised v.congestion x)
+raised_with v s keeps opened runs =
+    let w = after_heard v s in
+    subst (λ c. let x = after_signal c (congestion_event_of (before v s) w) w.sending.smss w.resend.syn_resent in is_recovering x ≡ false → Raised v.congestion x) (sym (segment_leaves v s).congestion)
+    (signal_adds (before v s) w v.congestion (segment_leaves v s).congestion keeps.sound opened runs)
+
+pub raised_by_one : (v : View) (s : Segment) (now : Moment) → KeepsCongestion v → is_opening v.state ≡ false → is_recovering v.congestion ≡ false → tells_needless v s ≡ false
     → is_recovering (after_segment_at v s now).congestion ≡ false → (after_segment_at v s now).congestion.cwnd ≤ v.congestion.cwnd + most_growth v.congestion
-raised_by_one v s now keeps opened runs =
+raised_by_one v s now keeps opened runs needed =
     let P : Window → Type 0 = λ x. is_recovering x ≡ false → x.cwnd ≤ v.congestion.cwnd + most_growth v.congestion in
+    let b = before v s in
     let w = after_heard v s in
     by_clock (λ x. P x.congestion) v s now (λ ends. omega arith)
-    (λ lives. subst (λ c. P (after_signal c (congestion_event_of (before v s) w) w.sending.smss w.resend.syn_resent)) (sym (segment_leaves v s).congestion)
-    (signal_adds (before v s) w v.congestion (segment_leaves v s).congestion keeps.sound opened runs))
+    (λ lives. subst (λ t. P (given_back (gives_back t (resend_left b w now)) (congestion_after b w))) (sym needed) (λ ends. (raised_with v s keeps opened runs ends).0))
+
+pub raised_back : (v : View) (s : Segment) (now : Moment) → KeepsCongestion v → is_opening v.state ≡ false → is_recovering v.congestion ≡ false
+    → is_recovering (after_segment_at v s now).congestion ≡ false → (after_segment_at v s now).congestion.cwnd ≤ max (v.congestion.cwnd + most_growth v.congestion) v.congestion.prior_cwnd
+raised_back v s now keeps opened runs =
+    let c = v.congestion in
+    let P : Window → Type 0 = λ x. is_recovering x ≡ false → x.cwnd ≤ max (c.cwnd + most_growth c) c.prior_cwnd in
+    let b = before v s in
+    let x = congestion_after b (after_heard v s) in
+    let given : (back : Bool) → is_recovering x ≡ false → (given_back back x).cwnd ≤ max (c.cwnd + most_growth c) c.prior_cwnd = λ back ends.
+    let most = raised_with v s keeps opened runs ends in
+    either ℕ (λ n. n ≤ max (c.cwnd + most_growth c) c.prior_cwnd) back (max x.cwnd x.prior_cwnd) x.cwnd (λ gives. omega (arith, most.0, most.1)) (λ keeps_it. omega (arith, most.0)) in
+    by_clock (λ w. P w.congestion) v s now (λ ends. omega arith) (λ lives. given (gives_back b.needless (resend_left b (after_heard v s) now)))

@@ -1,10 +1,11 @@
 -- What one event makes of a congestion window: it stays sound, and grows by a segment at most, or by two.
-use Rattle.std.proofs.Common.{◌≡◌, ℕ, ◌+◌, ◌*◌, ◌/◌, ◌^◌, ◌<◌, ◌≤◌, min, Bool, false, arith}
+use Rattle.std.proofs.Common.{◌≡◌, ℕ, ◌+◌, ◌*◌, ◌/◌, ◌^◌, ◌<◌, ◌≤◌, min, max, Bool, true, false, arith}
 use Rattle.std.proofs.Math.Nat.{div-le_of_le-mul, mul-le-mul_right}
 use Rattle.std.proofs.lemmas.Bool.Decides.{nat_tests}
 use Rattle.congestion.specs.declared.control.Control.{Control}
 use Rattle.congestion.specs.Control.{initial_segments}
-use Rattle.congestion.specs.Window.{Window, IsSound, allowed, initial_window, is_recovering, most_counted, growth, most_growth, after_new_ack, after_partial_ack, after_expiry, after_duplicate, after_loss}
+use Rattle.congestion.specs.Window.{Window, IsSound, allowed, initial_window, is_recovering, most_counted, growth, most_growth, after_new_ack, after_partial_ack, after_expiry, after_duplicate, after_loss, after_undo}
+use Rattle.tcp_state.specs.Arrival.{given_back}
 
 -- so many octets as a segment may have
 pub record IsSize (smss : ℕ) : Type 0 where
@@ -37,6 +38,8 @@ first_sound control smss resent size =
       ssthresh_least = omega (arith, size.most);
       ssthresh_most = omega arith;
       duplicates = omega arith;
+      prior_cwnd = omega arith;
+      prior_ssthresh = omega arith;
     }
 
 pub new_ack_sound : (w : Window) (octets flight : ℕ) → IsSound w → IsSound (after_new_ack w octets flight)
@@ -48,6 +51,8 @@ new_ack_sound w octets flight sound = record {
   ssthresh_least = sound.ssthresh_least;
   ssthresh_most = sound.ssthresh_most;
   duplicates = omega arith;
+  prior_cwnd = sound.prior_cwnd;
+  prior_ssthresh = sound.prior_ssthresh;
 }
 
 pub partial_ack_sound : (w : Window) (octets : ℕ) → IsSound w → IsSound (after_partial_ack w octets)
@@ -59,6 +64,8 @@ partial_ack_sound w octets sound = record {
   ssthresh_least = sound.ssthresh_least;
   ssthresh_most = sound.ssthresh_most;
   duplicates = sound.duplicates;
+  prior_cwnd = sound.prior_cwnd;
+  prior_ssthresh = sound.prior_ssthresh;
 }
 
 -- no more octets are in flight than there are numbers
@@ -71,6 +78,8 @@ expiry_sound w flight small sound = record {
   ssthresh_least = grind (arith, nat_tests);
   ssthresh_most = grind (arith, nat_tests);
   duplicates = omega arith;
+  prior_cwnd = omega arith;
+  prior_ssthresh = omega arith;
 }
 
 pub duplicate_sound : (w : Window) (flight : ℕ) → flight < 2 ^ 32 → IsSound w → IsSound (after_duplicate w flight)
@@ -82,6 +91,8 @@ duplicate_sound w flight small sound = record {
   ssthresh_least = grind (arith, nat_tests);
   ssthresh_most = grind (arith, nat_tests);
   duplicates = grind (arith, nat_tests);
+  prior_cwnd = grind (arith, nat_tests);
+  prior_ssthresh = grind (arith, nat_tests);
 }
 
 pub loss_sound : (w : Window) (flight : ℕ) → flight < 2 ^ 32 → IsSound w → IsSound (after_loss w flight)
@@ -93,7 +104,26 @@ loss_sound w flight small sound = record {
   ssthresh_least = grind (arith, nat_tests);
   ssthresh_most = grind (arith, nat_tests);
   duplicates = omega arith;
+  prior_cwnd = sound.cwnd_most;
+  prior_ssthresh = sound.ssthresh_most;
 }
+
+pub undo_sound : (w : Window) → IsSound w → IsSound (after_undo w)
+undo_sound w sound = record {
+  smss_least = sound.smss_least;
+  smss_most = sound.smss_most;
+  cwnd_least = omega (arith, sound.cwnd_least);
+  cwnd_most = omega (arith, sound.cwnd_most, sound.prior_cwnd);
+  ssthresh_least = omega (arith, sound.ssthresh_least);
+  ssthresh_most = omega (arith, sound.ssthresh_most, sound.prior_ssthresh);
+  duplicates = sound.duplicates;
+  prior_cwnd = sound.prior_cwnd;
+  prior_ssthresh = sound.prior_ssthresh;
+}
+
+pub given_sound : (w : Window) (back : Bool) → IsSound w → IsSound (given_back back w)
+given_sound w true sound = undo_sound w sound
+given_sound w false sound = sound
 
 -- it counts in segments of the size that it had
 pub duplicate_segment : (w : Window) (flight : ℕ) → (let x = after_duplicate w flight in x.smss) ≡ w.smss
@@ -120,6 +150,9 @@ new_ack_adds w octets flight sound runs =
 -- a duplicate ACK that begins no recovery adds nothing
 pub duplicate_adds : (w : Window) (flight : ℕ) → IsSound w → is_recovering w ≡ false → (let x = after_duplicate w flight in is_recovering x) ≡ false → (let x = after_duplicate w flight in x.cwnd) ≤ w.cwnd + most_growth w
 duplicate_adds w flight sound runs ends = grind (arith, nat_tests)
+
+pub duplicate_priors : (w : Window) (flight : ℕ) → (let x = after_duplicate w flight in is_recovering x) ≡ false → (let x = after_duplicate w flight in x.prior_cwnd) ≤ max w.cwnd w.prior_cwnd
+duplicate_priors w flight ends = grind (arith, nat_tests)
 
 -- no window is less than a segment, nor what may be in flight less than the window
 pub allows_some : (w : Window) → IsSound w → 0 < allowed w

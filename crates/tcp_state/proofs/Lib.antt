@@ -107,3 +107,4 @@ pub mod BlocksTold
 pub mod KeptTold
 pub mod TailProbes
 pub mod TailEnds
+pub mod Undoing

@@ -31,26 +31,31 @@ Same v w = Is v.resend.resent w
 
 -- A segment that comes.
 
-heard_same : (v : View) (s : Segment) → Same v (after_heard v s)
-heard_same v s =
+-- .. and so is what is excused of it
+abbrev SameCounts : View → View → Type 0
+SameCounts v w = Same v w × (w.resend.excused ≡ v.resend.excused)
+
+pub heard_counts : (v : View) (s : Segment) → SameCounts v (after_heard v s)
+heard_counts v s =
+    let P : View → Type 0 = SameCounts v in
     let told = after_window (after_ack v s.acknowledgement) s in
     let gone = after_new_ack v s.acknowledgement in
-    let acked : Same v (after_ack v s.acknowledgement) = by_ack (Same v) v s.acknowledgement (record {
-      old = refl;
-      beyond = refl;
-      opens = λ received new. refl;
-      octets = λ new. refl;
-      fin = λ new fin. either Resend (λ p. p.resent ≡ v.resend.resent) (is_closed (beyond_fin v.state)) (stopped gone.resend) gone.resend (λ closed. refl) (λ alive. refl);
+    let acked : P (after_ack v s.acknowledgement) = by_ack P v s.acknowledgement (record {
+      old = (refl, refl);
+      beyond = (refl, refl);
+      opens = λ received new. (refl, refl);
+      octets = λ new. (refl, refl);
+      fin = λ new fin. either Resend (λ p. (p.resent ≡ v.resend.resent) × (p.excused ≡ v.resend.excused)) (is_closed (beyond_fin v.state)) (stopped gone.resend) gone.resend (λ closed. (refl, refl)) (λ alive. (refl, refl));
     }) in
-    let text : Same v (after_text told s) = either View (Same v) ((length s.octets == 0) || not (is_receiving told.state)) told _ (λ none. acked) (λ some. acked) in
-    by_hearing (Same v) v s acked (record {
-      dropped = refl;
-      drawn = refl;
-      reset = λ acts. refl;
-      crossed = λ waits. refl;
-      opened = λ waits right. refl;
+    let text : P (after_text told s) = either View P ((length s.octets == 0) || not (is_receiving told.state)) told _ (λ none. acked) (λ some. acked) in
+    by_hearing P v s acked (record {
+      dropped = (refl, refl);
+      drawn = (refl, refl);
+      reset = λ acts. (refl, refl);
+      crossed = λ waits. (refl, refl);
+      opened = λ waits right. (refl, refl);
       acknowledged = λ taken. acked;
-      read = λ on. by_fin (Same v) (after_text told s) s (λ counts. text) text text;
+      read = λ on. by_fin P (after_text told s) s (λ counts. text) text text;
     })
 
 timed_same : (v : View) (s : Segment) (now : Moment) → Same v (timed_by (before v s) (after_heard v s) now)
@@ -58,7 +63,7 @@ timed_same v s now =
     let b = before v s in
     let x = after_heard v s in
     let kept = heard_paced b x now (λ p. p.resent ≡ x.resend.resent) refl refl refl in
-    after_paced b x now (λ p. p.resent ≡ x.resend.resent) kept kept (λ r. kept) kept ∙ heard_same v s
+    after_paced b x now (λ p. p.resent ≡ x.resend.resent) kept kept (λ r. kept) kept ∙ (heard_counts v s).0
 
 -- What goes out.
 

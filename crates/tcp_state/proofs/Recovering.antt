@@ -29,7 +29,7 @@ use Rattle.tcp_state.specs.Congestion.Signal.{Begins, Counts, Nothing}
 use Rattle.tcp_state.specs.Arrival.{owing_ack, is_receiving, is_of_fin, beyond_fin, beyond_end, after_new_ack, after_ack, after_window, after_text, after_heard, is_rejected, is_duplicate, counts_duplicates, is_counted_duplicate, before, is_moved, resend_heard, resend_told, told, told_behind, whole_signal, reports_more, tells_loss, is_report, reports_loss, acknowledged_signal, congestion_event_of, resend_signalled, resend_after, timed_by, after_segment_at, report_signal}
 use Rattle.tcp_state.specs.Counted.{IsDuplicate}
 use Rattle.tcp_state.specs.Due.{ack_due, again, again_from, new_due, first_due, probe_stretch, end_of, after_resent, after_first_sent, after_numbers, after_new_octets, after_new_text, brings_new_octets, after_syn_ack_paid, after_syn_out, after_emitted}
-use Rattle.tcp_state.specs.Edges.{Event, Hears, Ticks, Emits, after_first, after_event}
+use Rattle.tcp_state.specs.Edges.{Event, Hears, Ticks, Emits, after_first, after_event, gives_back_by}
 use Rattle.stream_buf.specs.Ranges.{AreApart}
 use Rattle.tcp_state.specs.Selective.{selects, repairs_gaps, with_blocks}
 use Rattle.tcp_state.proofs.Selects.{silent_unselected, more_counts, report_counts}
@@ -43,7 +43,7 @@ use Rattle.tcp_state.proofs.Duplicates.{window_stays, repeats, comes_alone, una_
 use Rattle.tcp_state.proofs.Events.{by_event}
 use Rattle.tcp_state.proofs.Losses.{past_opening}
 use Rattle.tcp_state.proofs.Segments.{by_fin, by_ack, by_hearing, by_clock}
-use Rattle.tcp_state.proofs.Signals.{duplicates_are, quiet_on, heard_is, heard_selects, moved_hears, is_moved_by, counts_partly, counts_no_part, counts_duplicate, goes_on as ticks_on, others_count_none}
+use Rattle.tcp_state.proofs.Signals.{duplicates_are, quiet_on, heard_is, heard_selects, moved_hears, is_moved_by, counts_partly, counts_no_part, counts_duplicate, goes_on as ticks_on, others_count_none, gives_none, probe_needed}
 use Rattle.tcp_state.proofs.StillStreams.{emissions_leave}
 
 -- Its end keeps its number.
@@ -141,15 +141,15 @@ timed_left v s now sound =
 
 -- What goes out leaves it.
 
--- nor what is reported, the end of a probe of the tail, and how late octets came
+-- nor what is reported, the end of a probe of the tail, how late octets came, and what is counted since a loss
 abbrev pub KeepsEnds : View → View → Type 0
-KeepsEnds v w = (w.resend.recover ≡ v.resend.recover) × (w.resend.reported ≡ v.resend.reported) × (w.resend.tail ≡ v.resend.tail) × (w.resend.reach ≡ v.resend.reach)
+KeepsEnds v w = (w.resend.recover ≡ v.resend.recover) × (w.resend.reported ≡ v.resend.reported) × (w.resend.tail ≡ v.resend.tail) × (w.resend.reach ≡ v.resend.reach) × (w.resend.excused ≡ v.resend.excused) × (w.resend.since_loss ≡ v.resend.since_loss)
 
 numbers_left : (v : View) (offset end : ℕ) (now : Moment) → KeepsEnds v (after_numbers v offset end now)
-numbers_left v offset end now = either View (KeepsEnds v) (nat_lt offset (outstanding v.sending)) (after_resent v end) (after_first_sent v end now) (λ again. (refl, refl, refl, refl)) (λ first. (refl, refl, refl, refl))
+numbers_left v offset end now = either View (KeepsEnds v) (nat_lt offset (outstanding v.sending)) (after_resent v end) (after_first_sent v end now) (λ again. (refl, refl, refl, refl, refl, refl)) (λ first. (refl, refl, refl, refl, refl, refl))
 
 emitted_left : (v : View) (due : Due) (now : Moment) → KeepsEnds v (after_emitted v due now)
-emitted_left v Rst now = (refl, refl, refl, refl)
+emitted_left v Rst now = (refl, refl, refl, refl, refl, refl)
 emitted_left v Syn now =
     let P : View → Type 0 = KeepsEnds v in
     let sent = numbers_left v 0 1 now in
@@ -163,12 +163,12 @@ emitted_left v (Text stretch) now =
 emitted_left v Probe now =
     let P : View → Type 0 = KeepsEnds v in
     let sent = record v { sending = after_sent v.sending (end_of (probe_stretch v)); resend = resend_probed v.resend } in
-    either View P (brings_new_octets v (probe_stretch v)) (after_new_octets sent) sent (λ new. (refl, refl, refl, refl)) (λ old. (refl, refl, refl, refl))
-emitted_left v Ack now = (refl, refl, refl, refl)
-emitted_left v KeepAlive now = (refl, refl, refl, refl)
+    either View P (brings_new_octets v (probe_stretch v)) (after_new_octets sent) sent (λ new. (refl, refl, refl, refl, refl, refl)) (λ old. (refl, refl, refl, refl, refl, refl))
+emitted_left v Ack now = (refl, refl, refl, refl, refl, refl)
+emitted_left v KeepAlive now = (refl, refl, refl, refl, refl, refl)
 
 pub first_left : (v : View) (o : Option Due) (now : Moment) → KeepsEnds v (after_first v o now)
-first_left v None now = (refl, refl, refl, refl)
+first_left v None now = (refl, refl, refl, refl, refl, refl)
 first_left v (Some due) now = emitted_left v due now
 
 emits_left : (v : View) (now : Moment) → IsSound v → Left v (after_event v (Emits now))
@@ -277,7 +277,10 @@ ends_at_end v e sound opened on ends =
         | inl hears ↦ subst (λ (d : Event). is_recovering (after_event v d).congestion ≡ false → is_closed (after_event v d).state ≡ false
             → ((after_event v d).sending.una ≢ v.sending.una) ⊎ ((IsDuplicate v hears.0 × (counts_duplicates v ≡ true)) ⊎ (is_report v hears.0 ≡ true)) → Ended v d)
             (sym hears.2) (ended_by v hears.0 hears.1 sound opened on) ends hears.3 hears.4
-        | inr expires ↦ inr expires
+        | inr rest ↦ elim rest [
+          | inl expires ↦ inr expires
+          | inr gives ↦ clash (is_recovering v.congestion) (and_right (repairs v.congestion.control) (is_recovering v.congestion) on) (sym (ap is_recovering gives.1) ∙ ends)
+        ]
       ]
     ]
 
@@ -311,7 +314,10 @@ none_by_probes v s now sound on asks twice =
             | inr reports ↦ clash (probes v) asks (report_counts v hears.0 reports).unprobed
           ]
         ]
-        | inr expires ↦ let bad = expires.1 in cc
+        | inr rest ↦ elim rest [
+          | inl expires ↦ let bad = expires.1 in cc
+          | inr gives ↦ clash (gives_back_by v (Hears s now) (after_event v (Hears s now))) gives.0 (gives_none v s now (after_event v (Hears s now)) (probe_needed v s asks))
+        ]
       ]
     ]
 

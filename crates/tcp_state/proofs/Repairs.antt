@@ -22,7 +22,7 @@ use Rattle.tcp_halves.proofs.Choices.{either, by, clash, both, and_left, and_rig
 use Rattle.tcp_state.specs.declared.arrival.Before.{Before}
 use Rattle.tcp_state.specs.declared.emission.Due.TheVariants.{Rst, Syn, Text}
 use Rattle.tcp_state.specs.declared.emission.Stretch.{Stretch}
-use Rattle.tcp_state.specs.Resend.{Resend, resend_lost, resend_ends}
+use Rattle.tcp_state.specs.Resend.{Resend, resend_lost, resend_ends, once_more}
 use Rattle.tcp_state.specs.View.{View, IsSound, is_opening, is_closed, is_at_end}
 use Rattle.tcp_state.specs.Congestion.{Signal, after_signal}
 use Rattle.tcp_state.specs.Congestion.Signal.{Begins, Counts, Both, Nothing}
@@ -34,6 +34,7 @@ use Rattle.tcp_state.specs.Edges.{Event, Hears, after_event, Ticks, Emits, Sends
 use Rattle.clock.specs.Moments.{has_come}
 use Rattle.tcp_state.specs.Alive.{after_silence}
 use Rattle.tcp_state.specs.Timing.{KeepsTime, probes, clocked, retransmission_expired, probe_expired, after_timers, after_tick, gives_up}
+use Rattle.tcp_state.proofs.Recount.{heard_counts}
 use Rattle.tcp_state.proofs.Clocked.{by_others, heard_paced, after_paced, told_moved, told_still, signalled, reports_none}
 use Rattle.tcp_state.proofs.Congestion.{window_kept}
 use Rattle.tcp_state.proofs.Places.{at_una_goes}
@@ -134,7 +135,7 @@ none_lost v (Hears s now) unasked =
     (λ hears. signalled b x LosesNone nothing (λ flight e. cc, λ first behind e. cc) (λ moves opened whole. (λ flight e. cc, λ first behind e. cc)) (λ moves opened goes. (λ flight e. cc, λ first behind e. cc)) (λ stays twice. (λ flight e. cc, λ first behind e. cc))
     (λ stays more counts. clash (reports_more b x) more none) (λ moves opened more. clash (reports_more b x) more none)
     (λ moves opened whole ends.
-    let asked = and_left (selects x) (nat_lt 0 b.tail) (and_left (selects x && nat_lt 0 b.tail) (x.resend.tail == 0) (and_left fresh (not (is_recovering x.congestion)) (and_left (fresh && not (is_recovering x.congestion)) (not (came_twice x b.blocks)) ends))) in
+    let asked = and_left (selects x) (nat_lt 0 b.tail) (and_left (selects x && nat_lt 0 b.tail) (x.resend.tail == 0) (and_left fresh (not (is_recovering x.congestion)) (and_left (fresh && not (is_recovering x.congestion)) (not (came_twice x.sending.una b.blocks)) ends))) in
     clash (selects x) asked (heard_selects v s (opened_tells v.state opened).0 ∙ unasked)))
 none_lost v (Ticks now) unasked =
     either Signal LosesNone (is_at_end v now || gives_up v now) Nothing _ (λ ends. nothing)
@@ -241,6 +242,40 @@ loss_event v s is other lives =
     ∙ ap (λ t. if third_is_next x.congestion && not t then Nothing else Counts (if t then Loss flight else Duplicate flight)) (ap tells_loss (sym (told_still b x stays)) ∙ loss)
     ∙ ap (λ t. if t then Nothing else Counts (Loss flight)) (and_false (third_is_next x.congestion))))
 
+-- what it makes of what goes out again
+loss_marks : (v : View) (s : Segment) (now : Moment) → reports_loss v s ≡ true → is_counted_duplicate v s ≡ false → is_closed (after_heard v s).state ≡ false
+    → (let x = after_heard v s in resend_after (before v s) x now ≡ resend_lost (resend_told (before v s) x now) true (outstanding x.sending))
+loss_marks v s now is other lives =
+    let b = before v s in
+    let x = after_heard v s in
+    let flight = outstanding x.sending in
+    let p = resend_told b x now in
+    elim (loss_event v s is other lives) [
+      | inl alone ↦ ap (λ g. resend_signalled p g x.congestion flight) alone
+      | inr behind ↦ ap (λ g. resend_signalled p g x.congestion flight) behind
+          ∙ either Resend (λ q. resend_lost q true flight ≡ resend_lost p true flight) (is_selective x.congestion.control && is_recovering x.congestion) (resend_ends p) p (λ ends. refl) (λ stays. refl)
+    ]
+
+-- .. and what is counted since a loss begins anew
+pub loss_counts_anew : (v : View) (s : Segment) (now : Moment) → IsSound v → reports_loss v s ≡ true → is_counted_duplicate v s ≡ false → (is_closed v.state || is_rejected v s) ≡ false → is_closed (after_event v (Hears s now)).state ≡ false
+    → let w = after_event v (Hears s now) in (w.resend.since_loss ≡ 0) × (w.resend.excused ≡ v.resend.resent)
+loss_counts_anew v s now sound is other hears alive =
+    let b = before v s in
+    let x = after_heard v s in
+    let at = heard_is v s now hears in
+    let lives : is_closed x.state ≡ false = sym (ap (λ (y : View). is_closed y.state) at) ∙ alive in
+    let lost = loss_marks v s now is other lives in
+    let since : (resend_after b x now).since_loss ≡ 0 = ap (λ (p : Resend). p.since_loss) lost in
+    let told : (resend_told b x now).resent ≡ x.resend.resent = heard_paced b x now (λ p. p.resent ≡ x.resend.resent) refl refl refl in
+    let again : (resend_after b x now).excused ≡ v.resend.resent = ap (λ (p : Resend). p.excused) lost ∙ told ∙ (heard_counts v s).0 in
+    (
+      ap (λ (y : View). y.resend.since_loss) at ∙ since,
+      ap (λ (y : View). y.resend.excused) at
+      ∙ ap (λ n. if b.needless && nat_lt 0 n then once_more (resend_after b x now).excused else (resend_after b x now).excused) since
+      ∙ ap (λ t. if t then once_more (resend_after b x now).excused else (resend_after b x now).excused) (and_false b.needless)
+      ∙ again,
+    )
+
 pub loss_resends : (v : View) (s : Segment) (now : Moment) → IsSound v → reports_loss v s ≡ true → is_counted_duplicate v s ≡ false → (is_closed v.state || is_rejected v s) ≡ false → is_closed (after_event v (Hears s now)).state ≡ false
     → let w = after_event v (Hears s now) in (first_due w ≡ Some (Text (again w 0))) × (w.resend.recover ≡ outstanding w.sending) × (w.resend.once ≡ true) × (is_recovering w.congestion ≡ true)
 loss_resends v s now sound is other hears alive =
@@ -254,12 +289,7 @@ loss_resends v s now sound is other hears alive =
     let more = and_left (is_report v s) (tells_loss (told_behind b x)) is in
     let flies = more_flies b x more in
     let event = loss_event v s is other lives in
-    let p = resend_told b x now in
-    let resend : resend_after b x now ≡ resend_lost p true flight = elim event [
-      | inl alone ↦ ap (λ g. resend_signalled p g x.congestion flight) alone
-      | inr behind ↦ ap (λ g. resend_signalled p g x.congestion flight) behind
-          ∙ either Resend (λ q. resend_lost q true flight ≡ resend_lost p true flight) (is_selective x.congestion.control && is_recovering x.congestion) (resend_ends p) p (λ ends. refl) (λ stays. refl)
-    ] in
+    let resend = loss_marks v s now is other lives in
     let recovers : is_recovering w.congestion ≡ true = elim event [
       | inl alone ↦ ap is_recovering (window_by v (Hears s now) (Counts (Loss flight)) (event_is v s now hears ∙ alone))
       | inr behind ↦ ap is_recovering (window_by v (Hears s now) (Both (NewAck (length v.sending.held - length x.sending.held) flight) (Loss flight)) (event_is v s now hears ∙ behind))

@@ -23,7 +23,7 @@ use Rattle.tcp_state.proofs.Gains.{receiving_lives}
 
 -- the retransmission state stays but for the mark and the ends of the last small segment and of a recovery, and the timers run on ..
 record Stays (v w : View) : Type 0 where
-  pub resend : w.resend ≡ record v.resend { mark = w.resend.mark; small = w.resend.small; recover = w.resend.recover; tail = w.resend.tail; reach = w.resend.reach; reported = w.resend.reported }
+  pub resend : w.resend ≡ record v.resend { mark = w.resend.mark; small = w.resend.small; recover = w.resend.recover; tail = w.resend.tail; reach = w.resend.reach; since_loss = w.resend.since_loss; reported = w.resend.reported }
   pub timers : w.timers ≡ v.timers
 
 -- .. or all stops, where it closes
@@ -60,7 +60,7 @@ ack_leaves v ack = by_ack (Leaves v) v ack (record {
 -- nothing else of a segment is of the retransmission state or the timers
 on : (v w x : View) → x.resend ≡ w.resend → x.timers ≡ w.timers → (is_closed w.state ≡ true → is_closed x.state ≡ true) → Leaves v w → Leaves v x
 on v w x resend timers closes leaves = elim leaves [
-  | inl k ↦ inl (record { resend = subst (λ (p : Resend). p ≡ record v.resend { mark = p.mark; small = p.small; recover = p.recover; tail = p.tail; reach = p.reach; reported = p.reported }) (sym resend) k.resend; timers = timers ∙ k.timers })
+  | inl k ↦ inl (record { resend = subst (λ (p : Resend). p ≡ record v.resend { mark = p.mark; small = p.small; recover = p.recover; tail = p.tail; reach = p.reach; since_loss = p.since_loss; reported = p.reported }) (sym resend) k.resend; timers = timers ∙ k.timers })
   | inr k ↦ inr (record { resend = resend ∙ k.resend; timers = timers ∙ k.timers; closed = closes k.closed })
 ]
 

@@ -6,7 +6,7 @@ use Rattle.clock.specs.Moments.{has_come}
 use Rattle.congestion.specs.Control.{repairs}
 use Rattle.congestion.specs.Window.{Window, is_recovering, goes_on, third_is_next, after_third}
 use Rattle.congestion.specs.Events.{Event as WindowEvent, after_event as after_window_event}
-use Rattle.congestion.specs.Events.Event.{NewAck, PartialAck, Expiry, Duplicate, Loss}
+use Rattle.congestion.specs.Events.Event.{NewAck, PartialAck, Expiry, Duplicate, Loss, Undo}
 use Rattle.retransmit.specs.Timeout.{Timeout, after_sample, after_lost_syn}
 use Rattle.tcp_state.specs.declared.emission.Due.{Due}
 use Rattle.tcp_state.specs.declared.resend.Timed.{Timed}
@@ -33,6 +33,7 @@ event_leaves c (NewAck octets flight) = refl
 event_leaves c (PartialAck octets) = refl
 event_leaves c (Expiry flight) = refl
 event_leaves c (Loss flight) = refl
+event_leaves c Undo = refl
 event_leaves c (Duplicate flight) =
     let P : Window → Type 0 = λ x. x.control ≡ c.control in
     either Window P (is_recovering c) _ _ (λ recovers. refl) (λ runs. either Window P (third_is_next c) (after_third c flight) _ (λ third. refl) (λ other. refl))

@@ -1,6 +1,6 @@
 -- What an event is to the congestion window, in the words of what it acknowledges.
-use Rattle.tcp_state.proofs.Clocked.{recover_kept, told_moved, told_still}
-use Rattle.tcp_state.proofs.Selects.{more_counts, more_opened}
+use Rattle.tcp_state.proofs.Clocked.{recover_kept, told_moved, told_still, silent_needed}
+use Rattle.tcp_state.proofs.Selects.{more_counts, more_opened, silent_opening, silent_unselected, counted_selects_none}
 use Rattle.std.proofs.Common.{◌≡◌, ◌≢◌, ℕ, ◌+◌, ◌-◌, ◌%◌, ◌^◌, ◌<◌, ◌≤◌, ◌==◌, ◌&&◌, ◌||◌, ◌⊎◌, ◌↔◌, not, nat_lt, nat_le, min, if◌then◌else◌, Bool, true, false, List, [], ◌∷◌, length, drop, Some, inl, inr, arith, refl, sym, ◌∙◌, ap, ap₂, subst}
 use Rattle.std.proofs.lemmas.Bool.{eqb-true, eq-eqb, lt-ltb, ltb-true}
 use Rattle.std.proofs.lemmas.Bool.Decides.{eqb_tells, leb_tells}
@@ -25,11 +25,12 @@ use Rattle.tcp_state.specs.View.{View, IsSound, is_opening, is_syn_sent, is_syn_
 use Rattle.tcp_state.specs.Congestion.{Signal, after_signal}
 use Rattle.tcp_state.specs.Congestion.Signal.{Begins, Counts, Both, Nothing}
 use Rattle.tcp_state.specs.declared.calls.Refusal.TheVariants.{ETIMEDOUT}
-use Rattle.tcp_state.specs.Timing.{gives_up, after_expiries, after_tick}
+use Rattle.tcp_state.specs.Timing.{probes, gives_up, after_expiries, after_tick}
+use Rattle.tcp_state.specs.Resend.{gives_back}
 use Rattle.tcp_state.specs.Alive.{after_silence}
 use Rattle.tcp_state.specs.Reporting.{noted}
-use Rattle.tcp_state.specs.Arrival.{owing_ack, may_delay, beyond_end, is_acceptable_to, is_read, is_read_on, is_of_fin, fin_acknowledged, after_new_ack as after_acknowledging, after_establishment, after_ack, after_window, is_receiving, after_text, after_fin, after_segment, brings_more, is_lost, after_lost, after_heard, is_rejected, before, octets_outstanding, is_duplicate, is_moved, congestion_event_of, told, behind_ack, whole_signal, reports_more, tells_loss, report_event, is_report, reports_loss, timed_by, acknowledged_signal, counts_duplicates, is_counted_duplicate, came_twice, repairs_tail, blocks_told, report_signal}
-use Rattle.tcp_state.specs.Edges.{Event, Hears, Ticks, Emits, Sends, Receives, Shuts, SetsNoDelay, SetsKeepAlive, Closes, Aborts, Unreachable, LosesHop, after_event, congestion_event_by}
+use Rattle.tcp_state.specs.Arrival.{owing_ack, may_delay, beyond_end, is_acceptable_to, is_read, is_read_on, is_of_fin, fin_acknowledged, after_new_ack as after_acknowledging, after_establishment, after_ack, after_window, is_receiving, after_text, after_fin, after_segment, brings_more, is_lost, after_lost, after_heard, is_rejected, before, octets_outstanding, is_duplicate, is_moved, congestion_event_of, told, behind_ack, whole_signal, reports_more, tells_loss, report_event, is_report, reports_loss, timed_by, acknowledged_signal, counts_duplicates, is_counted_duplicate, came_twice, is_since_loss, tells_needless, given_back, repairs_tail, blocks_told, report_signal}
+use Rattle.tcp_state.specs.Edges.{Event, Hears, Ticks, Emits, Sends, Receives, Shuts, SetsNoDelay, SetsKeepAlive, Closes, Aborts, Unreachable, LosesHop, after_event, congestion_event_by, gives_back_by}
 use Rattle.tcp_state.specs.Counted.{HasOctetOut, IsDuplicate}
 use Rattle.tcp_state.proofs.Segments.{IsRead, by_ack, by_fin, by_hearing, reads, read_tells, reading_sends, not_rejected}
 use Rattle.tcp_state.proofs.Unchanged.{closed_plain}
@@ -196,8 +197,34 @@ heard_is v s now hears = ap (λ b. if b then v else timed_by (before v s) (after
 pub event_is : (v : View) (s : Segment) (now : Moment) → (is_closed v.state || is_rejected v s) ≡ false → congestion_event_by v (Hears s now) ≡ congestion_event_of (before v s) (after_heard v s)
 event_is v s now hears = ap (λ b. if b then Nothing else congestion_event_of (before v s) (after_heard v s)) hears
 
-pub window_by : (v : View) (e : Event) (signal : Signal) → congestion_event_by v e ≡ signal → (after_event v e).congestion ≡ after_signal v.congestion signal (after_event v e).sending.smss (after_event v e).resend.syn_resent
-window_by v e signal is = moves_by_events v e ∙ ap (λ g. after_signal v.congestion g (after_event v e).sending.smss (after_event v e).resend.syn_resent) is
+pub window_by : (v : View) (e : Event) (signal : Signal) → congestion_event_by v e ≡ signal
+    → (after_event v e).congestion ≡ given_back (gives_back_by v e (after_event v e)) (after_signal v.congestion signal (after_event v e).sending.smss (after_event v e).resend.syn_resent)
+window_by v e signal is = moves_by_events v e ∙ ap (λ g. given_back (gives_back_by v e (after_event v e)) (after_signal v.congestion g (after_event v e).sending.smss (after_event v e).resend.syn_resent)) is
+
+-- nothing comes back where it tells of nothing that came twice ..
+pub gives_none : (v : View) (s : Segment) (now : Moment) (w : View) → tells_needless v s ≡ false → gives_back_by v (Hears s now) w ≡ false
+gives_none v s now w needed = let hears = not (is_closed v.state || is_rejected v s) in ap (λ t. hears && gives_back t w.resend) needed ∙ and_false hears
+
+pub none_back : (v : View) (s : Segment) (now : Moment) (w : View) (c : Window) → tells_needless v s ≡ false → given_back (gives_back_by v (Hears s now) w) c ≡ c
+none_back v s now w c needed = ap (λ t. given_back t c) (gives_none v s now w needed)
+
+-- .. nor while a probe of the tail is out, or one of a closed window
+pub tail_needed : (v : View) (s : Segment) → nat_lt 0 v.resend.tail ≡ true → tells_needless v s ≡ false
+unfolding tells_needless
+tail_needed v s out =
+    let blocks = blocks_told v s in
+    let twice = came_twice s.acknowledgement blocks && is_since_loss v blocks in
+    ap (λ t. twice && t && not (probes v)) (none_left v.resend.tail out) ∙ ap (λ t. t && not (probes v)) (and_false twice)
+  where
+    none_left : (n : ℕ) → nat_lt 0 n ≡ true → (n == 0) ≡ false
+    none_left n e = elim (eqb_tells n 0) [ inl none ↦ clash (nat_lt 0 n) e (ap (nat_lt 0) none.1) | inr other ↦ other.0 ]
+
+pub probe_needed : (v : View) (s : Segment) → probes v ≡ true → tells_needless v s ≡ false
+unfolding tells_needless
+probe_needed v s out =
+    let blocks = blocks_told v s in
+    let rest = came_twice s.acknowledgement blocks && is_since_loss v blocks && (v.resend.tail == 0) in
+    ap (λ t. rest && not t) out ∙ and_false rest
 
 pub moved_hears : (v : View) (s : Segment) (now : Moment) → (after_event v (Hears s now)).sending.una ≢ v.sending.una → (is_closed v.state || is_rejected v s) ≡ false
 moved_hears v s now moved = by ((is_closed v.state || is_rejected v s) ≡ false) (is_closed v.state || is_rejected v s)
@@ -222,7 +249,9 @@ pub begins_at_opening : (v : View) (s : Segment) (now : Moment) → is_opening v
     → (after_event v (Hears s now)).congestion ≡ initial_window v.congestion.control (after_event v (Hears s now)).sending.smss (after_event v (Hears s now)).resend.syn_resent
 begins_at_opening v s now opening moved alive =
     let x = after_heard v s in
+    let w = after_event v (Hears s now) in
     window_by v (Hears s now) Begins (moved_event v s now moved alive ∙ ap (λ b. if b then Begins else acknowledged_signal (before v s) (told (before v s) x) (length v.sending.held - length x.sending.held) (reports_more (before v s) x)) opening)
+    ∙ none_back v s now w (initial_window v.congestion.control w.sending.smss w.resend.syn_resent) (silent_needed v s (silent_opening v s opening))
 
 -- so many octets are held no longer as it acknowledges
 
@@ -323,13 +352,13 @@ alone_event v s quiet = let x = after_heard v s in ap (whole_signal (before v s)
 
 pub counts_octets : (v : View) (s : Segment) (now : Moment) → is_opening v.state ≡ false → (after_event v (Hears s now)).sending.una ≢ v.sending.una → is_closed (after_event v (Hears s now)).state ≡ false
     → is_report v s ≡ false → repairs_tail v s ≡ false → (recovers_on v.congestion && nat_lt 0 (after_event v (Hears s now)).resend.recover) ≡ false
-    → (after_event v (Hears s now)).congestion ≡ after_new_ack v.congestion (min (past (after_event v (Hears s now)).sending.una v.sending.una) (length v.sending.held)) (outstanding (after_event v (Hears s now)).sending)
+    → (after_event v (Hears s now)).congestion ≡ given_back (gives_back_by v (Hears s now) (after_event v (Hears s now))) (after_new_ack v.congestion (min (past (after_event v (Hears s now)).sending.una v.sending.una) (length v.sending.held)) (outstanding (after_event v (Hears s now)).sending))
 counts_octets v s now opened moved alive quiet other whole =
     let n = length v.sending.held - length (after_heard v s).sending.held in
     let counts = acked_octets v s now opened moved alive in
     window_by v (Hears s now) (Counts (NewAck n (outstanding (after_heard v s).sending)))
     (acked_event v s now false opened moved alive whole ∙ alone_event v s quiet ∙ ap (λ t. if t then Both (Loss v.resend.tail) (NewAck n (outstanding (after_heard v s).sending)) else Counts (NewAck n (outstanding (after_heard v s).sending))) other)
-    ∙ ap₂ (after_new_ack v.congestion) counts.0 counts.1
+    ∙ ap (given_back (gives_back_by v (Hears s now) (after_event v (Hears s now)))) (ap₂ (after_new_ack v.congestion) counts.0 counts.1)
 
 -- .. one that ends a probe of the tail pays for that
 pub counts_tail : (v : View) (s : Segment) (now : Moment) → is_opening v.state ≡ false → (after_event v (Hears s now)).sending.una ≢ v.sending.una → is_closed (after_event v (Hears s now)).state ≡ false
@@ -341,10 +370,12 @@ counts_tail v s now opened moved alive quiet pays =
     let n = length v.sending.held - length x.sending.held in
     let counts = acked_octets v s now opened moved alive in
     let fresh = selects x && nat_lt 0 v.resend.tail && (x.resend.tail == 0) in
-    let runs : is_recovering v.congestion ≡ false = ap is_recovering (sym (window_kept v s)) ∙ not_true (is_recovering x.congestion) (and_right fresh (not (is_recovering x.congestion)) (and_left (fresh && not (is_recovering x.congestion)) (not (came_twice x (blocks_told v s))) pays)) in
+    let runs : is_recovering v.congestion ≡ false = ap is_recovering (sym (window_kept v s)) ∙ not_true (is_recovering x.congestion) (and_right fresh (not (is_recovering x.congestion)) (and_left (fresh && not (is_recovering x.congestion)) (not (came_twice x.sending.una (blocks_told v s))) pays)) in
+    let out : nat_lt 0 v.resend.tail ≡ true = and_right (selects x) (nat_lt 0 v.resend.tail) (and_left (selects x && nat_lt 0 v.resend.tail) (x.resend.tail == 0) (and_left fresh (not (is_recovering x.congestion)) (and_left (fresh && not (is_recovering x.congestion)) (not (came_twice x.sending.una (blocks_told v s))) pays))) in
     let whole : (recovers_on v.congestion && nat_lt 0 w.resend.recover) ≡ false = ap (λ t. repairs v.congestion.control && t && nat_lt 0 w.resend.recover) runs ∙ ap (λ t. t && nat_lt 0 w.resend.recover) (and_false (repairs v.congestion.control)) in
     window_by v (Hears s now) (Both (Loss v.resend.tail) (NewAck n (outstanding x.sending)))
     (acked_event v s now false opened moved alive whole ∙ alone_event v s quiet ∙ ap (λ t. if t then Both (Loss v.resend.tail) (NewAck n (outstanding x.sending)) else Counts (NewAck n (outstanding x.sending))) pays)
+    ∙ none_back v s now w (after_new_ack (after_loss v.congestion v.resend.tail) n (outstanding x.sending)) (tail_needed v s out)
     ∙ ap₂ (after_new_ack (after_loss v.congestion v.resend.tail)) counts.0 counts.1
 
 pub counts_partly : (v : View) (s : Segment) (now : Moment) → is_opening v.state ≡ false → (after_event v (Hears s now)).sending.una ≢ v.sending.una → is_closed (after_event v (Hears s now)).state ≡ false
@@ -353,11 +384,12 @@ pub counts_partly : (v : View) (s : Segment) (now : Moment) → is_opening v.sta
 counts_partly v s now opened moved alive goes plain =
     let n = length v.sending.held - length (after_heard v s).sending.held in
     window_by v (Hears s now) (Counts (PartialAck n)) (acked_event v s now true opened moved alive goes ∙ ap (λ r. if r then Nothing else Counts (PartialAck n)) plain)
+    ∙ none_back v s now (after_event v (Hears s now)) (after_partial_ack v.congestion n) (silent_needed v s (silent_unselected v s plain))
     ∙ ap (after_partial_ack v.congestion) (acked_octets v s now opened moved alive).0
 
 -- .. but nothing where reports rule the recovery
 pub counts_no_part : (v : View) (s : Segment) (now : Moment) → is_opening v.state ≡ false → (after_event v (Hears s now)).sending.una ≢ v.sending.una → is_closed (after_event v (Hears s now)).state ≡ false
-    → (recovers_on v.congestion && nat_lt 0 (after_event v (Hears s now)).resend.recover) ≡ true → selects v ≡ true → (after_event v (Hears s now)).congestion ≡ v.congestion
+    → (recovers_on v.congestion && nat_lt 0 (after_event v (Hears s now)).resend.recover) ≡ true → selects v ≡ true → (after_event v (Hears s now)).congestion ≡ given_back (gives_back_by v (Hears s now) (after_event v (Hears s now))) v.congestion
 counts_no_part v s now opened moved alive goes rules =
     let n = length v.sending.held - length (after_heard v s).sending.held in
     window_by v (Hears s now) Nothing (acked_event v s now true opened moved alive goes ∙ ap (λ r. if r then Nothing else Counts (PartialAck n)) rules)
@@ -378,7 +410,7 @@ signal_makes c flight false false smss resent = refl
 
 -- it counts alone where it moves nothing
 pub counts_report : (v : View) (s : Segment) (now : Moment) → (after_event v (Hears s now)).sending.una ≡ v.sending.una → is_closed (after_event v (Hears s now)).state ≡ false → is_report v s ≡ true → is_counted_duplicate v s ≡ false → (is_closed v.state || is_rejected v s) ≡ false
-    → (after_event v (Hears s now)).congestion ≡ (let flight = outstanding (after_heard v s).sending in if reports_loss v s then after_loss v.congestion flight else if third_is_next v.congestion then v.congestion else after_duplicate v.congestion flight)
+    → (after_event v (Hears s now)).congestion ≡ given_back (gives_back_by v (Hears s now) (after_event v (Hears s now))) (let flight = outstanding (after_heard v s).sending in if reports_loss v s then after_loss v.congestion flight else if third_is_next v.congestion then v.congestion else after_duplicate v.congestion flight)
 counts_report v s now same alive is other hears =
     let b = before v s in
     let x = after_heard v s in
@@ -397,14 +429,16 @@ counts_report v s now same alive is other hears =
     ∙ ap (λ t. if t then acked else repeats) still
     ∙ ap (λ t. if t then Counts (Duplicate flight) else tells) other
     ∙ ap (λ t. if t then report_signal (told b x) else Nothing) is)
-    ∙ ap (λ c. after_signal v.congestion (if third_is_next c && not (tells_loss (told b x)) then Nothing else Counts (report_event (told b x))) smss resent) (window_kept v s)
-    ∙ signal_makes v.congestion flight (third_is_next v.congestion) (tells_loss (told b x)) smss resent
-    ∙ ap (λ t. if t then after_loss v.congestion flight else if third_is_next v.congestion then v.congestion else after_duplicate v.congestion flight) (sym (ap₂ (λ t w. t && tells_loss w) is (told_still b x still)))
+    ∙ ap (given_back (gives_back_by v (Hears s now) (after_event v (Hears s now)))) (
+      ap (λ c. after_signal v.congestion (if third_is_next c && not (tells_loss (told b x)) then Nothing else Counts (report_event (told b x))) smss resent) (window_kept v s)
+      ∙ signal_makes v.congestion flight (third_is_next v.congestion) (tells_loss (told b x)) smss resent
+      ∙ ap (λ t. if t then after_loss v.congestion flight else if third_is_next v.congestion then v.congestion else after_duplicate v.congestion flight) (sym (ap₂ (λ t w. t && tells_loss w) is (told_still b x still)))
+    )
 
 -- .. and else behind the ACK
 pub counts_both : (v : View) (s : Segment) (now : Moment) → (after_event v (Hears s now)).sending.una ≢ v.sending.una → is_closed (after_event v (Hears s now)).state ≡ false → is_report v s ≡ true
     → (after_event v (Hears s now)).congestion
-    ≡ (let flight = outstanding (after_event v (Hears s now)).sending in let c = after_new_ack v.congestion (min (past (after_event v (Hears s now)).sending.una v.sending.una) (length v.sending.held)) flight in
+    ≡ given_back (gives_back_by v (Hears s now) (after_event v (Hears s now))) (let flight = outstanding (after_event v (Hears s now)).sending in let c = after_new_ack v.congestion (min (past (after_event v (Hears s now)).sending.una v.sending.una) (length v.sending.held)) flight in
     if reports_loss v s then after_loss c flight else after_duplicate c flight)
 counts_both v s now moved alive is =
     let b = before v s in
@@ -421,9 +455,11 @@ counts_both v s now moved alive is =
     let counts = acked_octets v s now opened moved alive in
     window_by v (Hears s now) (Both (NewAck n flight) (if loss then Loss flight else Duplicate flight))
     (acked_event v s now false opened moved alive (ap (λ t. t && nat_lt 0 w.resend.recover) runs) ∙ ap (whole_signal b (told b x) n) is)
-    ∙ report_makes acked flight loss
-    ∙ ap (λ t. if t then after_loss acked flight else after_duplicate acked flight) (sym (ap₂ (λ t u. t && tells_loss u) is (told_moved b x moves)))
-    ∙ ap₂ (λ octets f. let c = after_new_ack v.congestion octets f in if reports_loss v s then after_loss c f else after_duplicate c f) counts.0 counts.1
+    ∙ ap (given_back (gives_back_by v (Hears s now) (after_event v (Hears s now)))) (
+      report_makes acked flight loss
+      ∙ ap (λ t. if t then after_loss acked flight else after_duplicate acked flight) (sym (ap₂ (λ t u. t && tells_loss u) is (told_moved b x moves)))
+      ∙ ap₂ (λ octets f. let c = after_new_ack v.congestion octets f in if reports_loss v s then after_loss c f else after_duplicate c f) counts.0 counts.1
+    )
 
 pub counts_duplicate : (v : View) (s : Segment) (now : Moment) → IsSound v → IsDuplicate v s → counts_duplicates v ≡ true → (after_event v (Hears s now)).congestion ≡ after_duplicate v.congestion (past v.sending.nxt v.sending.una)
 counts_duplicate v s now sound d counts =
@@ -441,6 +477,7 @@ counts_duplicate v s now sound d counts =
     ∙ ap (λ b. if not b then acked else repeated seen) same
     ∙ ap (λ b. if b then Counts (Duplicate (outstanding seen.sending)) else reported seen) (both (is_duplicate v s) (counts_duplicates v) (is_repeated v s sound d) counts)
     ∙ ap₂ (λ n u. Counts (Duplicate (past n u))) stays.1 stays.0)
+    ∙ none_back v s now (after_event v (Hears s now)) (after_duplicate v.congestion (past v.sending.nxt v.sending.una)) (silent_needed v s (silent_unselected v s (counted_selects_none v counts)))
   where
     reported : View → Signal
     reported w = if reports_more (before v s) w then report_signal (told (before v s) w) else Nothing
@@ -473,17 +510,19 @@ counts_expiry v now comes alive =
 
 abbrev Tells : View → Event → View → Type 0
 Tells v e w = ((s : Segment) × (now : Moment) × (e ≡ Hears s now) × (is_closed w.state ≡ false) × ((w.sending.una ≢ v.sending.una) ⊎ ((IsDuplicate v s × (counts_duplicates v ≡ true)) ⊎ (is_report v s ≡ true))))
-    ⊎ ((now : Moment) × (e ≡ Ticks now) × (has_come v.timers.retransmission now ≡ true))
+    ⊎ (((now : Moment) × (e ≡ Ticks now) × (has_come v.timers.retransmission now ≡ true)) ⊎ ((gives_back_by v e w ≡ true) × (w.congestion ≡ given_back true v.congestion)))
 
 pub others_count_none : (v : View) (e : Event) → ((after_event v e).congestion ≡ v.congestion) ⊎ Tells v e (after_event v e)
 others_count_none v (Hears s now) =
     let w = after_event v (Hears s now) in
     let x = after_heard v s in
     let G : Type 0 = (w.congestion ≡ v.congestion) ⊎ Tells v (Hears s now) w in
-    by G (is_closed v.state || is_rejected v s) (λ out. inl (window_by v (Hears s now) Nothing (ap (λ b. if b then Nothing else congestion_event_of (before v s) x) out)))
+    let back = gives_back_by v (Hears s now) w in
+    let kept : w.congestion ≡ given_back back v.congestion → G = λ is. by G back (λ gives. inr (inr (inr (gives, is ∙ ap (λ t. given_back t v.congestion) gives)))) (λ keeps. inl (is ∙ ap (λ t. given_back t v.congestion) keeps)) in
+    by G (is_closed v.state || is_rejected v s) (λ out. kept (window_by v (Hears s now) Nothing (ap (λ b. if b then Nothing else congestion_event_of (before v s) x) out)))
     (λ hears.
     let at = heard_is v s now hears in
-    let none : congestion_event_of (before v s) x ≡ Nothing → G = λ is. inl (window_by v (Hears s now) Nothing (event_is v s now hears ∙ is)) in
+    let none : congestion_event_of (before v s) x ≡ Nothing → G = λ is. kept (window_by v (Hears s now) Nothing (event_is v s now hears ∙ is)) in
     let tells : is_closed x.state ≡ false → (x.sending.una ≢ v.sending.una) ⊎ ((IsDuplicate v s × (counts_duplicates v ≡ true)) ⊎ (is_report v s ≡ true)) → G = λ alive how.
     inr (inl (s, now, refl, ap (λ (y : View). is_closed y.state) at ∙ alive, elim how [ inl moved ↦ inl (λ same. moved (sym (ap (λ (y : View). y.sending.una) at) ∙ same)) | inr twice ↦ inr twice ])) in
     either Signal (λ g. (g ≡ Nothing → G) → G) (is_closed x.state) Nothing _ (λ closed how. how refl)
@@ -495,7 +534,7 @@ others_count_none v (Hears s now) =
     (λ more how. tells alive (inr (inr more))) (λ quiet how. how refl)))) none)
 others_count_none v (Ticks now) =
     by (((after_event v (Ticks now)).congestion ≡ v.congestion) ⊎ Tells v (Ticks now) (after_event v (Ticks now))) (has_come v.timers.retransmission now)
-    (λ comes. inr (inr (now, refl, comes)))
+    (λ comes. inr (inr (inl (now, refl, comes))))
     (λ early. inl (window_by v (Ticks now) Nothing (ap (λ b. if is_at_end v now || gives_up v now then Nothing else if b then Counts (Expiry (outstanding v.sending)) else Nothing) early ∙ either_way (is_at_end v now || gives_up v now))))
   where
     either_way : (b : Bool) → (if b then Nothing else Nothing) ≡ Nothing

@@ -1,5 +1,5 @@
 -- Why two connections that open to each other at the same time both open.
-use Rattle.std.proofs.Common.{◌≡◌, ℕ, ◌+◌, ◌-◌, ◌*◌, ◌/◌, ◌%◌, ◌^◌, ◌<◌, ◌==◌, ◌||◌, ◌&&◌, not, min, max, nat_lt, nat_le, if◌then◌else◌, ◌⊎◌, ◌≤◌, Bool, true, false, List, [], ◌∷◌, Option, Some, None, is_some, unwrap_or, inl, inr, option_map, arith, refl, sym, ◌∙◌, ap, subst}
+use Rattle.std.proofs.Common.{◌≡◌, ℕ, ◌+◌, ◌-◌, ◌*◌, ◌/◌, ◌%◌, ◌^◌, ◌<◌, ◌==◌, ◌||◌, ◌&&◌, not, min, max, nat_lt, nat_le, if◌then◌else◌, ◌⊎◌, ◌≤◌, Bool, true, false, List, [], ◌∷◌, Option, Some, None, is_some, unwrap_or, inl, inr, option_map, arith, refl, sym, ◌∙◌, ap, ap₂, subst}
 use Rattle.std.specs.List.{list_any}
 use Rattle.std.proofs.lemmas.Bool.{lt-ltb, le-ltb, lt-leb, le-leb, eq-eqb}
 use Rattle.std.proofs.lemmas.Bool.Decides.{eqb_tells, leb_tells}
@@ -36,7 +36,7 @@ use Rattle.tcp_state.specs.Due.{first_due, ack_due, new_octets, head_of, octets_
 use Rattle.tcp_state.specs.Edges.{Hears, Emits, after_first, after_event}
 use Rattle.tcp_state.specs.Simultaneous.{first_segment, after_coming, Ends, crossed, AnswersSyn, CanBeMade, HasOpened, KnowsWindow}
 use Rattle.tcp_state.proofs.Selects.{silent_opening}
-use Rattle.tcp_state.proofs.Clocked.{comes_to, unmoved, timed_unmoved}
+use Rattle.tcp_state.proofs.Clocked.{comes_to, unmoved, timed_unmoved, silent_needed}
 use Rattle.tcp_halves.proofs.Choices.{either, clash, both, or_left, and_false}
 use Rattle.tcp_halves.proofs.Keeping.{in_units}
 use Rattle.tcp_state.proofs.Scales.{settled_once}
@@ -304,7 +304,7 @@ syn_comes m now f =
     let b = before v (syn_of (mirror m)) in
     ap (λ n. timed_by b (taken m (read_of m) n (mark_past 0 n) now) now) (one_out m.isn f.isn)
     ∙ (ap (λ t. timed_by b (taken m t 1 (Some 0) now) now) f.settles
-    ∙ (timed_unmoved b w now (unmoved v) refl refl (silent_opening v (syn_of (mirror m)) refl) ∙ ap (running_if w None now now) (one_out m.isn f.isn)))
+    ∙ (timed_unmoved b w now (unmoved v) refl refl (silent_opening v (syn_of (mirror m)) refl) (silent_needed v (syn_of (mirror m)) (silent_opening v (syn_of (mirror m)) refl)) ∙ ap (running_if w None now now) (one_out m.isn f.isn)))
 
 -- The SYN-ACK.
 
@@ -346,7 +346,7 @@ syn_ack_comes m first now f =
     let s = syn_ack_of (mirror m) first in
     let b = before v s in
     comes_to v s now refl (and_no (acknowledges_unsent v s) (is_acceptable_to v s && false) (and_no (is_acceptable_to v s) false refl))
-    ∙ (ap (λ a. timed_by b (if a then after_acceptable_segment v s else owing_ack v) now) (unacceptable m f) ∙ (timed_unmoved b w now (unmoved v) refl refl (silent_opening v s refl) ∙ ap (running_if w None now first) (one_out m.isn f.isn)))
+    ∙ (ap (λ a. timed_by b (if a then after_acceptable_segment v s else owing_ack v) now) (unacceptable m f) ∙ (timed_unmoved b w now (unmoved v) refl refl (silent_opening v s refl) (silent_needed v s (silent_opening v s refl)) ∙ ap (running_if w None now first) (one_out m.isn f.isn)))
 
 -- The acknowledgement.
 
@@ -438,7 +438,7 @@ ack_comes m first last now f =
     let w = heard m first last in
     comes_to v s now refl (ap (λ a. not a && (is_acceptable_to v s && true)) (acknowledges m.isn f.isn))
     ∙ (ap (λ x. timed_by b x now) (ack_heard m first last f)
-    ∙ (ap (λ bs. timed_by (record b { blocks = bs }) w now) (silent_opening v s refl)
+    ∙ (ap₂ (λ bs t. timed_by (record b { blocks = bs; needless = t }) w now) (silent_opening v s refl) (silent_needed v s (silent_opening v s refl))
     ∙ (ap (λ x. clocked x (record w {
       resend = let once = resent_once m.mine.room.manner.least_timeout in let resend : Resend = record (if x then once else if answers_probe v s then once else once) { reported = [] } in resend_signalled resend (if x then Begins else Nothing) w.congestion (outstanding w.sending);
       congestion = after_signal w.congestion (if x then Begins else Nothing) 1460 false;

@@ -22,12 +22,12 @@ use Rattle.tcp_state.specs.Resend.{mark_past}
 use Rattle.tcp_state.specs.Timing.{probes}
 use Rattle.tcp_state.specs.Alive.{heard_now}
 use Rattle.tcp_state.proofs.Selects.{silent_opening}
-use Rattle.tcp_state.specs.Arrival.{reset_error, after_rst_in_syn_sent, after_rst, is_acting_reset, ends_by_reset, ends_by_syn, ends_opening, is_acceptable_to, is_simultaneous_syn, after_simultaneous_syn, after_syn_ack, after_segment, is_receiving, is_read, octets_outstanding, brings_more, is_lost, after_lost, after_heard, before, is_moved, resend_after, timed_by, after_segment_at, is_rejected, fate, counts_duplicates, is_counted_duplicate}
+use Rattle.tcp_state.specs.Arrival.{reset_error, after_rst_in_syn_sent, after_rst, is_acting_reset, ends_by_reset, ends_by_syn, ends_opening, is_acceptable_to, is_simultaneous_syn, after_simultaneous_syn, after_syn_ack, after_segment, is_receiving, is_read, octets_outstanding, brings_more, is_lost, after_lost, after_heard, before, is_moved, resend_after, timed_by, after_segment_at, is_rejected, fate, counts_duplicates, is_counted_duplicate, resend_left}
 use Rattle.tcp_state.specs.Due.{first_due, ack_due}
 use Rattle.tcp_state.specs.Edges.{after_first}
 use Rattle.tcp_state.specs.Simultaneous.{AnswersSyn}
 use Rattle.tcp_state.specs.Unreachable.{IsRefused}
-use Rattle.tcp_state.proofs.Clocked.{comes_to, marks_kept, probes_kept}
+use Rattle.tcp_state.proofs.Clocked.{silent_needed, comes_to, marks_kept, probes_kept}
 use Rattle.tcp_halves.proofs.Choices.{either, clash, both, or_left, or_right, of_false, unowed}
 use Rattle.tcp_state.proofs.Emissions.{syn_sends}
 use Rattle.tcp_state.proofs.Resets.{one_out, next_accepted, rst_not_lost, rst_not_refused}
@@ -141,9 +141,11 @@ reset_leaves v s a rst acts kept =
 
 refused : (v : View) (s : Segment) (now : Moment) → IsSound v → v.state ≡ SynReceived → v.owes_reset ≡ false → IsRefused (timed_by (before v s) (after_reset v (Some ECONNREFUSED)) now)
 refused v s now sound is quiet =
-    let b = before v s in
+    let needed = silent_needed v s (silent_opening v s (ap is_opening is)) in
+    subst (λ t. IsRefused (timed_by (record (before v s) { needless = t }) (after_reset v (Some ECONNREFUSED)) now)) (sym needed)
+    (let b = record (before v s) { needless = false } in
     let w = after_reset v (Some ECONNREFUSED) in
-    let resend = resend_after b w now in
+    let resend = resend_left b w now in
     let timed = timed_by b w now in
     record {
       closed = refl;
@@ -153,7 +155,7 @@ refused v s now sound is quiet =
       readable = none_listed v.receiving.readable (subst (λ t. length v.receiving.readable ≤ (if is_opening t then 0 else v.receiving.size)) is sound.readable);
       due = silent (record v { alive = heard_now v.alive now }) timed.resend quiet (marks_kept b w now (inr (ap is_opening is)) (repeats_none v s (ap is_opening is)) (silent_opening v s (ap is_opening is))) (ap (λ b. b && probes (record w { resend = resend })) (probes_kept b w now));
       timer = ap (λ t. sooner (sooner (next_of t) None) (sooner None (tail_by timed t.retransmission))) (at_rest v resend (is_moved b w) now sound.nxt);
-    }
+    })
 
 by_no_listener : (acts passive received : Bool) → passive ≡ false → (acts && passive && received) ≡ false
 by_no_listener true true received e = cc

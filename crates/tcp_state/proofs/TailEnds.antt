@@ -22,7 +22,7 @@ use Rattle.tcp_state.specs.View.{View, IsSound, is_opening, is_closed}
 use Rattle.tcp_state.specs.Tail.{awaits_tail, tail_wait_by, tail_wait, tail_by, tail_at, is_tail_due}
 use Rattle.tcp_state.specs.Alive.{after_silence}
 use Rattle.tcp_state.specs.Timing.{clocked, expires, retransmission_expired, probe_expired, after_timers, after_tick}
-use Rattle.tcp_state.specs.Arrival.{is_read, blocks_told, after_heard, before, resend_told, is_report, came_twice, repairs_tail}
+use Rattle.tcp_state.specs.Arrival.{is_read, blocks_told, after_heard, before, resend_told, is_report, came_twice, lies_in_first, repairs_tail}
 use Rattle.tcp_state.specs.Selective.{selects, repairs_gaps}
 use Rattle.tcp_state.specs.Due.{ack_due, again, again_at, again_from, goes_again, new_due, first_due}
 use Rattle.tcp_state.specs.Edges.{Event, Hears, Ticks, Emits, after_event}
@@ -33,7 +33,7 @@ use Rattle.tcp_state.proofs.Minute.{by_live_tick}
 use Rattle.tcp_state.proofs.Places.{goes_plainly}
 use Rattle.tcp_state.proofs.Recovering.{TailLeft, tail_there, stops, heard_left, first_left}
 use Rattle.tcp_state.proofs.Congestion.{window_kept}
-use Rattle.tcp_state.proofs.Signals.{opened_tells, heard_is, heard_selects, moved_hears, counts_tail, counts_octets}
+use Rattle.tcp_state.proofs.Signals.{opened_tells, heard_is, heard_selects, moved_hears, counts_tail, counts_octets, none_back, tail_needed}
 use Rattle.tcp_state.proofs.StillStreams.{emissions_leave}
 use Rattle.tcp_state.proofs.TailProbes.{awaits, due_awaits, tail_rests}
 
@@ -206,7 +206,7 @@ waits_for v deadline at estimate sound runs measured late is =
 
 -- an ACK of all that was outstanding at it, outside a recovery, ends it
 ended : (v : View) (s : Segment) (now : Moment) (twice : Bool) → is_opening v.state ≡ false → selects v ≡ true → 0 < v.resend.tail → is_recovering v.congestion ≡ false
-    → (let w = after_event v (Hears s now) in w.sending.una ≢ v.sending.una) → (let w = after_event v (Hears s now) in w.resend.tail ≡ 0) → came_twice (after_heard v s) (blocks_told v s) ≡ twice → repairs_tail v s ≡ not twice
+    → (let w = after_event v (Hears s now) in w.sending.una ≢ v.sending.una) → (let w = after_event v (Hears s now) in w.resend.tail ≡ 0) → came_twice (after_heard v s).sending.una (blocks_told v s) ≡ twice → repairs_tail v s ≡ not twice
 ended v s now twice opened takes some runs moved gone told =
     let b = before v s in
     let x = after_heard v s in
@@ -215,10 +215,10 @@ ended v s now twice opened takes some runs moved gone told =
     let kept : P (resend_told b x now) = heard_paced b x now P refl refl refl in
     let left : x.resend.tail ≡ 0 = sym (ap (λ (y : View). y.resend.tail) (heard_is v s now (moved_hears v s now moved)) ∙ after_paced b x now P kept kept (λ r. kept) kept) ∙ gone in
     let rests : is_recovering x.congestion ≡ false = ap is_recovering (window_kept v s) ∙ runs in
-    ap (λ t. t && nat_lt 0 v.resend.tail && (x.resend.tail == 0) && not (is_recovering x.congestion) && not (came_twice x (blocks_told v s))) asked
-    ∙ ap (λ t. t && (x.resend.tail == 0) && not (is_recovering x.congestion) && not (came_twice x (blocks_told v s))) (lt-ltb 0 v.resend.tail some)
-    ∙ ap (λ n. (n == 0) && not (is_recovering x.congestion) && not (came_twice x (blocks_told v s))) left
-    ∙ ap (λ t. not t && not (came_twice x (blocks_told v s))) rests
+    ap (λ t. t && nat_lt 0 v.resend.tail && (x.resend.tail == 0) && not (is_recovering x.congestion) && not (came_twice x.sending.una (blocks_told v s))) asked
+    ∙ ap (λ t. t && (x.resend.tail == 0) && not (is_recovering x.congestion) && not (came_twice x.sending.una (blocks_told v s))) (lt-ltb 0 v.resend.tail some)
+    ∙ ap (λ n. (n == 0) && not (is_recovering x.congestion) && not (came_twice x.sending.una (blocks_told v s))) left
+    ∙ ap (λ t. not t && not (came_twice x.sending.una (blocks_told v s))) rests
     ∙ ap not told
 
 pub repaired_pays : (v : View) (s : Segment) (now : Moment) → is_opening v.state ≡ false → selects v ≡ true → 0 < v.resend.tail → is_recovering v.congestion ≡ false → (after_event v (Hears s now)).sending.una ≢ v.sending.una
@@ -226,7 +226,7 @@ pub repaired_pays : (v : View) (s : Segment) (now : Moment) → is_opening v.sta
     → (after_event v (Hears s now)).congestion ≡ after_new_ack (after_loss v.congestion v.resend.tail) (min (past (after_event v (Hears s now)).sending.una v.sending.una) (length v.sending.held)) (outstanding (after_event v (Hears s now)).sending)
 repaired_pays v s now opened takes some runs moved gone alive silent =
     let none : blocks_told v s ≡ [] = either (List Block) (λ bs. bs ≡ []) (selects v && not (is_opening v.state) && is_read v s) (blocks_of s) [] (λ read. silent) (λ unread. refl) in
-    counts_tail v s now opened moved alive (reports_none (before v s) (after_heard v s) none) (ended v s now false opened takes some runs moved gone (ap (came_twice (after_heard v s)) none))
+    counts_tail v s now opened moved alive (reports_none (before v s) (after_heard v s) none) (ended v s now false opened takes some runs moved gone (ap (came_twice (after_heard v s).sending.una) none))
 
 pub repeated_is_free : (v : View) (s : Segment) (now : Moment) (block : Block) (rest : List Block) → is_opening v.state ≡ false → selects v ≡ true → 0 < v.resend.tail → is_recovering v.congestion ≡ false → (after_event v (Hears s now)).sending.una ≢ v.sending.una
     → (after_event v (Hears s now)).resend.tail ≡ 0 → is_closed (after_event v (Hears s now)).state ≡ false → is_report v s ≡ false → is_read v s ≡ true → blocks_of s ≡ block ∷ rest → is_before (after_event v (Hears s now)).sending.una block.right.0 ≡ false
@@ -236,6 +236,7 @@ repeated_is_free v s now block rest opened takes some runs moved gone alive quie
     let w = after_event v (Hears s now) in
     let told : blocks_told v s ≡ block ∷ rest = ap (λ t. if t then blocks_of s else []) (ap₂ (λ a b. a && not b && is_read v s) takes opened ∙ read) ∙ tells in
     let una : w.sending.una ≡ x.sending.una = ap (λ (y : View). y.sending.una) (heard_is v s now (moved_hears v s now moved)) in
-    let twice : came_twice x (blocks_told v s) ≡ true = ap (came_twice x) told ∙ ap not (ap (λ n. is_before n block.right.0) (sym una) ∙ below) in
+    let twice : came_twice x.sending.una (blocks_told v s) ≡ true = ap (came_twice x.sending.una) told ∙ ap (λ t. not t || lies_in_first block rest) (ap (λ n. is_before n block.right.0) (sym una) ∙ below) in
     let on : (goes_on v.congestion && nat_lt 0 w.resend.recover) ≡ false = ap (λ t. repairs v.congestion.control && t && nat_lt 0 w.resend.recover) runs ∙ ap (λ t. t && nat_lt 0 w.resend.recover) (and_false (repairs v.congestion.control)) in
     counts_octets v s now opened moved alive quiet (ended v s now true opened takes some runs moved gone twice) on
+    ∙ none_back v s now w (after_new_ack v.congestion (min (past w.sending.una v.sending.una) (length v.sending.held)) (outstanding w.sending)) (tail_needed v s (lt-ltb 0 v.resend.tail some))

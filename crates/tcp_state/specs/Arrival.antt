@@ -15,11 +15,11 @@ use Rattle.tcp_halves.specs.Halves.{Room}
 use Rattle.tcp_halves.specs.Stream.{outstanding, is_new_ack, sending_settled, receiving_settled, after_syn_acknowledged, after_acknowledged, is_in_window, is_acceptable, after_syn, after_octets, stands_next, after_end}
 use Rattle.tcp_halves.specs.Windows.{window_in, after_syn_heard, after_window_update, syn_window}
 use Rattle.tcp_state.specs.View.{View, opened_actively, is_opening, is_syn_sent, is_syn_received, is_closed, is_fin_wait_2, is_time_wait, awaits_fin_ack, after_reset, is_over}
-use Rattle.tcp_state.specs.Resend.{Resend, stopped, mark_past, mark_moved, unmarked, resend_acknowledged, resend_first, resend_lost, resend_ends}
+use Rattle.tcp_state.specs.Resend.{Resend, stopped, mark_past, mark_moved, unmarked, resend_acknowledged, resend_first, resend_lost, resend_ends, excused_by, gives_back}
 use Rattle.congestion.specs.Control.{repairs, is_selective}
 use Rattle.congestion.specs.Window.{Window, is_recovering, goes_on, third_is_next}
 use Rattle.congestion.specs.Events.{Event, after_event}
-use Rattle.congestion.specs.Events.Event.{NewAck, PartialAck, Duplicate, Loss}
+use Rattle.congestion.specs.Events.Event.{NewAck, PartialAck, Duplicate, Loss, Undo}
 use Rattle.tcp_state.specs.Congestion.{Signal, after_signal}
 use Rattle.tcp_state.specs.Congestion.Signal.{Begins, Counts, Both, Nothing}
 use Rattle.tcp_state.specs.Timing.{probes, clocked}
@@ -287,6 +287,24 @@ blocks_told v s = if selects v && not (is_opening v.state) && is_read v s then b
 abbrev pub counts_reports : View → Bool
 counts_reports v = not (is_recovering v.congestion) && (v.resend.recover == 0) && not (probes v)
 
+-- The first block of a segment tells of octets that came twice (RFC 2883 section 4): it ends at the number that the segment acknowledges, or before, or it lies in the second block.
+abbrev pub lies_in_first : Block → List Block → Bool
+lies_in_first block [] = false
+lies_in_first block (other ∷ rest) = not (is_before block.left.0 other.left.0) && not (is_before other.right.0 block.right.0)
+
+abbrev pub came_twice : ℕ → List Block → Bool
+came_twice acknowledgement [] = false
+came_twice acknowledgement (block ∷ rest) = not (is_before acknowledgement block.right.0) || lies_in_first block rest
+
+-- .. past what stood at SND.UNA when a segment last counted as lost
+abbrev pub is_since_loss : View → List Block → Bool
+is_since_loss v [] = false
+is_since_loss v (block ∷ rest) = is_before v.sending.una block.right.0 || nat_lt (past v.sending.una block.right.0) v.resend.since_loss
+
+-- So octets of it went out again that needn't have, but by a probe (RFC 3708 section 2).
+unfoldable pub tells_needless : View → Segment → Bool
+tells_needless v s = let blocks = blocks_told v s in came_twice s.acknowledgement blocks && is_since_loss v blocks && (v.resend.tail == 0) && not (probes v)
+
 -- what the clock and the congestion window have to know of a connection before a segment and of the segment
 abbrev pub before : View → Segment → Before
 before v s = record {
@@ -300,6 +318,7 @@ before v s = record {
   blocks = blocks_told v s;
   held = length v.sending.held;
   tail = v.resend.tail;
+  needless = tells_needless v s;
 }
 
 abbrev pub since_after : Before → View → Moment → Moment
@@ -349,12 +368,8 @@ abbrev pub behind_ack : View → ℕ → View
 behind_ack w octets = record w { congestion = after_event w.congestion (NewAck octets (outstanding w.sending)) }
 
 -- An ACK of all that was outstanding at a probe of the tail, in no recovery: that probe brought what was lost, unless the first block of the ACK tells that its octets came twice (RFC 8985 section 7.4.2, RFC 2883). The window pays for that loss as for any other, by what was in flight then.
-abbrev pub came_twice : View → List Block → Bool
-came_twice w [] = false
-came_twice w (block ∷ rest) = not (is_before w.sending.una block.right.0)
-
 abbrev pub ends_tail : Before → View → Bool
-ends_tail b w = selects w && nat_lt 0 b.tail && (w.resend.tail == 0) && not (is_recovering w.congestion) && not (came_twice w b.blocks)
+ends_tail b w = selects w && nat_lt 0 b.tail && (w.resend.tail == 0) && not (is_recovering w.congestion) && not (came_twice w.sending.una b.blocks)
 
 abbrev pub whole_signal : Before → View → ℕ → Bool → Signal
 whole_signal b w octets more =
@@ -413,9 +428,19 @@ resend_after b w now = resend_signalled (resend_told b w now) (congestion_event_
 abbrev pub congestion_after : Before → View → Window
 congestion_after b w = after_signal w.congestion (congestion_event_of b w) w.sending.smss w.resend.syn_resent
 
+-- .. and where it tells that the last of what went out again needn't have, the window gets back what the loss took (RFC 3708 section 3)
+abbrev pub given_back : Bool → Window → Window
+given_back back c = let whole = after_event c Undo in record c { cwnd = if back then whole.cwnd else c.cwnd; ssthresh = if back then whole.ssthresh else c.ssthresh }
+
+abbrev pub resend_left : Before → View → Moment → Resend
+resend_left b w now = excused_by b.needless (resend_after b w now)
+
+abbrev pub congestion_left : Before → View → Moment → Window
+congestion_left b w now = given_back (gives_back b.needless (resend_left b w now)) (congestion_after b w)
+
 -- what the clock makes of the connection once a segment was heard
 abbrev pub timed_by : Before → View → Moment → View
-timed_by b w now = clocked (is_moved b w) (record w { since = since_after b w now; resend = resend_after b w now; congestion = congestion_after b w; alive = heard_now w.alive now }) now
+timed_by b w now = clocked (is_moved b w) (record w { since = since_after b w now; resend = resend_left b w now; congestion = congestion_left b w now; alive = heard_now w.alive now }) now
 
 -- a segment that is rejected, or comes to what is CLOSED, changes nothing
 abbrev pub after_segment_at : View → Segment → Moment → View

@@ -19,7 +19,8 @@ use Rattle.tcp_state.specs.Timing.{gives_up, after_tick, tick_fate}
 use Rattle.tcp_state.specs.Alive.{after_set_keepalive}
 use Rattle.tcp_state.specs.Hop.{unheard_until, after_hopless, hopless_fate}
 use Rattle.tcp_state.specs.Calls.{after_send, after_recv, shutdown_refusal, after_shutdown, after_set_nodelay, after_abort, abort_fate, is_removed_by_close, is_aborted_by_close, after_close, close_fate}
-use Rattle.tcp_state.specs.Arrival.{reset_error, is_acting_reset, ends_by_reset, ends_by_syn, is_of_fin, is_lost, is_read, is_rejected, before, after_heard, congestion_event_of, after_segment_at, fate}
+use Rattle.tcp_state.specs.Arrival.{reset_error, is_acting_reset, ends_by_reset, ends_by_syn, is_of_fin, is_lost, is_read, is_rejected, before, after_heard, congestion_event_of, after_segment_at, fate, tells_needless}
+use Rattle.tcp_state.specs.Resend.{gives_back}
 use Rattle.tcp_state.specs.Due.{first_due, after_emitted}
 use Rattle.tcp_state.specs.Unreachable.{is_unreachable, after_unreachable, unreachable_fate}
 
@@ -119,6 +120,11 @@ abbrev pub congestion_event_by : View → Event → Signal
 congestion_event_by v (Hears s now) = if is_closed v.state || is_rejected v s then Nothing else congestion_event_of (before v s) (after_heard v s)
 congestion_event_by v (Ticks now) = congestion_event_at v now
 congestion_event_by v _ = Nothing
+
+-- whether it gives back what a loss took from the window, by what it leaves
+abbrev pub gives_back_by : View → Event → View → Bool
+gives_back_by v (Hears s now) w = not (is_closed v.state || is_rejected v s) && gives_back (tells_needless v s) w.resend
+gives_back_by v _ w = false
 
 -- what becomes of its place; it is taken out after an emission where it is over
 abbrev pub fate_by : View → Event → Fate

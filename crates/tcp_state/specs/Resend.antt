@@ -1,5 +1,5 @@
 -- The retransmission state of a connection: what goes out again, and what the clock measures of a round trip (RFC 6298, RFC 9293 sections 3.8.1 and 3.8.6.1).
-use Rattle.std.specs.Prelude.{ℕ, suc, ◌+◌, ◌-◌, ◌*◌, ◌^◌, ◌≤◌, ◌==◌, ◌&&◌, ◌||◌, nat_lt, min, max, Bool, true, false, if◌then◌else◌, not, Option, Some, None, List, [], length}
+use Rattle.std.specs.Prelude.{ℕ, suc, ◌+◌, ◌-◌, ◌*◌, ◌^◌, ◌≤◌, ◌==◌, ◌&&◌, ◌||◌, nat_lt, nat_le, min, max, Bool, true, false, if◌then◌else◌, not, Option, Some, None, List, [], length}
 use Rattle.stream_buf.specs.declared.ranges.Range.{Range}
 use Rattle.stream_buf.specs.Ranges.{covered}
 use Rattle.stream_buf.specs.Scoreboard.{IsScoreboard, passed}
@@ -38,6 +38,10 @@ pub record Resend : Type 0 where
   pub tail : ℕ
   -- how many octets were reported at most past one that came late, and had gone out but once
   pub reach : ℕ
+  -- how many numbers were acknowledged since a segment last counted as lost
+  pub since_loss : ℕ
+  -- how many segments had gone out again then, and one more for each that is told to have come twice since
+  pub excused : ℕ
   -- what the peer reports that it keeps ahead of a gap, by distances past SND.UNA (RFC 6675 section 3)
   pub reported : List Range
 
@@ -69,12 +73,14 @@ first_resend least = record {
   recover = 0;
   tail = 0;
   reach = 0;
+  since_loss = 0;
+  excused = 0;
   reported = [];
 }
 
 -- nothing is outstanding or waits any longer
 abbrev pub stopped : Resend → Resend
-stopped p = record p { mark = None; once = false; timed = None; interval = p.timeout.rto; owes_probe = false; overridden = false; small = 0; recover = 0; tail = 0; reach = 0; reported = [] }
+stopped p = record p { mark = None; once = false; timed = None; interval = p.timeout.rto; owes_probe = false; overridden = false; small = 0; recover = 0; tail = 0; reach = 0; since_loss = 0; reported = [] }
 
 -- What goes out.
 
@@ -135,8 +141,12 @@ mark_left (Some distance) gained outstanding = mark_past (distance - gained) out
 unfoldable pub reached : Resend → ℕ
 reached p = if (p.recover == 0) && (p.tail == 0) then max p.reach (covered p.reported) else p.reach
 
+-- as far as 32 bits count
+unfoldable pub counted_on : ℕ → ℕ → ℕ
+counted_on count gained = min (2 ^ 32 - 1) (count + gained)
+
 abbrev pub mark_moved : Resend → ℕ → ℕ → Resend
-mark_moved p gained outstanding = record p { mark = mark_left p.mark gained outstanding; small = p.small - gained; recover = p.recover - gained; tail = p.tail - gained; reach = reached p; reported = passed gained p.reported }
+mark_moved p gained outstanding = record p { mark = mark_left p.mark gained outstanding; small = p.small - gained; recover = p.recover - gained; tail = p.tail - gained; reach = reached p; since_loss = counted_on p.since_loss gained; reported = passed gained p.reported }
 
 -- the segment at SND.UNA goes out again, that alone (RFC 5681 section 3.2, RFC 6582 section 3.2, step 3)
 abbrev pub resend_first : Resend → ℕ → Resend
@@ -144,7 +154,14 @@ resend_first p outstanding = record p { mark = mark_past 0 outstanding; once = t
 
 -- it counts as lost
 abbrev pub resend_lost : Resend → Bool → ℕ → Resend
-resend_lost p repairs outstanding = record (resend_first p outstanding) { recover = recover_noted p repairs outstanding }
+resend_lost p repairs outstanding = record (resend_first p outstanding) { recover = recover_noted p repairs outstanding; since_loss = 0; excused = p.resent }
+
+-- A segment that went out again since came twice, so that it needn't have. Where as many came twice as went out again, none was lost (RFC 3708 section 3).
+abbrev pub excused_by : Bool → Resend → Resend
+excused_by needless p = record p { excused = if needless && nat_lt 0 p.since_loss then once_more p.excused else p.excused }
+
+abbrev pub gives_back : Bool → Resend → Bool
+gives_back needless p = needless && nat_lt 0 p.since_loss && nat_le p.resent p.excused
 
 -- nothing is outstanding
 abbrev pub unmarked : Resend → Resend

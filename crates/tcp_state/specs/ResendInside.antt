@@ -18,5 +18,7 @@ resend_view p = record {
   recover = p.recover;
   tail = p.tail;
   reach = p.reach;
+  since_loss = p.since_loss;
+  excused = p.excused;
   reported = p.reported;
 }

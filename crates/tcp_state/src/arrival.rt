@@ -2,14 +2,14 @@
 
 ghost use Rattle.std.specs.Prelude.{◌≡◌, ◌≤◌, ◌-◌, [], length, min, true, false, ◌&&◌, ◌||◌, not, if◌then◌else◌, IsTrue, ◌==◌};
 ghost use Rattle.tcp_state.specs.View.{is_opening, is_syn_sent, is_syn_received, is_closed, awaits_fin_ack, after_reset};
-ghost use Rattle.tcp_state.specs.Arrival.{after_segment, scales_with, after_first_syn, after_syn_ack, owing_ack, after_establishment, after_ack, is_read_on, after_window, after_text, after_acknowledging_segment, after_acceptable_segment, ends_by_syn, is_acceptable_to, fin_acknowledged, after_new_ack, after_fin, reset_error, after_rst_in_syn_sent, after_rst, is_acting_reset, ends_by_reset, is_right_syn_ack, is_simultaneous_syn, after_simultaneous_syn, fate, after_segment_at, after_heard, is_lost, is_read, brings_more, after_lost, repeats_fin, is_rejected, ends_opening, is_of_fin, may_delay, answers_probe, octets_outstanding, is_duplicate, counts_duplicates, before, is_moved, resend_heard, signal_of, tells_loss, report_signal, came_twice, ends_tail, whole_signal, resend_signalled, timed_by, begins_wait};
+ghost use Rattle.tcp_state.specs.Arrival.{after_segment, scales_with, after_first_syn, after_syn_ack, owing_ack, after_establishment, after_ack, is_read_on, after_window, after_text, after_acknowledging_segment, after_acceptable_segment, ends_by_syn, is_acceptable_to, fin_acknowledged, after_new_ack, after_fin, reset_error, after_rst_in_syn_sent, after_rst, is_acting_reset, ends_by_reset, is_right_syn_ack, is_simultaneous_syn, after_simultaneous_syn, fate, after_segment_at, after_heard, is_lost, is_read, brings_more, after_lost, repeats_fin, is_rejected, ends_opening, is_of_fin, may_delay, answers_probe, octets_outstanding, is_duplicate, counts_duplicates, before, is_moved, resend_heard, signal_of, tells_loss, report_signal, given_back, ends_tail, whole_signal, resend_signalled, timed_by, begins_wait};
 ghost use Rattle.congestion.specs.Events.{after_event};
 ghost use Rattle.congestion.specs.Events.Event.{PartialAck, Duplicate};
 ghost use Rattle.congestion.specs.Control.{is_selective};
 ghost use Rattle.congestion.specs.Window.{is_recovering};
 ghost use Rattle.tcp_halves.specs.Stream.{after_octets};
 ghost use Rattle.tcp_state.specs.Reporting.{noted};
-ghost use Rattle.tcp_state.specs.Resend.{resend_first, resend_ends};
+ghost use Rattle.tcp_state.specs.Resend.{resend_first, resend_ends, excused_by, gives_back};
 ghost use Rattle.tcp_state.specs.Selective.{selects};
 ghost use Rattle.tcp_state.specs.Congestion.{after_signal};
 ghost use Rattle.tcp_state.specs.Congestion.Signal.{Counts};
@@ -19,6 +19,7 @@ ghost use Rattle.tcp_halves.specs.declared.buffers.TheConstants.{CAPACITY};
 ghost use Rattle.tcp_halves.specs.Stream.{outstanding, is_new_ack};
 
 use crate::connection::{Connection, Fate};
+use crate::needless::came_twice;
 use crate::state::State;
 use clock::Moment;
 use congestion::Cwnd;
@@ -48,6 +49,8 @@ pub(crate) struct Before {
     held: u32,
     /// The number behind all that was outstanding when a probe of the tail went out, as a distance past SND.UNA as it was; 0 where none did, or all of it was acknowledged.
     tail: u32,
+    /// Whether it tells that octets went out again which needn't have.
+    needless: bool,
 }
 
 impl Connection {
@@ -71,6 +74,8 @@ impl Connection {
     fn before(&self, segment: &TcpView<'_>) -> Before
         ensures { result ≡ before self.now segment.now }
     {
+        let blocks = self.blocks_told(segment);
+        let needless = self.tells_needless(segment, &blocks);
         Before {
             state: self.state,
             una: self.sender.una(),
@@ -79,9 +84,10 @@ impl Connection {
             answers_probe: self.answers_probe(segment),
             is_duplicate: self.is_duplicate(segment) && self.counts_duplicates(),
             counts_reports: self.counts_reports(),
-            blocks: self.blocks_told(segment),
+            blocks,
             held: self.sender.held_len() as u32,
             tail: self.resend.tail(),
+            needless,
         }
     }
 
@@ -149,7 +155,7 @@ impl Connection {
         let moved = before.una != self.sender.una();
         self.note_progress(before, moved, now);
         let reports_more = self.note_reports(before);
-        self.note_signal(before, moved, reports_more);
+        self.note_news(before, moved, reports_more);
         if before.starts_wait(self.state, self.owes_reset) {
             self.since = now;
         }
@@ -167,6 +173,21 @@ impl Connection {
                 .acknowledge(self.sender.una(), before.state.is_opening(), now);
         } else if before.answers_probe {
             self.resend.progress();
+        }
+    }
+
+    /// The congestion window takes what a segment is to it, and what it gives back.
+    fn note_news(&mut self, before: &Before, moved: bool, reports_more: bool)
+        requires { moved ≡ is_moved before.now self.old }
+        ensures { self.new ≡ (
+          let resend = excused_by before.now.needless (resend_signalled self.old.resend (signal_of before.now self.old reports_more) self.old.congestion (outstanding self.old.sending)) in record self.old {
+            resend = resend;
+            congestion = given_back (gives_back before.now.needless resend) (after_signal self.old.congestion (signal_of before.now self.old reports_more) self.old.sending.smss self.old.resend.syn_resent);
+          }) }
+    {
+        self.note_signal(before, moved, reports_more);
+        if before.needless {
+            self.note_needless();
         }
     }
 
@@ -292,17 +313,7 @@ impl Connection {
             && before.tail > 0
             && self.resend.tail() == 0
             && !self.congestion.is_recovering()
-            && !self.came_twice(&before.blocks)
-    }
-
-    /// Whether the first block of an ACK tells that octets came twice (RFC 2883 section 4).
-    fn came_twice(&self, blocks: &Blocks) -> bool
-        ensures { result ≡ came_twice self.now blocks.now }
-    {
-        match blocks.as_slice().first() {
-            Some(block) => !self.sender.una().is_before(block.right),
-            None => false,
-        }
+            && !came_twice(self.sender.una(), &before.blocks)
     }
 
     /// A recovery is over, if one runs; where reports ruled it, nothing goes out again by its mark.

@@ -20,9 +20,9 @@ ghost use Rattle.tcp_state.specs.declared.state.State.{State};
 ghost use Rattle.tcp_state.specs.View.{View, IsSound, is_opening, is_syn_received, is_closed, opened_actively};
 ghost use Rattle.tcp_state.specs.Alive.{IsPatient};
 ghost use Rattle.tcp_state.specs.Timing.{KeepsTime};
-ghost use Rattle.tcp_state.specs.Arrival.{opened_passively, is_duplicate, counts_duplicates, is_counted_duplicate, is_report, reports_loss, is_rejected, after_heard, repairs_tail};
+ghost use Rattle.tcp_state.specs.Arrival.{opened_passively, is_duplicate, counts_duplicates, is_counted_duplicate, is_report, reports_loss, is_rejected, after_heard, repairs_tail, given_back};
 ghost use Rattle.tcp_state.specs.Due.{first_due, octets_of};
-ghost use Rattle.tcp_state.specs.Edges.{Event, after_event, fate_by, moment_of, state_after};
+ghost use Rattle.tcp_state.specs.Edges.{Event, after_event, gives_back_by, fate_by, moment_of, state_after};
 ghost use Rattle.tcp_state.specs.Said.{segment_of};
 ghost use Rattle.tcp_state.specs.Counted.{WaitsForEnd, BringsFinAgain, BringsSyn, IsDuplicate, IsGivenUp, BringsNew, BringsAgain};
 
@@ -62,13 +62,13 @@ pub fn sizes_are_the_peers()
 
 /// What an event is to the congestion window (RFC 5681 sections 2, 3.1 and 3.2, RFC 6582 section 3.2). Where our SYN is acknowledged, the window begins; later an acknowledgement that moves SND.UNA counts for as many
 /// octets as it acknowledges, so without our FIN, and is a partial one where a recovery goes on whose end it doesn't reach, and reports don't rule; a duplicate one, where it moves nothing and counts, or a report that counts, which counts behind the acknowledgement where it comes with one (RFC 6675 section 2); one that ends a probe of the tail pays before for the loss that this repaired (RFC 8985 section 7.4); and an expiry of the retransmission timer. No
-/// other event moves the window, nor one that ends the connection.
+/// other event moves the window, nor one that ends the connection. A segment that tells that the last of what went out again needn't have gives back, besides, what the loss took (RFC 3708).
 pub fn the_congestion_window_counts_octets()
     ensures begins { (v : View) (s : Segment) (now : Moment) → is_opening v.state ≡ true → (after_event v (Event.Hears s now)).sending.una ≢ v.sending.una → is_closed (after_event v (Event.Hears s now)).state ≡ false
         → (after_event v (Event.Hears s now)).congestion ≡ initial_window v.congestion.control (after_event v (Event.Hears s now)).sending.smss (after_event v (Event.Hears s now)).resend.syn_resent }
     ensures acknowledged { (v : View) (s : Segment) (now : Moment) → is_opening v.state ≡ false → (after_event v (Event.Hears s now)).sending.una ≢ v.sending.una → is_closed (after_event v (Event.Hears s now)).state ≡ false
         → is_report v s ≡ false → repairs_tail v s ≡ false → (goes_on v.congestion && nat_lt 0 (after_event v (Event.Hears s now)).resend.recover) ≡ false
-        → (after_event v (Event.Hears s now)).congestion ≡ after_new_ack v.congestion (min (past (after_event v (Event.Hears s now)).sending.una v.sending.una) (length v.sending.held)) (outstanding (after_event v (Event.Hears s now)).sending) }
+        → (after_event v (Event.Hears s now)).congestion ≡ given_back (gives_back_by v (Event.Hears s now) (after_event v (Event.Hears s now))) (after_new_ack v.congestion (min (past (after_event v (Event.Hears s now)).sending.una v.sending.una) (length v.sending.held)) (outstanding (after_event v (Event.Hears s now)).sending)) }
     ensures tail { (v : View) (s : Segment) (now : Moment) → is_opening v.state ≡ false → (after_event v (Event.Hears s now)).sending.una ≢ v.sending.una → is_closed (after_event v (Event.Hears s now)).state ≡ false
         → is_report v s ≡ false → repairs_tail v s ≡ true
         → (after_event v (Event.Hears s now)).congestion ≡ after_new_ack (after_loss v.congestion v.resend.tail) (min (past (after_event v (Event.Hears s now)).sending.una v.sending.una) (length v.sending.held)) (outstanding (after_event v (Event.Hears s now)).sending) }
@@ -76,18 +76,18 @@ pub fn the_congestion_window_counts_octets()
         → (goes_on v.congestion && nat_lt 0 (after_event v (Event.Hears s now)).resend.recover) ≡ true → selects v ≡ false
         → (after_event v (Event.Hears s now)).congestion ≡ after_partial_ack v.congestion (min (past (after_event v (Event.Hears s now)).sending.una v.sending.una) (length v.sending.held)) }
     ensures ruled { (v : View) (s : Segment) (now : Moment) → is_opening v.state ≡ false → (after_event v (Event.Hears s now)).sending.una ≢ v.sending.una → is_closed (after_event v (Event.Hears s now)).state ≡ false
-        → (goes_on v.congestion && nat_lt 0 (after_event v (Event.Hears s now)).resend.recover) ≡ true → selects v ≡ true → (after_event v (Event.Hears s now)).congestion ≡ v.congestion }
+        → (goes_on v.congestion && nat_lt 0 (after_event v (Event.Hears s now)).resend.recover) ≡ true → selects v ≡ true → (after_event v (Event.Hears s now)).congestion ≡ given_back (gives_back_by v (Event.Hears s now) (after_event v (Event.Hears s now))) v.congestion }
     ensures reported { (v : View) (s : Segment) (now : Moment) → (after_event v (Event.Hears s now)).sending.una ≡ v.sending.una → is_closed (after_event v (Event.Hears s now)).state ≡ false → is_report v s ≡ true → is_counted_duplicate v s ≡ false → (is_closed v.state || is_rejected v s) ≡ false
-        → (after_event v (Event.Hears s now)).congestion ≡ (let flight = outstanding (after_heard v s).sending in if reports_loss v s then after_loss v.congestion flight else if third_is_next v.congestion then v.congestion else after_duplicate v.congestion flight) }
+        → (after_event v (Event.Hears s now)).congestion ≡ given_back (gives_back_by v (Event.Hears s now) (after_event v (Event.Hears s now))) (let flight = outstanding (after_heard v s).sending in if reports_loss v s then after_loss v.congestion flight else if third_is_next v.congestion then v.congestion else after_duplicate v.congestion flight) }
     ensures acknowledged_and_reported { (v : View) (s : Segment) (now : Moment) → (after_event v (Event.Hears s now)).sending.una ≢ v.sending.una → is_closed (after_event v (Event.Hears s now)).state ≡ false → is_report v s ≡ true
-        → (after_event v (Event.Hears s now)).congestion ≡ (let flight = outstanding (after_event v (Event.Hears s now)).sending in let c = after_new_ack v.congestion (min (past (after_event v (Event.Hears s now)).sending.una v.sending.una) (length v.sending.held)) flight in
+        → (after_event v (Event.Hears s now)).congestion ≡ given_back (gives_back_by v (Event.Hears s now) (after_event v (Event.Hears s now))) (let flight = outstanding (after_event v (Event.Hears s now)).sending in let c = after_new_ack v.congestion (min (past (after_event v (Event.Hears s now)).sending.una v.sending.una) (length v.sending.held)) flight in
         if reports_loss v s then after_loss c flight else after_duplicate c flight) }
     ensures duplicate { (v : View) (s : Segment) (now : Moment) → IsSound v → IsDuplicate v s → counts_duplicates v ≡ true → (after_event v (Event.Hears s now)).congestion ≡ after_duplicate v.congestion (past v.sending.nxt v.sending.una) }
     ensures expired { (v : View) (now : Moment) → has_come v.timers.retransmission now ≡ true → is_closed (after_event v (Event.Ticks now)).state ≡ false
         → (after_event v (Event.Ticks now)).congestion ≡ after_expiry v.congestion (past v.sending.nxt v.sending.una) }
     ensures others { (v : View) (e : Event) → ((after_event v e).congestion ≡ v.congestion)
         ⊎ (((s : Segment) × (now : Moment) × (e ≡ Event.Hears s now) × (is_closed (after_event v e).state ≡ false) × (((after_event v e).sending.una ≢ v.sending.una) ⊎ ((IsDuplicate v s × (counts_duplicates v ≡ true)) ⊎ (is_report v s ≡ true))))
-        ⊎ ((now : Moment) × (e ≡ Event.Ticks now) × (has_come v.timers.retransmission now ≡ true))) }
+        ⊎ (((now : Moment) × (e ≡ Event.Ticks now) × (has_come v.timers.retransmission now ≡ true)) ⊎ ((gives_back_by v e (after_event v e) ≡ true) × ((after_event v e).congestion ≡ given_back true v.congestion)))) }
     ensures same { (v : View) (s : Segment) → IsSound v → (is_duplicate v s ≡ true) ↔ IsDuplicate v s }
 {}
 

@@ -1,6 +1,6 @@
 //! Laws over the definitions alone: functions with nothing to do, whose contracts are the laws.
 
-ghost use Rattle.std.specs.Prelude.{◌≡◌, ℕ, ◌+◌, ◌-◌, ◌*◌, ◌%◌, ◌<◌, ◌≤◌, ◌==◌, ◌≢◌, nat_lt, min, ◌^◌, ◌⊎◌, ◌↔◌, ◌||◌, ◌&&◌, Bool, List, ◌++◌, slice_index_or, length, drop, true, false, if◌then◌else◌, Some, None, is_some, []};
+ghost use Rattle.std.specs.Prelude.{◌≡◌, ℕ, ◌+◌, ◌-◌, ◌*◌, ◌%◌, ◌<◌, ◌≤◌, ◌==◌, ◌≢◌, nat_lt, min, max, ◌^◌, ◌⊎◌, ◌↔◌, ◌||◌, ◌&&◌, Bool, List, ◌++◌, slice_index_or, length, drop, true, false, if◌then◌else◌, Some, None, is_some, []};
 ghost use Rattle.ipv4.specs.declared.addr.Endpoint.{Endpoint};
 ghost use Rattle.tcp_segment.specs.Segment.{Segment, scale_option_of, blocks_of, shift_of, span_of};
 ghost use Rattle.tcp_segment.specs.Sent.{report};
@@ -36,13 +36,13 @@ ghost use Rattle.stream_buf.specs.Scoreboard.{is_reported};
 ghost use Rattle.tcp_state.specs.Selective.{repairs_gaps, pipe, allowance};
 ghost use Rattle.tcp_state.specs.Congestion.{KeepsCongestion, after_signal};
 ghost use Rattle.tcp_state.specs.Resend.{is_alone};
-ghost use Rattle.tcp_state.specs.Arrival.{opened_passively, fate, is_acceptable_to, is_receiving, is_read, is_counted_duplicate, reports_loss, after_ack, after_heard, after_segment_at};
+ghost use Rattle.tcp_state.specs.Arrival.{opened_passively, fate, is_acceptable_to, is_receiving, is_read, is_counted_duplicate, reports_loss, after_ack, after_heard, after_segment_at, tells_needless, given_back};
 ghost use Rattle.tcp_state.specs.Due.{MayGoOut, first_due, number_of, end_of, flags_of, octets_of, window_of, sends_again, again, rest_of, IsSmall, after_emitted};
 ghost use Rattle.tcp_state.specs.Unreachable.{IsRefused};
 ghost use Rattle.tcp_state.specs.Simultaneous.{crossed, AnswersSyn, CanBeMade, HasOpened, KnowsWindow};
 ghost use Rattle.tcp_state.specs.Opening.{TellsShift, TakesSyn, HearsSyn, OpenedBy, Confirmed};
 ghost use Rattle.tcp_state.specs.Said.{segment_of};
-ghost use Rattle.tcp_state.specs.Edges.{Event, after_event, fate_by, moment_of, state_after, IsEdge, ends_by, is_cause, may_raise, congestion_event_by};
+ghost use Rattle.tcp_state.specs.Edges.{Event, after_event, fate_by, moment_of, state_after, IsEdge, ends_by, is_cause, may_raise, congestion_event_by, gives_back_by};
 
 /// The constants have their values: TIME-WAIT lasts 2 MSL, twice the two minutes that a segment may live (RFC 9293 section 3.4.2), a peer's segments are taken to have room for 536 octets where its SYN doesn't say for
 /// how many (section 3.7.1), and an acknowledgement waits for less than half a second (RFC 1122 section 4.2.3.2), and a hop is given up after the time of a SYN that nobody answers (section 4.2.3.5); the others are this stack's own.
@@ -295,13 +295,16 @@ pub fn the_congestion_window_is_kept()
 /// Each event of a connection is one event of its congestion window, two where an ACK of new octets also reports, or none (RFC 5681 sections 3.1 and 3.2, RFC 6675 section 2): an ACK of new octets, a duplicate one, or the expiry of the retransmission timer. The window begins
 /// where our SYN is acknowledged: with one segment where that expired and went out again.
 pub fn the_congestion_window_moves_by_events()
-    ensures { (v : View) (e : Event) → (after_event v e).congestion ≡ after_signal v.congestion (congestion_event_by v e) (after_event v e).sending.smss (after_event v e).resend.syn_resent }
+    ensures { (v : View) (e : Event) → (after_event v e).congestion ≡ given_back (gives_back_by v e (after_event v e)) (after_signal v.congestion (congestion_event_by v e) (after_event v e).sending.smss (after_event v e).resend.syn_resent) }
 {}
 
-/// A segment raises the congestion window by one segment at most, where it begins and ends no recovery (RFC 5681 section 3.1); by two where losses are repaired (RFC 3465 section 2.3).
+/// A segment raises the congestion window by one segment at most, where it begins and ends no recovery (RFC 5681 section 3.1); by two where losses are repaired (RFC 3465 section 2.3). One that tells that octets went
+/// out again which needn't have may give back what the last loss took.
 pub fn one_segment_raises_the_window_by_one()
-    ensures { (v : View) (s : Segment) (now : Moment) → KeepsCongestion v → is_opening v.state ≡ false → is_recovering v.congestion ≡ false
+    ensures needed { (v : View) (s : Segment) (now : Moment) → KeepsCongestion v → is_opening v.state ≡ false → is_recovering v.congestion ≡ false → tells_needless v s ≡ false
         → is_recovering (after_segment_at v s now).congestion ≡ false → (after_segment_at v s now).congestion.cwnd ≤ v.congestion.cwnd + most_growth v.congestion }
+    ensures back { (v : View) (s : Segment) (now : Moment) → KeepsCongestion v → is_opening v.state ≡ false → is_recovering v.congestion ≡ false
+        → is_recovering (after_segment_at v s now).congestion ≡ false → (after_segment_at v s now).congestion.cwnd ≤ max (v.congestion.cwnd + most_growth v.congestion) v.congestion.prior_cwnd }
 {}
 
 /// The third duplicate ACK in a row, and but for partial ACKs and reports of a loss no other segment, sends the segment at SND.UNA again, and that alone (RFC 5681 section 3.2).

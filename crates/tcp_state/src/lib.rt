@@ -15,6 +15,7 @@ mod hop;
 mod info;
 pub mod late;
 pub mod laws;
+mod needless;
 pub mod probing;
 pub mod progress;
 pub mod recovery;

@@ -3,7 +3,7 @@
 ghost use Rattle.std.specs.Prelude.{◌≡◌, ◌<◌, ◌-◌, ◌*◌, ◌^◌, ◌&&◌, if◌then◌else◌, true, false, None, Some, ◌||◌, nat_lt, min};
 ghost use Rattle.stream_buf.specs.Ranges.{range};
 ghost use Rattle.stream_buf.specs.Scoreboard.{with_report};
-ghost use Rattle.tcp_state.specs.Resend.{IsSoundResend, is_alone, resend_ends, first_resend, stopped, mark_past, reached, resend_again, resend_syn_again, resend_sent, resend_probed, resend_expired, resend_probes, mark_moved, recover_noted, resend_first, resend_lost, unmarked, is_timed_by, resend_acknowledged};
+ghost use Rattle.tcp_state.specs.Resend.{IsSoundResend, is_alone, resend_ends, first_resend, stopped, mark_past, reached, resend_again, resend_syn_again, resend_sent, resend_probed, resend_expired, resend_probes, mark_moved, recover_noted, resend_first, resend_lost, unmarked, is_timed_by, resend_acknowledged, excused_by, gives_back, counted_on};
 
 use clock::Moment;
 use retransmit::{Estimate, Rto};
@@ -58,6 +58,10 @@ pub(crate) struct Resend {
     tail: u32,
     /// How many octets were reported at most past one that came late, and had gone out but once.
     reach: u32,
+    /// How many numbers were acknowledged since a segment last counted as lost.
+    since_loss: u32,
+    /// How many segments had gone out again then, and one more for each that is told to have come twice since.
+    excused: u64,
     /// What the peer reports that it keeps ahead of a gap, by distances past SND.UNA (RFC 6675 section 3).
     reported: Scoreboard,
 }
@@ -96,6 +100,8 @@ impl Resend {
             recover: 0,
             tail: 0,
             reach: 0,
+            since_loss: 0,
+            excused: 0,
             reported: Scoreboard::new(),
         }
     }
@@ -221,6 +227,7 @@ impl Resend {
         self.recover = 0;
         self.tail = 0;
         self.reach = 0;
+        self.since_loss = 0;
         self.reported.clear();
     }
 
@@ -244,6 +251,7 @@ impl Resend {
         self.small = self.small.saturating_sub(gained);
         self.recover = self.recover.saturating_sub(gained);
         self.tail = self.tail.saturating_sub(gained);
+        self.since_loss = counted_on(self.since_loss, gained);
         self.reported.pass(gained);
     }
 
@@ -285,6 +293,28 @@ impl Resend {
     {
         self.mark_first(outstanding);
         self.note_recover(repairs, outstanding);
+        self.since_loss = 0;
+        self.excused = self.resent;
+    }
+
+    /// How many numbers were acknowledged since a segment last counted as lost.
+    pub(crate) fn since_loss(&self) -> u32
+        ensures { result ≡ self.now.since_loss }
+    {
+        self.since_loss
+    }
+
+    /// A segment that went out again since a segment last counted as lost came twice. The answer is whether as many came twice as went out again (RFC 3708 section 3).
+    pub(crate) fn excuse(&mut self) -> bool
+        ensures all { result ≡ gives_back true self.new }
+        ensures after { self.new ≡ excused_by true self.old }
+        ensures resend_view { IsSoundResend self.new }
+    {
+        if self.since_loss == 0 {
+            return false;
+        }
+        self.excused = self.excused.saturating_add(1);
+        self.resent <= self.excused
     }
 
     /// Where losses are repaired, the end of what is outstanding is remembered.
@@ -475,6 +505,14 @@ impl Timed {
     {
         !una.is_before(self.end)
     }
+}
+
+/// A count goes on, as far as 32 bits have room.
+#[tactic(auto, unfolding(crate::specs::Resend::counted_on))]
+fn counted_on(count: u32, gained: u32) -> u32
+    ensures { result ≡ counted_on count gained }
+{
+    count.saturating_add(gained)
 }
 
 /// The mark behind what went out, where something that is outstanding lies behind it.

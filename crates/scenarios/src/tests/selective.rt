@@ -406,7 +406,108 @@ const KEPT: &[Row] = &[
     (Reports(10, &[(18_980, 18_990)]), &[10], 3_650, 3_650),
 ];
 
-const RUNS: [Run; 21] = [
+/// Segment 0 is late, and goes out again: when it comes twice, what the loss took comes back (RFC 3708 section 3).
+const NEEDLESS: &[Row] = &[
+    (Writes(30), &[0, 1, 2, 3, 4, 5, 6, 7, 8, 9], 14_600, 65_535),
+    (Acknowledged(0, &[(1, 2)]), &[10], 14_600, 65_535),
+    (Acknowledged(0, &[(1, 3)]), &[11], 14_600, 65_535),
+    (Acknowledged(0, &[(1, 4)]), &[0], 7_300, 7_300),
+    // 0 comes late: 4 to 11 are in the network; and then 8 to 11
+    (Acknowledged(4, &[]), &[], 7_300, 7_300),
+    (Acknowledged(8, &[]), &[12], 7_300, 7_300),
+    // past 11: 12 is in flight, and a segment more
+    (Acknowledged(12, &[]), &[13], 2_920, 7_300),
+    // 0 again (RFC 2883 section 4.1): ten are in flight
+    (
+        Acknowledged(12, &[(0, 1)]),
+        &[14, 15, 16, 17, 18, 19, 20, 21],
+        14_600,
+        65_535,
+    ),
+];
+
+/// Segments 0, 3 and 6 go out again; nothing comes back before all three came twice.
+const ALL_NEEDLESS: &[Row] = &[
+    (Writes(30), &[0, 1, 2, 3, 4, 5, 6, 7, 8, 9], 14_600, 65_535),
+    (
+        Acknowledged(0, &[(7, 10), (4, 6), (1, 3)]),
+        &[0, 3, 6, 10, 11],
+        7_300,
+        7_300,
+    ),
+    // 0 comes late: 10, 11, and 3 and 6 once more are in the network
+    (Acknowledged(3, &[(7, 10), (4, 6)]), &[12], 7_300, 7_300),
+    // 6: 10 to 12 and 3
+    (Acknowledged(3, &[(4, 10)]), &[13], 7_300, 7_300),
+    // 6 again, ahead of the gap (RFC 2883 section 4.2); and 0 again
+    (Acknowledged(3, &[(6, 7), (4, 10)]), &[], 7_300, 7_300),
+    (Acknowledged(3, &[(0, 1), (4, 10)]), &[], 7_300, 7_300),
+    // 3: past 9; 10 to 13 are in flight
+    (Acknowledged(10, &[]), &[14], 7_300, 7_300),
+    // 3 again
+    (
+        Acknowledged(10, &[(3, 4)]),
+        &[15, 16, 17, 18, 19],
+        14_600,
+        65_535,
+    ),
+];
+
+/// Segment 2 goes out again: what came twice of the octets before tells nothing of that.
+const OLDER: &[Row] = &[
+    (Writes(30), &[0, 1, 2, 3, 4, 5, 6, 7, 8, 9], 14_600, 65_535),
+    (Acknowledged(2, &[]), &[10, 11, 12, 13], 17_520, 65_535),
+    (Acknowledged(2, &[(3, 4)]), &[14], 17_520, 65_535),
+    (Acknowledged(2, &[(3, 5)]), &[15], 17_520, 65_535),
+    // half of the 17,520 octets in flight without what reports let out
+    (Acknowledged(2, &[(3, 6)]), &[2], 8_760, 8_760),
+    // 2 comes: 6 to 15 are in the network
+    (Acknowledged(6, &[]), &[], 8_760, 8_760),
+    // 1 again; and then 2, in the recovery
+    (Acknowledged(6, &[(1, 2)]), &[], 8_760, 8_760),
+    (Acknowledged(6, &[(2, 3)]), &[16, 17], 17_520, 65_535),
+];
+
+/// Segment 0 goes out again, and so it does when the timer expires: nothing comes back that was before that.
+const EXPIRED_TWICE: &[Row] = &[
+    (Writes(30), &[0, 1, 2, 3, 4, 5, 6, 7, 8, 9], 14_600, 65_535),
+    (Acknowledged(0, &[(1, 2)]), &[10], 14_600, 65_535),
+    (Acknowledged(0, &[(1, 3)]), &[11], 14_600, 65_535),
+    (Acknowledged(0, &[(1, 4)]), &[0], 7_300, 7_300),
+    // half of the 17,520 octets in flight
+    (Expires(1_000), &[0], 1_460, 8_760),
+    (Acknowledged(12, &[]), &[12, 13], 2_920, 8_760),
+    // 0 again, and once more
+    (Acknowledged(12, &[(0, 1)]), &[], 2_920, 8_760),
+    (Acknowledged(12, &[(0, 1)]), &[], 2_920, 8_760),
+];
+
+const RUNS: [Run; 25] = [
+    Run {
+        name: "what comes twice gives back what the loss took",
+        sacks: true,
+        window: WIDE,
+        rows: NEEDLESS,
+    },
+    Run {
+        name: "all of it has to come twice",
+        sacks: true,
+        window: WIDE,
+        rows: ALL_NEEDLESS,
+    },
+    Run {
+        name: "what came twice before the loss gives nothing back",
+        sacks: true,
+        window: WIDE,
+        rows: OLDER,
+    },
+    Run {
+        name: "an expiry stands",
+        sacks: true,
+        window: WIDE,
+        rows: EXPIRED_TWICE,
+    },
+
     Run {
         name: "two losses are repaired",
         sacks: true,

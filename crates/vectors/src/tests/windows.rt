@@ -13,6 +13,8 @@ enum Event {
     Third(u32),
     /// Reports tell a loss.
     Lost(u32),
+    /// They tell that nothing was lost.
+    Undone,
 }
 
 /// Whether the event answers what it says.
@@ -38,6 +40,10 @@ fn answers(cwnd: &mut Cwnd, event: &Event) -> bool {
         Event::Third(flight) => cwnd.duplicate(*flight),
         Event::Lost(flight) => {
             cwnd.lost(*flight);
+            true
+        }
+        Event::Undone => {
+            cwnd.undo();
             true
         }
     }
@@ -207,7 +213,7 @@ const BESIDE_PLAIN: [&[(Event, u32, u32, u32, u32)]; 2] = [
 
 /// Events with segments of 1,460 octets where losses are repaired alone, with selective acknowledgements or without, from a window of 14,600: each with the
 /// window, what may be in flight, and the threshold after it.
-const REPAIRED: [&[(Event, u32, u32, u32)]; 3] = [
+const REPAIRED: [&[(Event, u32, u32, u32)]; 4] = [
     // Of ten segments in flight the first and the fourth are lost, and octets always wait: what may go out does.
     &[
         // the eleventh segment goes out, and the twelfth
@@ -266,6 +272,25 @@ const REPAIRED: [&[(Event, u32, u32, u32)]; 3] = [
         // half of 3,650 is less than two segments
         (Event::Expired(3_650), 1_460, 1_460, 2_920),
         (Event::Lost(1_460), 2_920, 2_920, 2_920),
+    ],
+    // losses that were none
+    &[
+        (Event::Lost(14_600), 7_300, 7_300, 7_300),
+        // the lesser of 7,300 and 2,920 + 1,460; and then what was before the loss
+        (Event::Acked(11_680, 2_920), 4_380, 4_380, 7_300),
+        (Event::Undone, 14_600, 14_600, 1 << 30),
+        // a second time it changes nothing, nor where the window is larger by then
+        (Event::Undone, 14_600, 14_600, 1 << 30),
+        (Event::Acked(2_920, 14_600), 17_520, 17_520, 1 << 30),
+        (Event::Undone, 17_520, 17_520, 1 << 30),
+        // in a recovery, which goes on to its end: the lesser of 2^30 and 11,680 + 1,460
+        (Event::Lost(17_520), 8_760, 8_760, 8_760),
+        (Event::Undone, 17_520, 17_520, 1 << 30),
+        (Event::Acked(1_460, 11_680), 13_140, 13_140, 1 << 30),
+        // after an expiry nothing comes back
+        (Event::Lost(13_140), 6_570, 6_570, 6_570),
+        (Event::Expired(6_570), 1_460, 1_460, 3_285),
+        (Event::Undone, 1_460, 1_460, 3_285),
     ],
 ];
 
