@@ -267,13 +267,12 @@ loss_counts_anew v s now sound is other hears alive =
     let lost = loss_marks v s now is other lives in
     let since : (resend_after b x now).since_loss ≡ 0 = ap (λ (p : Resend). p.since_loss) lost in
     let told : (resend_told b x now).resent ≡ x.resend.resent = heard_paced b x now (λ p. p.resent ≡ x.resend.resent) refl refl refl in
-    let again : (resend_after b x now).excused ≡ v.resend.resent = ap (λ (p : Resend). p.excused) lost ∙ told ∙ (heard_counts v s).0 in
-    (
+    let again : (resend_after b x now).excused ≡ v.resend.resent = ap (λ (p : Resend). p.excused) lost ∙ told ∙ (heard_counts v s).0 in (
       ap (λ (y : View). y.resend.since_loss) at ∙ since,
       ap (λ (y : View). y.resend.excused) at
-      ∙ ap (λ n. if b.needless && nat_lt 0 n then once_more (resend_after b x now).excused else (resend_after b x now).excused) since
-      ∙ ap (λ t. if t then once_more (resend_after b x now).excused else (resend_after b x now).excused) (and_false b.needless)
-      ∙ again,
+          ∙ ap (λ n. if b.needless && nat_lt 0 n then once_more (resend_after b x now).excused else (resend_after b x now).excused) since
+          ∙ ap (λ t. if t then once_more (resend_after b x now).excused else (resend_after b x now).excused) (and_false b.needless)
+          ∙ again,
     )
 
 pub loss_resends : (v : View) (s : Segment) (now : Moment) → IsSound v → reports_loss v s ≡ true → is_counted_duplicate v s ≡ false → (is_closed v.state || is_rejected v s) ≡ false → is_closed (after_event v (Hears s now)).state ≡ false

@@ -430,9 +430,9 @@ counts_report v s now same alive is other hears =
     ∙ ap (λ t. if t then Counts (Duplicate flight) else tells) other
     ∙ ap (λ t. if t then report_signal (told b x) else Nothing) is)
     ∙ ap (given_back (gives_back_by v (Hears s now) (after_event v (Hears s now)))) (
-      ap (λ c. after_signal v.congestion (if third_is_next c && not (tells_loss (told b x)) then Nothing else Counts (report_event (told b x))) smss resent) (window_kept v s)
-      ∙ signal_makes v.congestion flight (third_is_next v.congestion) (tells_loss (told b x)) smss resent
-      ∙ ap (λ t. if t then after_loss v.congestion flight else if third_is_next v.congestion then v.congestion else after_duplicate v.congestion flight) (sym (ap₂ (λ t w. t && tells_loss w) is (told_still b x still)))
+    ap (λ c. after_signal v.congestion (if third_is_next c && not (tells_loss (told b x)) then Nothing else Counts (report_event (told b x))) smss resent) (window_kept v s)
+    ∙ signal_makes v.congestion flight (third_is_next v.congestion) (tells_loss (told b x)) smss resent
+    ∙ ap (λ t. if t then after_loss v.congestion flight else if third_is_next v.congestion then v.congestion else after_duplicate v.congestion flight) (sym (ap₂ (λ t w. t && tells_loss w) is (told_still b x still)))
     )
 
 -- .. and else behind the ACK
@@ -456,9 +456,9 @@ counts_both v s now moved alive is =
     window_by v (Hears s now) (Both (NewAck n flight) (if loss then Loss flight else Duplicate flight))
     (acked_event v s now false opened moved alive (ap (λ t. t && nat_lt 0 w.resend.recover) runs) ∙ ap (whole_signal b (told b x) n) is)
     ∙ ap (given_back (gives_back_by v (Hears s now) (after_event v (Hears s now)))) (
-      report_makes acked flight loss
-      ∙ ap (λ t. if t then after_loss acked flight else after_duplicate acked flight) (sym (ap₂ (λ t u. t && tells_loss u) is (told_moved b x moves)))
-      ∙ ap₂ (λ octets f. let c = after_new_ack v.congestion octets f in if reports_loss v s then after_loss c f else after_duplicate c f) counts.0 counts.1
+    report_makes acked flight loss
+    ∙ ap (λ t. if t then after_loss acked flight else after_duplicate acked flight) (sym (ap₂ (λ t u. t && tells_loss u) is (told_moved b x moves)))
+    ∙ ap₂ (λ octets f. let c = after_new_ack v.congestion octets f in if reports_loss v s then after_loss c f else after_duplicate c f) counts.0 counts.1
     )
 
 pub counts_duplicate : (v : View) (s : Segment) (now : Moment) → IsSound v → IsDuplicate v s → counts_duplicates v ≡ true → (after_event v (Hears s now)).congestion ≡ after_duplicate v.congestion (past v.sending.nxt v.sending.una)

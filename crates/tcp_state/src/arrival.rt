@@ -180,10 +180,10 @@ impl Connection {
     fn note_news(&mut self, before: &Before, moved: bool, reports_more: bool)
         requires { moved ≡ is_moved before.now self.old }
         ensures { self.new ≡ (
-          let resend = excused_by before.now.needless (resend_signalled self.old.resend (signal_of before.now self.old reports_more) self.old.congestion (outstanding self.old.sending)) in record self.old {
-            resend = resend;
-            congestion = given_back (gives_back before.now.needless resend) (after_signal self.old.congestion (signal_of before.now self.old reports_more) self.old.sending.smss self.old.resend.syn_resent);
-          }) }
+            let resend = excused_by before.now.needless (resend_signalled self.old.resend (signal_of before.now self.old reports_more) self.old.congestion (outstanding self.old.sending)) in record self.old {
+              resend = resend;
+              congestion = given_back (gives_back before.now.needless resend) (after_signal self.old.congestion (signal_of before.now self.old reports_more) self.old.sending.smss self.old.resend.syn_resent);
+            }) }
     {
         self.note_signal(before, moved, reports_more);
         if before.needless {

@@ -507,7 +507,6 @@ const RUNS: [Run; 25] = [
         window: WIDE,
         rows: EXPIRED_TWICE,
     },
-
     Run {
         name: "two losses are repaired",
         sacks: true,
