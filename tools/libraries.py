@@ -91,6 +91,14 @@ def are_of_a_gate(libraries):
     return True
 
 
+def stop_on_layout(crates):
+    """Refuses crates with a file that is not laid out as `rt fmt` does, which the gate refuses, too."""
+    with open(os.devnull, "w", encoding="utf-8") as nowhere:
+        found = [it.name for it in crates if load_rt().rtlib.fmt(it.folder, "--check", nowhere)]
+    if found:
+        raise Refused(f"`rt fmt` would lay out anew, and the gate refuses: {', '.join(found)}")
+
+
 def made_of(crate):
     """Returns the file that a program or a static library is made as."""
     return f"{crate.folder}/out/{crate.name if crate.is_program else f'lib{crate.name}.a'}"

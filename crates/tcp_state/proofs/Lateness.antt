@@ -13,12 +13,14 @@ use Rattle.stream_buf.proofs.Reports.{lost_before}
 use Rattle.stream_buf.proofs.Stepping.{lost_none}
 use Rattle.tcp_segment.specs.declared.TheConstants.{MSS}
 use Rattle.tcp_segment.specs.Segment.{Segment}
+use Rattle.tcp_segment.specs.Wire.{past}
 use Rattle.tcp_halves.specs.Halves.{Sending}
+use Rattle.tcp_halves.specs.Stream.{is_new_ack}
 use Rattle.tcp_halves.specs.Windows.{updates_window}
 use Rattle.tcp_halves.proofs.Choices.{either, by, clash, and_left, and_right, or_right}
 use Rattle.tcp_state.specs.declared.state.State.{State}
 use Rattle.tcp_state.specs.declared.state.State.TheVariants.{Closed, SynSent, SynReceived}
-use Rattle.tcp_state.specs.Resend.{Resend, stopped, reached}
+use Rattle.tcp_state.specs.Resend.{Resend, stopped, reached, counted_on}
 use Rattle.tcp_state.specs.View.{View, IsSound, is_opening, is_syn_sent, is_syn_received, is_closed}
 use Rattle.tcp_state.specs.Alive.{after_silence}
 use Rattle.tcp_state.specs.Timing.{clocked, retransmission_expired, probe_expired, after_timers}
@@ -53,22 +55,23 @@ open_before : (t : State) → is_closed (beyond_end t) ≡ false → is_closed t
 open_before Closed e = e
 open_before _ e = refl
 
--- past the opening an ACK that moves SND.UNA tells it, and nothing else does
-abbrev Tells : View → View → Type 0
-Tells v w = (w.resend.reach ≡ reached v.resend) ⊎ ((w.resend.reach ≡ v.resend.reach) × ((w.sending.una ≡ v.sending.una) ⊎ (is_opening v.state ≡ true)))
+-- past the opening an ACK of new numbers tells it, and is counted, and nothing else does
+abbrev pub Tells : View → Segment → View → Type 0
+Tells v s w = ((w.resend.reach ≡ reached v.resend) × (w.resend.since_loss ≡ counted_on v.resend.since_loss (past w.sending.una v.sending.una)) × (is_new_ack v.sending s.acknowledgement ≡ true))
+    ⊎ ((w.resend.reach ≡ v.resend.reach) × (w.resend.since_loss ≡ v.resend.since_loss) × ((w.sending.una ≡ v.sending.una) ⊎ (is_opening v.state ≡ true)))
 
-heard_tells : (v : View) (s : Segment) → is_closed (after_heard v s).state ≡ false → Tells v (after_heard v s)
+pub heard_tells : (v : View) (s : Segment) → is_closed (after_heard v s).state ≡ false → Tells v s (after_heard v s)
 heard_tells v s =
-    let P : View → Type 0 = λ w. is_closed w.state ≡ false → Tells v w in
-    let here : P v = λ lives. inr (refl, inl refl) in
+    let P : View → Type 0 = λ w. is_closed w.state ≡ false → Tells v s w in
+    let here : P v = λ lives. inr (refl, refl, inl refl) in
     let gone = after_new_ack v s.acknowledgement in
     let told = after_window (after_ack v s.acknowledgement) s in
     let acked : P (after_ack v s.acknowledgement) = by_ack P v s.acknowledgement (record {
       old = here;
       beyond = here;
-      opens = λ received new lives. inr (refl, inr (opens_yet v.state (or_right (is_syn_sent v.state) (is_syn_received v.state) received)));
-      octets = λ new lives. inl refl;
-      fin = λ new fin lives. inl (ap (λ b. let p = if b then stopped gone.resend else gone.resend in p.reach) lives);
+      opens = λ received new lives. inr (refl, refl, inr (opens_yet v.state (or_right (is_syn_sent v.state) (is_syn_received v.state) received)));
+      octets = λ new lives. inl (refl, refl, new);
+      fin = λ new fin lives. inl (ap (λ b. let p = if b then stopped gone.resend else gone.resend in p.reach) lives, ap (λ b. let p = if b then stopped gone.resend else gone.resend in p.since_loss) lives, new);
     }) in
     let heard : P told = either Sending (λ t. P (record (after_ack v s.acknowledgement) { sending = t })) (updates_window (after_ack v s.acknowledgement).sending s.number s.acknowledgement) _ (after_ack v s.acknowledgement).sending (λ newer. acked) (λ older. acked) in
     let text : P (after_text told s) = either View P ((length s.octets == 0) || not (is_receiving told.state)) told _ (λ none. heard) (λ some. heard) in
@@ -76,8 +79,8 @@ heard_tells v s =
       dropped = here;
       drawn = here;
       reset = λ acts lives. cc;
-      crossed = λ waits lives. inr (refl, inl refl);
-      opened = λ waits right lives. inr (refl, inr (opens_yet v.state (ap (λ b. b || is_syn_received v.state) waits)));
+      crossed = λ waits lives. inr (refl, refl, inl refl);
+      opened = λ waits right lives. inr (refl, refl, inr (opens_yet v.state (ap (λ b. b || is_syn_received v.state) waits)));
       acknowledged = λ taken. acked;
       read = λ on. by_fin P (after_text told s) s (λ counts lives. text (open_before (after_text told s).state lives)) text text;
     })
@@ -98,8 +101,8 @@ late_told v s now opened over out moved alive =
     let lives : is_closed x.state ≡ false = sym (ap (λ (w : View). is_closed w.state) at) ∙ alive in
     let reach : (after_event v (Hears s now)).resend.reach ≡ x.resend.reach = ap (λ (w : View). w.resend.reach) at ∙ timed_reach v s now in
     reach ∙ elim (heard_tells v s lives) [
-      | inl tells ↦ tells ∙ reached_late v.resend (ap₂ (λ m n. (m == 0) && (n == 0)) over out)
-      | inr other ↦ elim other.1 [
+      | inl tells ↦ tells.0 ∙ reached_late v.resend (ap₂ (λ m n. (m == 0) && (n == 0)) over out)
+      | inr other ↦ elim other.2 [
         | inl same ↦ absurd (moved (ap (λ (w : View). w.sending.una) at ∙ same))
         | inr opening ↦ clash (is_opening v.state) opening opened
       ]
@@ -129,7 +132,7 @@ heard_known v s now lives =
     elim (heard_tells v s lives) [
       | inl tells ↦ by (Known v (Hears s now) (timed_by (before v s) (after_heard v s) now)) ((v.resend.recover == 0) && (v.resend.tail == 0))
           (λ first. inr (inl (s, now, refl, eqb-true v.resend.recover 0 (and_left (v.resend.recover == 0) (v.resend.tail == 0) first), eqb-true v.resend.tail 0 (and_right (v.resend.recover == 0) (v.resend.tail == 0) first))))
-          (λ other. inl (timed_reach v s now ∙ tells ∙ reached_still v.resend other))
+          (λ other. inl (timed_reach v s now ∙ tells.0 ∙ reached_still v.resend other))
       | inr same ↦ inl (timed_reach v s now ∙ same.0)
     ]
 

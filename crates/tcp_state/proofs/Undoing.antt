@@ -1,5 +1,5 @@
 -- What went out again and needn't have, and what that gives back.
-use Rattle.std.proofs.Common.{◌≡◌, ◌+◌, ◌-◌, ◌^◌, ◌<◌, ◌≤◌, ◌==◌, ◌&&◌, ◌||◌, ◌⊎◌, not, nat_lt, min, max, Bool, true, false, if◌then◌else◌, List, [], ◌∷◌, inl, inr, refl, sym, ◌∙◌, ap, ap₂, subst}
+use Rattle.std.proofs.Common.{◌≡◌, ◌≢◌, ℕ, ◌+◌, ◌-◌, ◌^◌, ◌<◌, ◌≤◌, ◌==◌, ◌&&◌, ◌||◌, ◌⊎◌, not, nat_lt, min, max, Bool, true, false, if◌then◌else◌, List, [], ◌∷◌, inl, inr, refl, sym, ◌∙◌, ap, ap₂, subst}
 use Rattle.std.proofs.lemmas.Bool.{lt-ltb, le-ltb, le-leb, lt-leb}
 use Rattle.clock.specs.declared.moment.Moment.{Moment}
 use Rattle.clock.specs.Moments.{has_come}
@@ -8,23 +8,25 @@ use Rattle.tcp_segment.specs.declared.blocks.Block.{Block}
 use Rattle.tcp_segment.specs.Segment.{Segment, blocks_of}
 use Rattle.tcp_segment.specs.Wire.{past}
 use Rattle.tcp_halves.specs.Numbers.{is_before}
+use Rattle.tcp_halves.specs.Stream.{is_new_ack}
 use Rattle.tcp_halves.proofs.Choices.{either, by, clash, and_false, both}
-use Rattle.tcp_state.specs.Resend.{Resend, once_more, gives_back}
+use Rattle.tcp_state.specs.Resend.{Resend, once_more, gives_back, counted_on}
 use Rattle.tcp_state.specs.View.{View, is_opening, is_closed}
 use Rattle.tcp_state.specs.Alive.{after_silence}
 use Rattle.tcp_state.specs.Timing.{probes, clocked, retransmission_expired, probe_expired, after_timers}
 use Rattle.tcp_state.specs.Congestion.{after_signal}
 use Rattle.tcp_state.specs.Selective.{selects}
-use Rattle.tcp_state.specs.Arrival.{is_read, after_heard, is_rejected, is_counted_duplicate, blocks_told, lies_in_first, came_twice, is_since_loss, tells_needless, before, resend_told, resend_after, reports_more, tells_loss, told_behind, reports_loss, given_back, timed_by}
+use Rattle.tcp_state.specs.Arrival.{is_read, after_heard, is_rejected, is_counted_duplicate, blocks_told, lies_in_first, came_twice, is_since_loss, tells_needless, before, resend_told, resend_after, reports_more, tells_loss, told_behind, reports_loss, given_back, is_moved, timed_by}
 use Rattle.tcp_state.specs.Due.{first_due}
 use Rattle.tcp_state.specs.Edges.{Event, Hears, after_event, congestion_event_by, gives_back_by}
 use Rattle.tcp_state.proofs.Clocked.{by_others, heard_paced, by_signal, silent_needed}
 use Rattle.tcp_state.proofs.Congestion.{moves_by_events, window_kept}
 use Rattle.tcp_state.proofs.Events.{by_event}
+use Rattle.tcp_state.proofs.Lateness.{heard_tells}
 use Rattle.tcp_state.proofs.Recovering.{first_left}
 use Rattle.tcp_state.proofs.Recount.{heard_counts}
 use Rattle.tcp_state.proofs.Selects.{silent_unselected}
-use Rattle.tcp_state.proofs.Signals.{heard_is, none_back, tail_needed}
+use Rattle.tcp_state.proofs.Signals.{heard_is, moved_hears, is_moved_by, none_back, tail_needed}
 
 -- What came twice.
 
@@ -109,13 +111,14 @@ abbrev Loses : View → Segment → Type 0
 Loses v s = ((is_counted_duplicate v s ≡ true) × (third_is_next v.congestion ≡ true)) ⊎ (reports_loss v s ≡ true)
 
 -- .. and else nothing does but what came twice
-signal_counts : (v : View) (s : Segment) (now : Moment) → ((resend_after (before v s) (after_heard v s) now).excused ≡ v.resend.excused) ⊎ Loses v s
+signal_counts : (v : View) (s : Segment) (now : Moment) → (let p = resend_after (before v s) (after_heard v s) now in (p.excused ≡ v.resend.excused) × (p.since_loss ≡ (after_heard v s).resend.since_loss)) ⊎ Loses v s
 signal_counts v s now =
     let b = before v s in
     let x = after_heard v s in
-    let G : Resend → Type 0 = λ p. (p.excused ≡ v.resend.excused) ⊎ Loses v s in
+    let G : Resend → Type 0 = λ p. ((p.excused ≡ v.resend.excused) × (p.since_loss ≡ x.resend.since_loss)) ⊎ Loses v s in
     let heard : (resend_told b x now).excused ≡ x.resend.excused = heard_paced b x now (λ p. p.excused ≡ x.resend.excused) refl refl refl in
-    let same : G (resend_told b x now) = inl (heard ∙ (heard_counts v s).1) in
+    let since : (resend_told b x now).since_loss ≡ x.resend.since_loss = heard_paced b x now (λ p. p.since_loss ≡ x.resend.since_loss) refl refl refl in
+    let same : G (resend_told b x now) = inl (heard ∙ (heard_counts v s).1, since) in
     by_signal b x (resend_told b x now) G same (λ moves opened. same) (λ moves opened goes. same)
     (λ r why. inr (elim why [
       | inl twice ↦ inl (twice.1, ap third_is_next (sym (window_kept v s)) ∙ twice.2)
@@ -133,7 +136,7 @@ counted_once v s now hears needless other kept some =
     ap (λ (y : View). y.resend.excused) at
     ∙ ap₂ (λ a c. if a && c then once_more p.excused else p.excused) needless late
     ∙ ap once_more (elim (signal_counts v s now) [
-      | inl same ↦ same
+      | inl same ↦ same.0
       | inr loses ↦ elim loses [ inl twice ↦ clash (is_counted_duplicate v s) twice.0 other | inr loss ↦ clash (reports_loss v s) loss kept ]
     ])
 
@@ -146,7 +149,7 @@ heard_excuses v s now =
     by (Counts v (Hears s now) (timed_by (before v s) (after_heard v s) now)) (tells_needless v s)
     (λ needless. inr (s, now, refl, inl needless))
     (λ needed. elim (signal_counts v s now) [
-      | inl same ↦ inl (ap (λ t. if t && nat_lt 0 p.since_loss then once_more p.excused else p.excused) needed ∙ same)
+      | inl same ↦ inl (ap (λ t. if t && nat_lt 0 p.since_loss then once_more p.excused else p.excused) needed ∙ same.0)
       | inr loses ↦ inr (s, now, refl, inr loses)
     ])
 
@@ -178,4 +181,80 @@ count_stays v e =
       aborts = λ e now at cause goes. inl refl;
       refused = λ number hit. inl refl;
       hopless = λ now gone. inl refl;
+    }) e
+
+-- What is acknowledged.
+
+counts_on : (count gained : ℕ) → counted_on count gained ≡ min (2 ^ 32 - 1) (count + gained)
+unfolding counted_on
+counts_on count gained = refl
+
+-- an ACK of new numbers that tells no loss
+moved_counts : (v : View) (s : Segment) (now : Moment) → is_moved (before v s) (after_heard v s) ≡ true → reports_loss v s ≡ false → (resend_after (before v s) (after_heard v s) now).since_loss ≡ (after_heard v s).resend.since_loss
+moved_counts v s now moves kept =
+    let b = before v s in
+    let x = after_heard v s in
+    let P : Resend → Type 0 = λ p. p.since_loss ≡ x.resend.since_loss in
+    let heard : P (resend_told b x now) = heard_paced b x now P refl refl refl in
+    by_signal b x (resend_told b x now) P heard (λ still_moves opened. heard) (λ still_moves opened goes. heard)
+    (λ r why. elim why [
+      | inl twice ↦ clash (is_moved b x) moves twice.0
+      | inr tells ↦ clash (reports_loss v s) (both (reports_more b x) (tells_loss (told_behind b x)) tells.0 tells.1) kept
+    ])
+
+pub acknowledged_counts : (v : View) (s : Segment) (now : Moment) → is_opening v.state ≡ false → reports_loss v s ≡ false → (after_event v (Hears s now)).sending.una ≢ v.sending.una → is_closed (after_event v (Hears s now)).state ≡ false
+    → (let w = after_event v (Hears s now) in w.resend.since_loss ≡ min (2 ^ 32 - 1) (v.resend.since_loss + past w.sending.una v.sending.una))
+acknowledged_counts v s now opened kept moved alive =
+    let x = after_heard v s in
+    let at = heard_is v s now (moved_hears v s now moved) in
+    let una : (after_event v (Hears s now)).sending.una ≡ x.sending.una = ap (λ (y : View). y.sending.una) at in
+    let stays : x.sending.una ≢ v.sending.una = λ same. moved (una ∙ same) in
+    ap (λ (y : View). y.resend.since_loss) at
+    ∙ moved_counts v s now (is_moved_by v s stays) kept
+    ∙ elim (heard_tells v s (sym (ap (λ (y : View). is_closed y.state) at) ∙ alive)) [
+      | inl tells ↦ tells.1 ∙ counts_on v.resend.since_loss (past x.sending.una v.sending.una) ∙ ap (λ n. min (2 ^ 32 - 1) (v.resend.since_loss + past n v.sending.una)) (sym una)
+      | inr other ↦ elim other.2 [ inl same ↦ absurd (stays same) | inr opening ↦ clash (is_opening v.state) opening opened ]
+    ]
+
+abbrev Acknowledges : View → Event → View → Type 0
+Acknowledges v e w = (w.resend.since_loss ≡ v.resend.since_loss) ⊎ ((s : Segment) × (now : Moment) × (e ≡ Hears s now) × ((is_new_ack v.sending s.acknowledgement ≡ true) ⊎ Loses v s))
+
+heard_acknowledges : (v : View) (s : Segment) (now : Moment) → is_closed (after_heard v s).state ≡ false → Acknowledges v (Hears s now) (timed_by (before v s) (after_heard v s) now)
+heard_acknowledges v s now lives =
+    elim (signal_counts v s now) [
+      | inl same ↦ elim (heard_tells v s lives) [
+        | inl tells ↦ inr (s, now, refl, inl tells.2)
+        | inr other ↦ inl (same.1 ∙ other.1)
+      ]
+      | inr loses ↦ inr (s, now, refl, inr loses)
+    ]
+
+acts_since : (v : View) (now : Moment) → (clocked false (after_timers (after_silence v now) now) now).resend.since_loss ≡ v.resend.since_loss
+acts_since v now =
+    let quiet = after_silence v now in
+    let P : View → Type 0 = λ w. w.resend.since_loss ≡ v.resend.since_loss in
+    by_others P quiet now
+    (either View P (has_come v.timers.retransmission now) (retransmission_expired quiet) _ (λ comes. refl)
+    (λ late. either View P (has_come v.timers.probe now) (probe_expired quiet now) quiet (λ probes. refl) (λ rests. refl)))
+    (λ w owes same. same) (λ w same. same)
+
+pub since_stays : (v : View) (e : Event) → is_closed (after_event v e).state ≡ false → Acknowledges v e (after_event v e)
+since_stays v e =
+    by_event (λ e w. is_closed w.state ≡ false → Acknowledges v e w) v (record {
+      same = λ e lives. inl refl;
+      asks = λ e asked lives. inl refl;
+      silent = λ now lives. inl refl;
+      heard = λ s now goes lives. heard_acknowledges v s now lives;
+      over = λ now ends lives. cc;
+      given_up = λ now waits expired lives. cc;
+      acts = λ now lives. inl (acts_since v now);
+      emits = λ now lives. inl (first_left v (first_due v) now).5;
+      sends = λ octets taken now takes lives. inl refl;
+      reads = λ len lives. inl refl;
+      shuts = λ now lives. inl refl;
+      delays = λ on now lives. inl refl;
+      leaves = λ now goes lives. inl refl;
+      aborts = λ e now at cause goes lives. cc;
+      refused = λ number hit lives. cc;
+      hopless = λ now gone lives. cc;
     }) e

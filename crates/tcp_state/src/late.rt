@@ -10,6 +10,7 @@ ghost use Rattle.tcp_segment.specs.declared.blocks.Block.{Block};
 ghost use Rattle.tcp_segment.specs.Segment.{Segment, blocks_of};
 ghost use Rattle.tcp_segment.specs.Wire.{past};
 ghost use Rattle.tcp_halves.specs.Numbers.{is_before};
+ghost use Rattle.tcp_halves.specs.Stream.{is_new_ack};
 ghost use Rattle.tcp_state.specs.View.{View, IsSound, is_opening, is_closed};
 ghost use Rattle.tcp_state.specs.Timing.{probes};
 ghost use Rattle.tcp_state.specs.Congestion.{after_signal};
@@ -45,6 +46,14 @@ pub fn what_came_twice_was_needless()
     ensures older { (v : View) (s : Segment) (block : Block) (rest : List Block) → blocks_of s ≡ block ∷ rest → is_before v.sending.una block.right.0 ≡ false → v.resend.since_loss ≤ past v.sending.una block.right.0 → tells_needless v s ≡ false }
     ensures unasked { (v : View) (s : Segment) → selects v ≡ false → tells_needless v s ≡ false }
     ensures probed { (v : View) (s : Segment) → 0 < v.resend.tail → tells_needless v s ≡ false }
+{}
+
+/// What is acknowledged since a segment last counted as lost is counted, as far as 32 bits go: so it is known which octets stood at SND.UNA then, or past that. Nothing else moves the count but a loss.
+pub fn what_was_acknowledged_since_a_loss_is_known()
+    ensures acknowledged { (v : View) (s : Segment) (now : Moment) → is_opening v.state ≡ false → reports_loss v s ≡ false → (after_event v (Event.Hears s now)).sending.una ≢ v.sending.una → is_closed (after_event v (Event.Hears s now)).state ≡ false
+        → let w = after_event v (Event.Hears s now) in w.resend.since_loss ≡ min (2 ^ 32 - 1) (v.resend.since_loss + past w.sending.una v.sending.una) }
+    ensures others { (v : View) (e : Event) → is_closed (after_event v e).state ≡ false → ((after_event v e).resend.since_loss ≡ v.resend.since_loss)
+        ⊎ ((s : Segment) × (now : Moment) × (e ≡ Event.Hears s now) × ((is_new_ack v.sending s.acknowledgement ≡ true) ⊎ (((is_counted_duplicate v s ≡ true) × (third_is_next v.congestion ≡ true)) ⊎ (reports_loss v s ≡ true)))) }
 {}
 
 /// Where as many segments came twice as went out again since one last counted as lost, none was: the congestion window gets back what that took, at the segment that tells it (RFC 3708 section 3). One segment counts at most, and where fewer
