@@ -165,10 +165,12 @@ struct host_route {
  *
  *     const struct host_config config = {.size = sizeof config, .addr = HOST_ADDR(10, 0, 0, 1), .mac = {2, 0, 0, 0, 0, 1}};
  *
- * Of the three members behind `recovery` 0 is the usual, and another number that is out of its range counts as the nearest in it. A host that meets a
- * real network wants
+ * On its guard a host drops what comes from the address of a network on its link, or of all its hosts, and ARP packets of such an address, of a
+ * group's MAC and of its own; it takes no octets with an acknowledgement older than the largest window of the peer is wide, answers at most ten segments
+ * a second of a connection that it doesn't use (RFC 5961), and a SYN that comes again by the SYN-ACK again. Of the three members behind `recovery` 0 is
+ * the usual, and another number that is out of its range counts as the nearest in it. A host that meets a real network wants
  *
- *     .recovery = HOST_RECOVERY_SELECTIVE, .first_segments = 10, .least_timeout = 200, .first_threshold = 1 << 30
+ *     .recovery = HOST_RECOVERY_SELECTIVE, .first_segments = 10, .least_timeout = 200, .first_threshold = 1 << 30, .guards = 1
  *
  * A later header may have more members behind these. By its size a program of today is understood by a later library, and a later program by this one
  * where it leaves them 0. */
@@ -184,7 +186,8 @@ struct host_config {
     uint8_t first_segments;          /* the first congestion window in segments, 1 to 10 (RFC 6928); 0: two to four, by their size (RFC 5681 section 3.1) */
     uint16_t least_timeout;          /* the least retransmission timeout in milliseconds, 200 to 1,000; 0: 1,000 (RFC 6298 section 2.4) */
     uint32_t first_threshold;        /* the first slow start threshold in octets, 65,535 to 1,073,741,824; 0: 65,535 (RFC 5681 section 3.1) */
-    uint8_t zero[4];                 /* 0 */
+    uint8_t guards;                  /* 1: on its guard against what isn't right (RFC 5961, RFC 1122 section 3.2.1.3) */
+    uint8_t zero[3];                 /* 0 */
 };
 
 /* A connection as it stands. `size` is sizeof (struct host_info); all others are the library's to write. Lengths are octets; of a timer or a
@@ -255,7 +258,8 @@ typedef char host_info_has_its_form[sizeof(struct host_info) == 23 * 8 && offset
 typedef char host_config_has_its_form[sizeof(struct host_config) == 48 && offsetof(struct host_config, addr) == 24 &&
                                               offsetof(struct host_config, no_window_scale) == 34 && offsetof(struct host_config, minshall) == 35 &&
                                               offsetof(struct host_config, recovery) == 36 && offsetof(struct host_config, first_segments) == 37 &&
-                                              offsetof(struct host_config, least_timeout) == 38 && offsetof(struct host_config, first_threshold) == 40
+                                              offsetof(struct host_config, least_timeout) == 38 && offsetof(struct host_config, first_threshold) == 40 &&
+                                              offsetof(struct host_config, guards) == 44
                                           ? 1
                                           : -1];
 
@@ -275,7 +279,7 @@ int64_t host_new_from(struct host *host, const uint8_t *config, size_t size, con
 
 /* Makes a host as host_new does, by a config. host_new makes one whose options are 0.
  *
- * HOST_EINVAL, also where the config's size is less than 40, its no_window_scale or its minshall is over 1, its recovery over 2, or an octet behind
+ * HOST_EINVAL, also where the config's size is less than 40, its no_window_scale, minshall or guards is over 1, its recovery over 2, or an octet behind
  * the members that are named, up to its size, isn't 0. A program of a header before this one passes 40 octets: what those lack is 0. HOST_ENOMEM. */
 static inline int64_t host_new_with(struct host *host, const struct host_config *config)
 {

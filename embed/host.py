@@ -178,7 +178,8 @@ class _Config(ctypes.Structure):
         ("first_segments", ctypes.c_uint8),
         ("least_timeout", ctypes.c_uint16),
         ("first_threshold", ctypes.c_uint32),
-        ("zero", ctypes.c_uint8 * 4),
+        ("guards", ctypes.c_uint8),
+        ("zero", ctypes.c_uint8 * 3),
     ]
 
 
@@ -305,8 +306,11 @@ class Host:
     `recovery` says how losses are repaired. `first_segments` are those of the first congestion window, 1 to 10 (RFC 6928), else two to four;
     `least_timeout` is the least retransmission timeout, 200 to 1,000 milliseconds (RFC 6298 section 2.4), else 1,000; `first_threshold` is the first
     slow start threshold, 65,535 to 1,073,741,824 octets (RFC 5681 section 3.1), else 65,535. Of these 0 is the usual, and another number that is
-    out of its range counts as the nearest in it. A host that meets a real network wants `recovery=Recovery.SELECTIVE,
-    first_segments=10, least_timeout=200, first_threshold=1 << 30`.
+    out of its range counts as the nearest in it. With `guards` the host is on its guard: it drops what comes from the address of a network on its link,
+    or of all its hosts, and ARP packets of such an address, of a group's MAC and of its own (RFC 1122 section 3.2.1.3); it takes no octets with an
+    acknowledgement older than the largest window of the peer is wide, answers at most ten segments a second of a connection that it doesn't use
+    (RFC 5961), and a SYN that comes again by the SYN-ACK again. A host that meets a real network wants `recovery=Recovery.SELECTIVE, first_segments=10,
+    least_timeout=200, first_threshold=1 << 30, guards=True`.
 
     A host is freed by `free`, at the end of a `with`, or when nothing names it any more.
     """
@@ -322,6 +326,7 @@ class Host:
         first_segments: int = 0,
         least_timeout: int = 0,
         first_threshold: int = 0,
+        guards: bool = False,
     ) -> None:
         self._handle = _Handle()
         # What is read stands here first: it is made once, and once more for a call that asks for more octets than any before.
@@ -340,6 +345,7 @@ class Host:
         config.first_segments = _number(first_segments, 8, "first_segments")
         config.least_timeout = _number(least_timeout, 16, "least_timeout")
         config.first_threshold = _number(first_threshold, 32, "first_threshold")
+        config.guards = guards
         self._call("host_new_from", bytes(config), config.size, rows, len(routes))
 
     def _call(self, name: str, *arguments: Any) -> int:

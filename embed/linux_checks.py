@@ -22,6 +22,7 @@ import termios
 import threading
 import time
 
+import linux_guards
 import linux_pair
 from host import Host, Kind, Ready, State
 
@@ -183,21 +184,13 @@ def linux_with(name, value):
 # ---- Frames that this program makes
 
 
-def ones_sum(octets):
-    """The checksum of RFC 1071 over an even number of octets."""
-    total = sum(struct.unpack(f">{len(octets) // 2}H", octets))
-    while total >> 16:
-        total = (total & 0xFFFF) + (total >> 16)
-    return ~total & 0xFFFF
-
-
 def syn_frame(source, port, to_port):
     """A SYN from this address, whoever has it, to the host's port."""
     ends = socket.inet_aton(source) + socket.inet_aton(OURS)
     ip = struct.pack(">BBHHHBBH", 0x45, 0, 40, 0, 0, 64, 6, 0) + ends
-    ip = ip[:10] + struct.pack(">H", ones_sum(ip)) + ip[12:]
+    ip = ip[:10] + struct.pack(">H", linux_guards.ones_sum(ip)) + ip[12:]
     tcp = struct.pack(">HHIIBBHHH", port, to_port, 1000, 0, 0x50, 2, 65535, 0, 0)
-    tcp = tcp[:16] + struct.pack(">H", ones_sum(ends + struct.pack(">HH", 6, 20) + tcp)) + tcp[18:]
+    tcp = tcp[:16] + struct.pack(">H", linux_guards.ones_sum(ends + struct.pack(">HH", 6, 20) + tcp)) + tcp[18:]
     return MAC + bytes.fromhex(read_about_device("address").replace(":", "")) + b"\x08\x00" + ip + tcp
 
 
@@ -215,14 +208,14 @@ def segment_in(frame, port):
 class OwnHost:
     """A host on the device in this process, in a `with`: its clock begins at 0, and `run` lets it go on. Each frame takes `late` seconds, either way."""
 
-    def __init__(self, late=0.0):
-        self.late, self.going, self.coming = late, collections.deque(), collections.deque()
+    def __init__(self, late=0.0, guards=True):
+        self.late, self.guards, self.going, self.coming = late, guards, collections.deque(), collections.deque()
 
     def __enter__(self):
         self.device = os.open("/dev/net/tun", os.O_RDWR | os.O_NONBLOCK)
         fcntl.ioctl(self.device, 0x400454CA, struct.pack("16sH", device.encode(), 0x1002))  # TUNSETIFF; IFF_TAP, IFF_NO_PI
         await_carrier()
-        self.host, self.began = Host(MAC, OURS, {"10.0.0.0/24": None}), time.monotonic()
+        self.host, self.began = Host(MAC, OURS, {"10.0.0.0/24": None}, guards=self.guards), time.monotonic()
         return self
 
     def __exit__(self, *_):
@@ -636,6 +629,44 @@ def silent_peer():
     return f"asked after {after} s, and answered; cut off, ETIMEDOUT after {probes} probes in {(now - began) / 1000:.0f} s"
 
 
+def read_among_forged(data, guards):
+    """What is read of octets that Linux sends, where before each segment of its own a forged one comes, with other octets and an acknowledgement
+    that is 10^9 older."""
+    with listener() as server, OwnHost(guards=guards) as own:
+        id, connection = own.connected_to(server)
+        port, came = server.getsockname()[1], bytearray()
+
+        def hear(frame):
+            found = segment_in(frame, port)
+            if found and found[2]:
+                own.deliver(linux_guards.forged(frame))
+            own.deliver(frame)
+            came.extend(own.host.recv(id, own.host.recv_len(id)))
+
+        with connection:
+            sender = threading.Thread(target=connection.sendall, args=(data,))
+            sender.start()
+            for _ in own.run(until=lambda: len(came) == len(data), hear=hear):
+                pass
+            sender.join()
+    return bytes(came)
+
+
+def forged_octets():
+    data = octets(MEGABYTE)
+    want(read_among_forged(data, guards=True) == data, "forged octets are read")
+    want(read_among_forged(data, guards=False) != data, "the forged segments would do no harm to a host that isn't on guard")
+    return "equal; a host that isn't on guard reads forged octets"
+
+
+def out_of_step():
+    first, whole, until = linux_guards.out_of_step(guards=True)
+    want(first <= 30, f"they exchange {first} frames at one moment")
+    without, _, _ = linux_guards.out_of_step(guards=False)
+    want(without == linux_guards.MOST_FRAMES, f"without guards they fall silent after {without} frames")
+    return f"{first} frames at one moment, {whole} in {until / 1000:.0f} s, then none; without guards no end"
+
+
 def linux_refuses():
     done = subprocess.run(command("--connect", LINUX, 9999), stdin=subprocess.DEVNULL, capture_output=True, timeout=10)
     status = (done.returncode, done.stderr.decode().strip())
@@ -978,6 +1009,8 @@ CHECKS = [
     ("TCP: a peer that falls silent is found by keep-alive", silent_peer, (), ""),
     ("TCP: a flood of openings from silent addresses", flood_of_openings, (), ""),
     ("TCP: four openings a second", bounded_openings, (), ""),
+    ("TCP: forged segments with an old acknowledgement, 1 MB to the host", forged_octets, (), ""),
+    ("TCP: two hosts that are out of step", out_of_step, (), ""),
     ("TCP: 60 connections at once, by readiness alone", by_readiness, (60, 20000), ""),
     ("what --stats prints", statistics, (), ""),
     ("1 MB to the host", to_host, (MEGABYTE,), ""),

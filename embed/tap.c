@@ -103,6 +103,7 @@ static bool open_host(struct tap *tap)
     struct host_config config = {.size = sizeof config, .routes = routes, .count = options->gateway == 0 ? 1 : 2, .addr = options->addr};
     memcpy(config.mac, options->mac, sizeof config.mac);
     config.no_window_scale = options->no_scale;
+    config.guards = 1;
     if (options->recovery != HOST_RECOVERY_PLAIN) {
         config.recovery = options->recovery;
         config.first_segments = 10;

@@ -294,7 +294,7 @@ static int both_made(void)
 {
     const struct host_route link = {HOST_ADDR(10, 0, 0, 0), 0, 24};
     struct host_config config = {.size = sizeof config, .routes = &link, .count = 1, .no_window_scale = 1, .recovery = HOST_RECOVERY_SELECTIVE,
-                                 .first_segments = 10, .least_timeout = 200, .first_threshold = UINT32_C(1) << 30};
+                                 .first_segments = 10, .least_timeout = 200, .first_threshold = UINT32_C(1) << 30, .guards = 1};
     const uint8_t mac[6] = {2, 0, 0, 0, 0, 1};
 
     memcpy(config.mac, mac, sizeof mac);

@@ -286,7 +286,8 @@ static bool make_host(const struct wire *wire, const struct lease *lease, struct
     const struct host_route routes[2] = {{lease->addr & lease->mask, 0, (uint8_t)length_of(lease->mask)}, {0, lease->router, 0}};
     const struct host_config config = {.size = sizeof config, .routes = routes, .count = lease->router == 0 ? 1 : 2, .addr = lease->addr,
                                        .mac = {wire->mac[0], wire->mac[1], wire->mac[2], wire->mac[3], wire->mac[4], wire->mac[5]},
-                                       .recovery = HOST_RECOVERY_SELECTIVE, .first_segments = 10, .least_timeout = 200, .first_threshold = 1 << 30};
+                                       .recovery = HOST_RECOVERY_SELECTIVE, .first_segments = 10, .least_timeout = 200, .first_threshold = 1 << 30,
+                                       .guards = 1};
 
     return host_new_with(host, &config) == 0;
 }

@@ -235,9 +235,12 @@ static void configs(struct host_config config)
     config.recovery = 3;
     CHECK(host_new_with(&b, &config) == HOST_EINVAL);
     config.recovery = 0;
-    config.zero[3] = 1;
+    config.guards = 2;
     CHECK(host_new_with(&b, &config) == HOST_EINVAL);
-    config.zero[3] = 0;
+    config.guards = 0;
+    config.zero[2] = 1;
+    CHECK(host_new_with(&b, &config) == HOST_EINVAL);
+    config.zero[2] = 0;
     config.size = 39;
     CHECK(host_new_with(&b, &config) == HOST_EINVAL);
     CHECK(host_new_from(&b, (const uint8_t *)&config, sizeof config, config.routes, config.count) == HOST_EINVAL);
@@ -266,6 +269,7 @@ static void repair_losses(struct host_config *config, uint8_t recovery)
     config->first_segments = 10;
     config->least_timeout = 200;
     config->first_threshold = UINT32_C(1) << 30;
+    config->guards = 1;
 }
 
 int main(void)

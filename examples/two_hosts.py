@@ -15,7 +15,7 @@ secret = dice.getrandbits(8 * SECRET_SIZE).to_bytes(SECRET_SIZE, "little")  # a 
 
 
 def real_host(mac: str, addr: str) -> Host:  # as docs/EMBEDDING.md recommends it where frames are lost
-    return Host(mac, addr, link, recovery=Recovery.SELECTIVE, first_segments=10, least_timeout=200, first_threshold=1 << 30)
+    return Host(mac, addr, link, recovery=Recovery.SELECTIVE, first_segments=10, least_timeout=200, first_threshold=1 << 30, guards=True)
 
 
 with real_host("02:00:00:00:00:01", "10.0.0.1") as a, real_host("02:00:00:00:00:02", "10.0.0.2") as b:

@@ -53,8 +53,10 @@ use Rattle.udp_socket.specs.SocketView.{SocketView}
 use Rattle.host.specs.Arrival.{IsDelivered, MeetsHeard, MeetsSegment, segment_arrival}
 use Rattle.host.specs.Carried.{Carried, carried, carried_by, carried_for, carried_reply, due_segment}
 use Rattle.host.specs.Emission.{Emission, Replies, Sends, Asks, Nothing, emission, emission_at, emission_by, emission_octets, emitted_frame, goes_out_from, octets_of, table_emission}
+use Rattle.host.specs.Heard.{shuts_out}
 use Rattle.host.specs.HostView.{HostView}
 use Rattle.host.specs.Sound.{IsSoundHost}
+use Rattle.host.proofs.Guarded.{takes_in}
 use Rattle.host.proofs.DueSegments.{due-can, due-fits}
 use Rattle.host.proofs.Emitting.{none_from, table_from}
 use Rattle.host.proofs.FirstPlace.{part-waits}
@@ -325,11 +327,11 @@ carried-heard h now c sound ordered is other =
     goes-heard h.interface (emission_octets h now) c own.mac may (subst (Carry h.interface (emission_octets h now)) is (carries h moment sound ordered (emission h moment) refl))
 
 pub carried-met : (h g : HostView) (now then : Moment) (isn : ℕ) (c : Carried) (answer : Result (Unit {0}) DropCause) (new : HostView) → IsSoundHost h → IsOrdered h.sockets
-    → carried h now ≡ Some c → h.interface.addr ≢ c.to → g.interface.mac ≡ c.mac → g.interface.addr ≡ c.to → IsDelivered g then isn (emission_octets h now) answer new
+    → carried h now ≡ Some c → h.interface.addr ≢ c.to → g.interface.mac ≡ c.mac → g.interface.addr ≡ c.to → shuts_out g h.interface.addr ≡ false → IsDelivered g then isn (emission_octets h now) answer new
     → let moment = later_moment g.sockets then in MeetsSegment (segment_arrival g moment isn h.interface.addr c.segment) g moment h.interface.addr answer new
-carried-met h g now then isn c answer new sound ordered is other for at delivered =
+carried-met h g now then isn c answer new sound ordered is other for at lets delivered =
     let heard_is = ap (λ (m : Mac). heard m g.interface.addr (emission_octets h now)) for ∙ ap (λ (a : Addr). heard c.mac a (emission_octets h now)) at ∙ carried-heard h now c sound ordered is other in
-    subst (λ (m : Result Meaning DropCause). MeetsHeard m g (later_moment g.sockets then) isn answer new) heard_is delivered
+    subst (λ (m : Result Meaning DropCause). MeetsHeard m g (later_moment g.sockets then) isn answer new) (takes_in g (emission_octets h now) (record { source = h.interface.addr; segment = c.segment }) lets heard_is) delivered
 
 pub carried-hearer : (h : HostView) (now : Moment) (mac : Mac) (ours : Addr) (received : ReceivedSegment) → IsSoundHost h → IsOrdered h.sockets → heard mac ours (emission_octets h now) ≡ Ok (Tcp received)
     → (c : Carried) × (carried h now ≡ Some c) × (ours ≡ c.to) × (received ≡ record { source = h.interface.addr; segment = c.segment })

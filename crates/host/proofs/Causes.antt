@@ -45,7 +45,9 @@ use Rattle.sockets.specs.Unreachable.{after_unreachable}
 use Rattle.udp.specs.declared.fault.UdpFault.{UdpFault}
 use Rattle.udp.specs.Datagram.{UserDatagram}
 use Rattle.udp.specs.Reading.{datagram_or_fault}
-use Rattle.host.specs.Arrival.{MeetsFragment, MeetsHeard, MeetsMessage, MeetsSegment, after_outcome, after_payload, after_user_datagram, heard_by, segment_arrival}
+use Rattle.host.specs.Arrival.{MeetsFragment, MeetsHeard, MeetsMessage, MeetsSegment, after_outcome, after_payload, after_user_datagram, segment_arrival}
+use Rattle.host.specs.Heard.{heard_by}
+use Rattle.host.proofs.Guarded.{meant_by}
 use Rattle.host.specs.Causes.{IsAbout, Untaken, Unbound, UnboundInFragments, Late}
 use Rattle.host.specs.ConfigView.{ConfigView}
 use Rattle.host.specs.Emission.{Emission, Replies, Sends, Asks as AsksFor, Nothing as NothingGoes, after_emission, emission, left_by}
@@ -364,10 +366,10 @@ stands-on c before (Ticks now) old new stands makes =
 stands-on c before (Delivers now isn octets) old new stands makes =
     let all = before ++ Delivers now isn octets ∷ [] in
     let own = stands.interface in
-    let same : heard c.mac c.addr octets ≡ heard_by old octets =
+    let same : heard c.mac c.addr octets ≡ heard old.interface.mac old.interface.addr octets =
     ap (λ (mac : Mac). heard mac c.addr octets) (sym own.mac) ∙ ap (λ (addr : Addr). heard old.interface.mac addr octets) (sym own.addr) in
     stands-heard c all old (later_moment old.sockets now) isn makes.0 new (host-more c before (Delivers now isn octets) old stands) (heard_by old octets)
-    (λ meaning is. heard-last c before now isn octets meaning (same ∙ is)) makes.1
+    (λ meaning is. heard-last c before now isn octets meaning (same ∙ meant_by old octets meaning is)) makes.1
 stands-on c before (Emits now) old new stands makes =
     let all = before ++ Emits now ∷ [] in
     let more = host-more c before (Emits now) old stands in

@@ -1,5 +1,5 @@
 -- A frame that is dropped for another cause than lack of room changes nothing, and for lack of room only what is known of the sender of a request for our address.
-use Rattle.std.proofs.Common.{◌≡◌, ◌≢◌, ◌⊎◌, inl, inr, ℕ, ◌&&◌, not, Bool, true, false, cond, List, length, Option, Some, None, Result, Ok, Err, refl, ◌∙◌, ap, arith}
+use Rattle.std.proofs.Common.{◌≡◌, ◌≢◌, ◌⊎◌, inl, inr, ℕ, ◌&&◌, not, Bool, true, false, cond, List, length, Option, Some, None, Result, Ok, Err, refl, sym, ◌∙◌, ap, subst, arith}
 use Rattle.std.proofs.lemmas.Bool.{and_parts, eqb-true}
 use Rattle.ipv4.specs.declared.addr.Addr.{Addr}
 use Rattle.ipv4.specs.Addresses.{same_addr}
@@ -32,7 +32,8 @@ use Rattle.sockets.specs.declared.datagrams.Reception.{Reception}
 use Rattle.sockets.specs.declared.datagrams.Reception.TheVariants as socket
 use Rattle.sockets.specs.Datagrams.{reception}
 use Rattle.sockets.specs.SocketsView.{later_moment}
-use Rattle.host.specs.Arrival.{IsDelivered, MeetsFragment, MeetsHeard, MeetsMessage, MeetsSegment, MeetsUserDatagram, fragment_outcome, heard_by, queue_answer, segment_arrival}
+use Rattle.host.specs.Arrival.{IsDelivered, MeetsFragment, MeetsHeard, MeetsMessage, MeetsSegment, MeetsUserDatagram, fragment_outcome, queue_answer, segment_arrival}
+use Rattle.host.specs.Heard.{heard_by}
 use Rattle.host.specs.HostView.{HostView, with_interface}
 use Rattle.host.specs.Messages.{Told, Asks, Refuses, Nothing, told_by}
 use Rattle.host.specs.Met.{IsLearntInVain}
@@ -140,3 +141,13 @@ learnt-alone h now isn octets cause new delivered = by_meaning (heard_by h octet
     by_meaning (Ok (Udp r)) heard is = inl (user-dropped (reception h.sockets r.datagram) h moment r cause new is)
     by_meaning (Ok (UdpFragment d)) heard is = inl (of_fragment (fragment_outcome moment d h.pool) h moment d cause new is)
     by_meaning (Err first) heard is = inl is.1
+
+-- .. so at most what is known of the neighbours changes
+pub cache-alone : (h : HostView) (now : Moment) (isn : ℕ) (octets : List ℕ) (cause : DropCause) (new : HostView) → IsDelivered h now isn octets (Err cause) new
+    → new ≡ with_interface h (record h.interface { cache = (let after = new.interface in after.cache) })
+cache-alone h now isn octets cause new delivered =
+    let Alone : HostView → Type 0 = λ w. w ≡ with_interface h (record h.interface { cache = (let after = w.interface in after.cache) }) in
+    elim (learnt-alone h now isn octets cause new delivered) [
+      | inl same ↦ subst Alone (sym same) refl
+      | inr vain ↦ subst Alone (sym vain.learns) refl
+    ]

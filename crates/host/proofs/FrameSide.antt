@@ -45,7 +45,8 @@ use Rattle.sockets.specs.Arrival.{Arrival, Becomes, Opens, NoRoom as NoRoomInTab
 use Rattle.sockets.specs.Causes.{after_event}
 use Rattle.sockets.specs.Datagrams.{reception}
 use Rattle.sockets.specs.SocketsView.{later_moment}
-use Rattle.host.specs.Arrival.{MeetsFragment, MeetsHeard, MeetsMessage, MeetsSegment, after_outcome, after_payload, after_user_datagram, fragment_outcome, heard_by, segment_arrival}
+use Rattle.host.specs.Arrival.{MeetsFragment, MeetsHeard, MeetsMessage, MeetsSegment, after_outcome, after_payload, after_user_datagram, fragment_outcome, segment_arrival}
+use Rattle.host.specs.Heard.{heard_by}
 use Rattle.host.specs.ComesUp.{is_on_route}
 use Rattle.host.specs.ConfigView.{ConfigView}
 use Rattle.host.specs.Emission.{Emission, Replies, Sends, Asks as AsksFor, Nothing as NothingGoes, emission, left_by}

@@ -26,7 +26,10 @@ use Rattle.sockets.specs.SocketsView.{later_moment}
 use Rattle.sockets.proofs.Needed.{need_foreseen}
 use Rattle.host.specs.declared.lack.Lack.{Lack}
 use Rattle.host.specs.declared.lack.Lack.TheVariants.{Backlog, Table, Memory, Replies, Queue, Reassembly, Route}
-use Rattle.host.specs.Arrival.{IsDelivered, MeetsFragment, MeetsHeard, MeetsMessage, MeetsSegment, MeetsUserDatagram, arrival_by_route, fragment_outcome, heard_by, queue_answer}
+use Rattle.host.specs.Arrival.{IsDelivered, MeetsFragment, MeetsHeard, MeetsMessage, MeetsSegment, MeetsUserDatagram, arrival_by_route, fragment_outcome, queue_answer}
+use Rattle.host.specs.Heard.{heard_by}
+use Rattle.frames.specs.Meaning as frame
+use Rattle.host.proofs.Guarded.{drops_so}
 use Rattle.host.specs.HostView.{HostView}
 use Rattle.host.specs.Lack.{lack, lack_by_message, lack_by_need, lack_by_reception, lack_of, lack_of_answer, lack_of_reply}
 use Rattle.host.specs.Messages.{Told, Asks, Refuses, Nothing, told_by}
@@ -141,7 +144,7 @@ reason h now isn octets new delivered = by_meaning (heard_by h octets) refl deli
     by_meaning (Ok (Udp r)) heard is = user-lacks (reception h.sockets r.datagram) h moment r new is
     by_meaning (Ok (UdpFragment d)) heard is = fragment-lacks h moment d new is
     by_meaning (Ok (Other d)) heard is = reply-lacks (is_routed h.interface d.source) h.interface is.0
-    by_meaning (Err cause) heard is = absurd (want_unheard h.interface.mac h.interface.addr octets (heard ∙ ap heard_so (same_cause cause is.0)))
+    by_meaning (Err cause) heard is = absurd (want_unheard h.interface.mac h.interface.addr octets (drops_so h.sockets.manner.guards h.interface (frame.heard h.interface.mac h.interface.addr octets) NoRoom (λ other. cc) (heard ∙ ap heard_so (same_cause cause is.0))))
 
 pub always_dropped : (h : HostView) (now : Moment) (isn : ℕ) (octets : List ℕ) (answer : Result (Unit {0}) DropCause) (new : HostView) (what : Lack) → IsDelivered h now isn octets answer new
     → lack h octets ≡ Some what → what ≢ Memory → answer ≡ Err NoRoom

@@ -2,6 +2,7 @@ pub mod Emitting
 pub mod Answered
 pub mod DueSegments
 pub mod Hearing
+pub mod Guarded
 pub mod Carriage
 pub mod Dropped
 pub mod NoWantHeard

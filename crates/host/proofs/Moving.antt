@@ -46,7 +46,8 @@ use Rattle.sockets.proofs.Followed.{as_it_was, by_test, joined_by, settled_follo
 use Rattle.sockets.proofs.Steps.{called}
 use Rattle.sockets.proofs.Told.{told-found, told-none}
 use Rattle.sockets.proofs.Traffic.{no_stream_moves}
-use Rattle.host.specs.Arrival.{IsDelivered, MeetsFragment, MeetsHeard, MeetsMessage, MeetsSegment, after_outcome, after_payload, after_user_datagram, arrival_by_route, fragment_outcome, heard_by, segment_arrival}
+use Rattle.host.specs.Arrival.{IsDelivered, MeetsFragment, MeetsHeard, MeetsMessage, MeetsSegment, after_outcome, after_payload, after_user_datagram, arrival_by_route, fragment_outcome, segment_arrival}
+use Rattle.host.specs.Heard.{heard_by}
 use Rattle.host.specs.Duties.{IsHardError}
 use Rattle.host.specs.HostView.{HostView, with_pool, with_sockets}
 use Rattle.host.specs.Messages.{Told, Asks, Refuses, Nothing, error_of_quote, is_echo_request, is_hard, of_segment, refused_quote, told_by}

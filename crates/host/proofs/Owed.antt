@@ -63,7 +63,8 @@ use Rattle.tcp_state.specs.Unreachable.{IsRefused, is_unreachable, after_unreach
 use Rattle.tcp_state.specs.View.{View, IsSound, after_reset}
 use Rattle.tcp_state.proofs.Unreachable.{opening_ends}
 use Rattle.udp_socket.specs.SocketView.{SocketView, with_received}
-use Rattle.host.specs.Arrival.{IsDelivered, MeetsFragment, MeetsHeard, MeetsMessage, after_payload, after_user_datagram, fragment_outcome, heard_by, queue_answer, user_datagram_answer}
+use Rattle.host.specs.Arrival.{IsDelivered, MeetsFragment, MeetsHeard, MeetsMessage, after_payload, after_user_datagram, fragment_outcome, queue_answer, user_datagram_answer}
+use Rattle.host.specs.Heard.{heard_by}
 use Rattle.host.specs.Duties.{HasBehindOthers, IsHardError, IsToldByEachCall}
 use Rattle.host.specs.HostView.{HostView, with_pool, with_sockets}
 use Rattle.host.specs.Messages.{Told, Asks, Refuses, Nothing, error_of_quote, is_echo_request, is_hard, of_segment, refused_quote, told_by}

@@ -33,7 +33,8 @@ use Rattle.interface.specs.Replies.{is_full, learnt, owed, owed_answer, queued}
 use Rattle.interface.specs.Ways.{is_routed}
 use Rattle.sockets.specs.Arrival.{Arrival, Becomes, Opens, NoRoom as NoRoomInTable, Answers}
 use Rattle.sockets.specs.SocketsView.{later_moment}
-use Rattle.host.specs.Arrival.{IsDelivered, MeetsHeard, MeetsMessage, MeetsSegment, heard_by, queue_answer, segment_arrival}
+use Rattle.host.specs.Arrival.{IsDelivered, MeetsHeard, MeetsMessage, MeetsSegment, queue_answer, segment_arrival}
+use Rattle.host.specs.Heard.{heard_by}
 use Rattle.host.specs.Causes.{IsAbout, Untaken, Unbound, UnboundInFragments, Late}
 use Rattle.host.specs.ConfigView.{IsOfOne}
 use Rattle.host.specs.HostView.{HostView, with_interface}

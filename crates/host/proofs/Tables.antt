@@ -51,7 +51,9 @@ use Rattle.sockets.proofs.SoundTicks.{tick_sound}
 use Rattle.sockets.proofs.Steps.{later_up_to}
 use Rattle.sockets.proofs.Telling.{tells_on, socket_told, role_tells}
 use Rattle.sockets.proofs.Timed.{each_timed, fresh_timed}
-use Rattle.host.specs.Arrival.{arrival_by_route, segment_arrival, MeetsSegment, MeetsMessage, MeetsFragment, MeetsHeard, after_user_datagram, after_payload, after_outcome, fragment_outcome, heard_by}
+use Rattle.host.specs.Arrival.{arrival_by_route, segment_arrival, MeetsSegment, MeetsMessage, MeetsFragment, MeetsHeard, after_user_datagram, after_payload, after_outcome, fragment_outcome}
+use Rattle.host.specs.Heard.{heard_by}
+use Rattle.host.proofs.Guarded.{meant_by}
 use Rattle.host.specs.ConfigView.{ConfigView}
 use Rattle.host.specs.Emission.{Emission, Replies, Sends, Asks, Nothing, left_by, emission, goes_out_from}
 use Rattle.host.specs.HostView.{HostView, with_pool, with_sockets}
@@ -141,8 +143,9 @@ heard-leads : (h : HostView) (moment : Moment) (isn : ℕ) (octets : List ℕ) (
     → MeetsHeard m h moment isn answer new → IsOwnStep h.sockets moment new.sockets
 heard-leads h moment isn octets answer new small own (Ok (Arp packet)) is met = step-to h _ new met.1 stays
 heard-leads h moment isn octets answer new small own (Ok (Tcp r)) is met =
-    let other : may_send h.sockets.addr r.source ≡ true = subst (λ (a : Addr). may_send a r.source ≡ true) own (from_others h.interface.mac h.interface.addr octets r is) in
-    segment-leads h moment isn r.source r.segment answer new small (segments_fit h.interface.mac h.interface.addr octets r is) (another h.sockets.addr r.source other) met
+    let says = meant_by h octets (Tcp r) is in
+    let other : may_send h.sockets.addr r.source ≡ true = subst (λ (a : Addr). may_send a r.source ≡ true) own (from_others h.interface.mac h.interface.addr octets r says) in
+    segment-leads h moment isn r.source r.segment answer new small (segments_fit h.interface.mac h.interface.addr octets r says) (another h.sockets.addr r.source other) met
 heard-leads h moment isn octets answer new small own (Ok (Icmp c)) is met = message-leads h (told_by c.message) moment c answer new met
 heard-leads h moment isn octets answer new small own (Ok (Udp r)) is met = step-to h _ new met.1 (user-leads h (reception h.sockets r.datagram) moment r.carrier.source r.datagram _)
 heard-leads h moment isn octets answer new small own (Ok (UdpFragment d)) is met = fragment-leads h (fragment_outcome moment d h.pool) moment d answer new met
@@ -257,9 +260,12 @@ pub run-addr : (c : ConfigView) (events : List Event) (h : HostView) → Runs c 
 run-addr c _ _ Begins = refl
 run-addr c _ _ (GoesOn before event old new ran sound small makes) = addr-on old.sockets new.sockets (event-leads event old new sound small makes) ∙ run-addr c before old ran
 
+pub manner-kept : (event : Event) (old new : HostView) → IsSoundHost old → IsNumbered event → Makes event old new → new.sockets.manner ≡ old.sockets.manner
+manner-kept event old new sound small makes = manner-on old.sockets new.sockets (event-leads event old new sound small makes)
+
 pub run-manner : (c : ConfigView) (events : List Event) (h : HostView) → Runs c events h → h.sockets.manner ≡ c.manner
 run-manner c _ _ Begins = refl
-run-manner c _ _ (GoesOn before event old new ran sound small makes) = manner-on old.sockets new.sockets (event-leads event old new sound small makes) ∙ run-manner c before old ran
+run-manner c _ _ (GoesOn before event old new ran sound small makes) = manner-kept event old new sound small makes ∙ run-manner c before old ran
 
 pub run-reached : (c : ConfigView) (events : List Event) (h : HostView) → Runs c events h → IsReached h.sockets
 run-reached c _ _ Begins = reached_by c.addr c.manner (new_sockets c.addr c.manner) (led_nowhere (new_sockets c.addr c.manner))

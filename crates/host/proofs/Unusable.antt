@@ -16,7 +16,8 @@ use Rattle.sockets.specs.declared.datagrams.Reception.TheVariants.{NoSocket}
 use Rattle.sockets.specs.Datagrams.{reception}
 use Rattle.sockets.specs.Entries.{is_datagrams_at}
 use Rattle.sockets.specs.SocketsView.{later_moment}
-use Rattle.host.specs.Arrival.{IsDelivered, MeetsHeard, MeetsUserDatagram, heard_by}
+use Rattle.host.specs.Arrival.{IsDelivered, MeetsHeard, MeetsUserDatagram}
+use Rattle.host.specs.Heard.{heard_by}
 use Rattle.host.specs.HostView.{HostView}
 use Rattle.host.proofs.Reporting.{queued-so}
 

@@ -14,7 +14,6 @@ use Rattle.frames.specs.declared.meaning.Control.{Control}
 use Rattle.frames.specs.declared.meaning.ReceivedDatagram.{ReceivedDatagram}
 use Rattle.frames.specs.declared.meaning.Meaning.{Meaning}
 use Rattle.frames.specs.declared.meaning.Meaning.TheVariants.{Arp, Tcp, Icmp, Udp, Other, UdpFragment}
-use Rattle.frames.specs.Meaning.{heard}
 use Rattle.interface.specs.declared.reply.QueueFault.{QueueFault}
 use Rattle.interface.specs.Ways.{is_routed}
 use Rattle.interface.specs.Replies.{after_heard, heard_answer, after_answer, after_echo, after_report, answer_result}
@@ -32,6 +31,7 @@ use Rattle.udp.specs.declared.fault.UdpFault.{UdpFault}
 use Rattle.udp.specs.Datagram.{UserDatagram}
 use Rattle.udp.specs.Reading.{datagram_or_fault}
 use Rattle.host.specs.HostView.{HostView, with_interface, with_pool, with_sockets}
+use Rattle.host.specs.Heard.{heard_by}
 use Rattle.host.specs.Messages.{Told, Asks, Refuses, Nothing, told_by}
 
 -- a full queue of replies by its name as a cause
@@ -124,10 +124,6 @@ MeetsHeard (Ok (Udp r)) h moment isn answer new = MeetsUserDatagram (reception h
 MeetsHeard (Ok (UdpFragment d)) h moment isn answer new = MeetsFragment (fragment_outcome moment d h.pool) h moment d answer new
 MeetsHeard (Ok (Other d)) h moment isn answer new = MeetsDatagram ProtocolUnreachable h moment d answer new
 MeetsHeard (Err cause) h moment isn answer new = (answer ≡ Err cause) × (new ≡ h)
-
--- what the octets of a frame are to the host
-abbrev pub heard_by : HostView → List ℕ → Result Meaning DropCause
-heard_by h octets = heard h.interface.mac h.interface.addr octets
 
 -- a frame, at the later of the moment and the kept one
 abbrev pub IsDelivered : HostView → Moment → ℕ → List ℕ → Result (Unit {0}) DropCause → HostView → Type 0

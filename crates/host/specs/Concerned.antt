@@ -5,7 +5,7 @@ use Rattle.frames.specs.declared.meaning.Meaning.{Meaning}
 use Rattle.frames.specs.declared.meaning.Meaning.TheVariants.{Arp, Tcp, Icmp, Udp, Other, UdpFragment}
 use Rattle.sockets.specs.declared.entry.SocketId.{SocketId}
 use Rattle.sockets.specs.Ready.{socket_at_port, socket_between, socket_of_segment}
-use Rattle.host.specs.Arrival.{heard_by}
+use Rattle.host.specs.Heard.{heard_by}
 use Rattle.host.specs.HostView.{HostView}
 use Rattle.host.specs.Messages.{Told, Asks, Refuses, Nothing, told_by}
 

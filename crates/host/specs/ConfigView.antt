@@ -17,7 +17,7 @@ pub record ConfigView : Type 0 where
 -- The manner of a set-up that asks for no other: windows are scaled (RFC 7323 section 2), small segments wait for all that is outstanding (RFC 9293
 -- section 3.7.4), congestion control is that of RFC 5681 alone, and no timeout is less than a second (RFC 6298 section 2.4).
 abbrev pub usual_manner : Manner
-usual_manner = record { scales = true; minshall = false; control = PLAIN; least_timeout = 1000 }
+usual_manner = record { scales = true; minshall = false; control = PLAIN; least_timeout = 1000; guards = false }
 
 -- the MAC of one interface: the low bit of the first octet of a group's is set (IEEE 802)
 abbrev pub IsOfOne : Mac → Type 0

@@ -18,7 +18,7 @@ use Rattle.sockets.specs.Datagrams.{reception}
 use Rattle.sockets.specs.Needs as needs
 use Rattle.host.specs.declared.lack.Lack.{Lack}
 use Rattle.host.specs.declared.lack.Lack.TheVariants.{Backlog, Table, Memory, Replies, Queue, Reassembly, Route}
-use Rattle.host.specs.Arrival.{heard_by}
+use Rattle.host.specs.Heard.{heard_by}
 use Rattle.host.specs.HostView.{HostView}
 use Rattle.host.specs.Messages.{Told, Asks, Refuses, Nothing, told_by}
 

@@ -1,5 +1,6 @@
 pub mod ConfigView
 pub mod HostView
+pub mod Heard
 pub mod Messages
 pub mod Arrival
 pub mod Concerned

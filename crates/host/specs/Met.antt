@@ -18,7 +18,7 @@ use Rattle.sockets.specs.declared.role.Role.TheVariants.{Connected}
 use Rattle.sockets.specs.Arrival.{local_end, peer_end}
 use Rattle.sockets.specs.Causes.{IsOpenedBy}
 use Rattle.sockets.specs.Entries.{is_between}
-use Rattle.host.specs.Arrival.{heard_by}
+use Rattle.host.specs.Heard.{heard_by}
 use Rattle.host.specs.Duties.{IsHardError}
 use Rattle.host.specs.HostView.{HostView, with_interface}
 

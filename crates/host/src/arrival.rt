@@ -10,7 +10,7 @@ ghost use Rattle.host.specs.Messages.{is_hard, refused_quote, told_by};
 
 use crate::layers::Layers;
 use clock::Moment;
-use frames::{Control, DropCause, Meaning, ReceivedSegment, read};
+use frames::{Control, DropCause, Meaning, ReceivedSegment};
 use icmp::{IcmpView, Quote, Reason};
 use interface::QueueFault;
 use ipv4::{Ipv4View, Pair, Protocol};
@@ -25,7 +25,7 @@ impl Layers {
         ensures { IsDelivered self.old now isn.0 frame.now result self.new }
     {
         let now = self.sockets.later_moment(now);
-        match read(self.interface.mac(), self.interface.addr(), frame)? {
+        match self.heard(frame)? {
             Meaning::Arp(packet) => room(self.interface.hear(now, &packet)),
             Meaning::Tcp(received) => self.take(now, isn, &received),
             Meaning::Icmp(control) => self.hear(now, &control),
@@ -101,7 +101,7 @@ impl Layers {
     pub(crate) fn would_open(&self, frame: &[u8]) -> Option<Pair>
         ensures { result ≡ foreseen self.now frame.now }
     {
-        match read(self.interface.mac(), self.interface.addr(), frame) {
+        match self.heard(frame) {
             Ok(Meaning::Tcp(received)) => self.pair_opened(&received),
             _ => None,
         }

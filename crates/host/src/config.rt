@@ -51,6 +51,7 @@ impl Config {
                     minshall: false,
                     control: Control::PLAIN,
                     least_timeout: 1_000,
+                    guards: false,
                 },
             })
         } else {
@@ -93,6 +94,20 @@ impl Config {
             ..self.manner.control
         };
         self.with_control(control)
+    }
+
+    /// The same set-up of a host that is on its guard, or of one that isn't, as one that `new` makes. On its guard, it drops what comes from the address of a
+    /// network on its link, or of all its hosts, and ARP packets of such an address, of a group's MAC and of its own (RFC 1122 section 3.2.1.3). It takes no
+    /// octets with an acknowledgement older than the largest window of the peer is wide (RFC 5961 section 5.2), answers at most ten segments a second of a
+    /// connection that it doesn't use (section 7), and a SYN that comes again by the SYN-ACK again.
+    pub fn with_guards(self, guards: bool) -> Config
+        ensures { result ≡ record self { manner = record self.manner { guards = guards } } }
+    {
+        let manner = Manner {
+            guards,
+            ..self.manner
+        };
+        Config { manner, ..self }
     }
 
     /// The same set-up of a host whose connections begin with a slow start threshold of so many octets (RFC 5681 section 3.1): 65,535 at least and 2^30 at

@@ -9,7 +9,7 @@ ghost use Rattle.host.specs.Messages.{told_by};
 
 use crate::host::Host;
 use crate::layers::Layers;
-use frames::{Control, Meaning, ReceivedDatagram, ReceivedSegment, read};
+use frames::{Control, Meaning, ReceivedDatagram, ReceivedSegment};
 use ipv4::{Addr, Ipv4View};
 use sockets::{Need, Reception};
 
@@ -52,7 +52,7 @@ impl Layers {
     fn lack(&self, frame: &[u8]) -> Option<Lack>
         ensures { result ≡ lack self.now frame.now }
     {
-        match read(self.interface.mac(), self.interface.addr(), frame) {
+        match self.heard(frame) {
             Ok(Meaning::Arp(packet)) => self.lack_of_reply(self.interface.is_asked_by(&packet)),
             Ok(Meaning::Tcp(received)) => self.lack_of_segment(&received),
             Ok(Meaning::Icmp(control)) => self.lack_of_message(&control),

@@ -59,7 +59,8 @@ ghost use Rattle.sockets.specs.Ticks.{least_deadline as timer_deadline};
 ghost use Rattle.sockets.specs.Traffic.{streams};
 ghost use Rattle.host.specs.ConfigView.{ConfigView, IsOfOne};
 ghost use Rattle.host.specs.HostView.{HostView, new_host, with_interface, with_sockets};
-ghost use Rattle.host.specs.Arrival.{IsDelivered, MeetsSegment, heard_by, segment_arrival};
+ghost use Rattle.host.specs.Arrival.{IsDelivered, MeetsSegment, segment_arrival};
+ghost use Rattle.host.specs.Heard.{heard_by, shuts_out};
 ghost use Rattle.host.specs.Carried.{Carried, carried};
 ghost use Rattle.host.specs.Causes.{IsAbout};
 ghost use Rattle.host.specs.ComesUp.{IsDueSoon, IsQuiet, ComesUp, ConnectionComesUp, HasEnded, WaitsSince, address_of, is_on_route, most_wait};
@@ -77,14 +78,14 @@ ghost use Rattle.host.specs.Sound.{IsSoundHost};
 ghost use Rattle.host.specs.Ticks.{after_tick, least_deadline, hop_deadline};
 
 /// The layers compose. A frame that goes out with a segment is heard, where it is for, as the very segment that is meant, from our address, where
-/// that isn't its own: so it is dropped there for nothing but lack of room, and the entry of its pair, or the rule for none, meets that segment. Whoever
+/// that isn't its own: so it is dropped there for nothing but lack of room, but by a host whose guards shut our address out, and the entry of its pair, or the rule for none, meets that segment. Whoever
 /// else hears a segment in what goes out hears that one, at the address that it is for; and the pair that is read of the frame is that of
 /// its two ends, or none where it carries none (RFC 9293 section 3.1). Every host is sound and its table in order, as `Host::sound` says.
 pub fn layers_compose()
     ensures heard { (h : HostView) (now : Moment) (c : Carried) → IsSoundHost h → IsOrdered h.sockets → carried h now ≡ Some c → h.interface.addr ≢ c.to
         → heard c.mac c.to (emission_octets h now) ≡ Ok (Tcp (record { source = h.interface.addr; segment = c.segment })) }
     ensures met { (h g : HostView) (now then : Moment) (isn : ℕ) (c : Carried) (answer : Result (Unit {0}) DropCause) (new : HostView) → IsSoundHost h → IsOrdered h.sockets
-        → carried h now ≡ Some c → h.interface.addr ≢ c.to → g.interface.mac ≡ c.mac → g.interface.addr ≡ c.to → IsDelivered g then isn (emission_octets h now) answer new
+        → carried h now ≡ Some c → h.interface.addr ≢ c.to → g.interface.mac ≡ c.mac → g.interface.addr ≡ c.to → shuts_out g h.interface.addr ≡ false → IsDelivered g then isn (emission_octets h now) answer new
         → let moment = later_moment g.sockets then in MeetsSegment (segment_arrival g moment isn h.interface.addr c.segment) g moment h.interface.addr answer new }
     ensures hearer { (h : HostView) (now : Moment) (mac : Mac) (ours : Addr) (received : ReceivedSegment) → IsSoundHost h → IsOrdered h.sockets
         → heard mac ours (emission_octets h now) ≡ Ok (Tcp received)

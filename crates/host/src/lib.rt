@@ -10,6 +10,8 @@ pub mod dry;
 pub mod duties;
 mod emission;
 mod given_up;
+pub mod guards;
+mod heard;
 mod host;
 mod info;
 mod lack;

@@ -6,7 +6,7 @@ ghost use Rattle.host.specs.Messages.{told_by};
 use crate::arrival::refused_quote;
 use crate::host::Host;
 use crate::layers::Layers;
-use frames::{Control, Meaning, read};
+use frames::{Control, Meaning};
 use sockets::{Ready, Refusal, SocketId};
 
 impl Host {
@@ -62,7 +62,7 @@ impl Layers {
     fn concerns(&self, frame: &[u8]) -> Option<SocketId>
         ensures { result ≡ concerned self.now frame.now }
     {
-        match read(self.interface.mac(), self.interface.addr(), frame) {
+        match self.heard(frame) {
             Ok(Meaning::Tcp(received)) => {
                 self.sockets
                     .socket_of_segment(received.source, &received.segment)

@@ -34,9 +34,13 @@ least_timeout_in octets = little_number 2 (drop 38 octets)
 abbrev pub first_threshold_in : List ℕ → ℕ
 first_threshold_in octets = if nat_lt (length octets) 44 then 0 else little_number 4 (drop 40 octets)
 
+-- octet 44: 1 where the host is on its guard, and else 0, as where there are fewer octets
+abbrev pub guards_in : List ℕ → ℕ
+guards_in octets = if nat_lt (length octets) 45 then 0 else slice_index octets 44
+
 -- where the last option that is there ends
 abbrev pub options_end : List ℕ → ℕ
-options_end octets = if nat_lt (length octets) 44 then 40 else 44
+options_end octets = if nat_lt (length octets) 44 then 40 else if nat_lt (length octets) 45 then 44 else 45
 
 -- Octets as many as they say, 40 at least, that ask for nothing that isn't known: no octet that chooses between two is over 1, none between three over 2, and
 -- all behind the last option are 0.
@@ -46,6 +50,7 @@ pub record IsConfig (octets : List ℕ) : Type 0 where
   pub scale : no_window_scale_in octets ≤ 1
   pub small : minshall_in octets ≤ 1
   pub repair : recovery_in octets ≤ 2
+  pub guard : guards_in octets ≤ 1
   pub rest : All (λ octet. octet ≡ 0) (drop (options_end octets) octets)
 
 -- a number, or where it is 0 the usual one
@@ -66,8 +71,9 @@ config_in octets = record {
   first_segments = first_segments_in octets;
   least_timeout = or_usual 1000 (least_timeout_in octets);
   first_threshold = or_usual 65535 (first_threshold_in octets);
+  guards = guards_in octets == 1;
 }
 
 -- what a config says whose options are 0
 abbrev pub usual_config : Mac → ℕ → Config
-usual_config mac addr = record { mac = mac; addr = addr; scales = true; minshall = false; recovery = Plain; first_segments = 0; least_timeout = 1000; first_threshold = 65535 }
+usual_config mac addr = record { mac = mac; addr = addr; scales = true; minshall = false; recovery = Plain; first_segments = 0; least_timeout = 1000; first_threshold = 65535; guards = false }

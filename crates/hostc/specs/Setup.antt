@@ -36,6 +36,7 @@ host_config c table = record {
     minshall = c.minshall;
     control = record { recovery = c.recovery; first_threshold = c.first_threshold; first_segments = c.first_segments };
     least_timeout = c.least_timeout;
+    guards = c.guards;
   };
 }
 

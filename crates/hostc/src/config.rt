@@ -1,7 +1,7 @@
 //! `struct host_config`, by its octets.
 
 ghost use Rattle.std.specs.Prelude.{◌≡◌, ◌↔◌, ◌≤◌, IsSome, IfSome, IsTrue, All, length};
-ghost use Rattle.hostc.specs.Config.{IsConfig, config_in, first_threshold_in, options_end, or_usual, recovery_of};
+ghost use Rattle.hostc.specs.Config.{IsConfig, config_in, first_threshold_in, guards_in, options_end, or_usual, recovery_of};
 
 use byteorder::{ByteOrder, LittleEndian};
 use ether::Mac;
@@ -26,12 +26,16 @@ pub struct Config {
     pub least_timeout: u16,
     /// The slow start threshold of its connections at first, in octets.
     pub first_threshold: u32,
+    /// Whether it is on its guard.
+    pub guards: bool,
 }
 
 /// How many octets the least config has. It ends before the first threshold.
 const LEAST: usize = 40;
+/// How many octets the least config has that has the first threshold, too.
+const WITH_THRESHOLD: usize = 44;
 /// How many octets the least config has that has all options.
-const WHOLE: usize = 44;
+const WHOLE: usize = 45;
 /// The place of its address.
 const ADDR: usize = 24;
 /// The place of its MAC.
@@ -46,8 +50,10 @@ const RECOVERY: usize = 36;
 const FIRST_SEGMENTS: usize = 37;
 /// The place of the least timeout.
 const LEAST_TIMEOUT: usize = 38;
-/// The place of its last option: the first slow start threshold.
+/// The place of the first slow start threshold.
 const FIRST_THRESHOLD: usize = 40;
+/// The place of its last option: whether the host is on its guard.
+const GUARDS: usize = 44;
 
 impl Config {
     /// What these octets say; None where they are no config.
@@ -61,7 +67,8 @@ impl Config {
         let no_window_scale = octets[NO_WINDOW_SCALE];
         let minshall = octets[MINSHALL];
         let recovery = octets[RECOVERY];
-        if no_window_scale > 1 || minshall > 1 || recovery > 2 {
+        let guards = guards_in(octets);
+        if no_window_scale > 1 || minshall > 1 || recovery > 2 || guards > 1 {
             return None;
         }
         let (_, rest) = octets.split_at(options_end(octets));
@@ -81,27 +88,46 @@ impl Config {
             first_segments: octets[FIRST_SEGMENTS],
             least_timeout: least_timeout_of(LittleEndian::read_u16(from_timeout)),
             first_threshold: first_threshold_of(first_threshold_in(octets)),
+            guards: guards == 1,
         })
     }
 }
 
-/// How many octets of a config are known, up to the end of its last option: those of one of fewer than 44 end before the first threshold.
+/// How many octets of a config are known, up to the end of its last option: those of one of fewer than 44 end before the first threshold, and those
+/// of one of 44 behind it.
 fn options_end(octets: &[u8]) -> usize
     ensures value { result ≡ options_end octets.now }
     ensures within { 40 ≤ length octets.now → result ≤ length octets.now }
 {
-    if octets.len() < WHOLE { LEAST } else { WHOLE }
+    if octets.len() < WITH_THRESHOLD {
+        LEAST
+    } else if octets.len() < WHOLE {
+        WITH_THRESHOLD
+    } else {
+        WHOLE
+    }
 }
 
 /// The first slow start threshold in these octets; 0 where they are too few to have one.
 fn first_threshold_in(octets: &[u8]) -> u32
     ensures { result ≡ first_threshold_in octets.now }
 {
-    if octets.len() < WHOLE {
+    if octets.len() < WITH_THRESHOLD {
         return 0;
     }
     let (_, from_threshold) = octets.split_at(FIRST_THRESHOLD);
     LittleEndian::read_u32(from_threshold)
+}
+
+/// The option to be on guard in these octets; 0 where they are too few to have it.
+fn guards_in(octets: &[u8]) -> u8
+    ensures { result ≡ guards_in octets.now }
+{
+    if octets.len() < WHOLE {
+        0
+    } else {
+        octets[GUARDS]
+    }
 }
 
 /// How losses are repaired by this number: 1 is NewReno, and 2 that with selective acknowledgements.

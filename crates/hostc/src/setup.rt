@@ -41,6 +41,7 @@ pub extern "C" fn host_new(
         first_segments: 0,
         least_timeout: 1_000,
         first_threshold: 65_535,
+        guards: false,
     };
     set_up(alloc, handle, config, routes)
 }
@@ -109,6 +110,7 @@ fn made(alloc: Global, config: Config, routes: &[HostRoute]) -> Result<Host, Ref
         .with_scale(config.scales)
         .with_minshall(config.minshall)
         .with_recovery(config.recovery)
+        .with_guards(config.guards)
         .with_threshold(config.first_threshold)
         .with_first_segments(config.first_segments)
         .with_least_timeout(config.least_timeout);

@@ -1,5 +1,6 @@
 pub mod Routing
 pub mod InterfaceView
+pub mod Strangers
 pub mod Ways
 pub mod Replies
 pub mod Queue

@@ -3,6 +3,7 @@
 ghost use Rattle.std.specs.Prelude.{◌≡◌, ◌≤◌, ◌++◌, true, length, take, position, IfOk};
 ghost use Rattle.ipv4.specs.declared.limits.TheConstants.{ERROR_QUOTE};
 ghost use Rattle.interface.specs.declared.room.TheConstants.{ECHO_ROOM};
+ghost use Rattle.interface.specs.Strangers.{is_of_group};
 
 use crate::hop::{hop_mac, next_hop, way_over};
 use crate::queue::Queue;
@@ -48,6 +49,7 @@ impl Interface {
     ghost use Rattle.interface.specs.InterfaceView.{fresh};
     ghost use Rattle.interface.specs.Ways.{is_routed, knows_hop, way};
     ghost use Rattle.arp.specs.Cache.{is_request_for};
+    ghost use Rattle.interface.specs.Strangers.{is_no_host, is_no_neighbours};
     ghost use Rattle.interface.specs.Replies.{after_heard, heard_answer, is_full, after_answer, after_echo, after_report, answer_result, way_of, is_due};
 
     /// An interface with this MAC, address and routes, that heard nothing. Fails only where memory is refused.
@@ -82,6 +84,22 @@ impl Interface {
         ensures { result ≡ is_routed self.now to }
     {
         next_hop(&self.routes, to).is_some()
+    }
+
+    /// Whether an address is that of a network on the link, or of all its hosts, so that no host sends from it (RFC 1122 section 3.2.1.3).
+    pub fn is_no_host(&self, source: Addr) -> bool
+        ensures { result ≡ is_no_host self.now source }
+    {
+        self.routes.is_link_end(source)
+    }
+
+    /// Whether an ARP packet is of a MAC that no neighbour has, that of a group or our own, or of an address from which no host sends.
+    pub fn is_no_neighbours(&self, packet: &ArpPacket) -> bool
+        ensures { result ≡ is_no_neighbours self.now packet.now }
+    {
+        is_of_group(packet.sender_mac)
+            || packet.sender_mac == self.mac
+            || self.is_no_host(packet.sender_addr)
     }
 
     /// Whether the MAC of the next hop to an address is known: a route leads there, and the hop was heard in the last 20 minutes.
@@ -253,4 +271,11 @@ impl Interface {
             }
         }
     }
+}
+
+/// Whether a MAC is that of a group: the low bit of its first octet is set (IEEE 802).
+fn is_of_group(mac: Mac) -> bool
+    ensures { result ≡ is_of_group mac }
+{
+    mac.0[0] % 2 == 1
 }

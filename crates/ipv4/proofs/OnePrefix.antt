@@ -27,7 +27,7 @@ same_made a b m n f g e d = subst (λ (x : Addr). (h : IsPrefix x n) → made a 
 octet : (xs : List ℕ) → All (λ o. o < 256) xs → (i : ℕ) → get_or xs i 0 < 256
 octet xs each i = ⊎_elim (λ inside. each i 0 inside) (λ past. omega (arith, get_or_past xs i 0 past)) (cases_lt i (length xs))
 
-number-lt : (a : Addr) → All (λ o. o < 256) a.0 → number a < 2 ^ 32
+pub number-lt : (a : Addr) → All (λ o. o < 256) a.0 → number a < 2 ^ 32
 number-lt a each =
     let h = octet a.0 each in
     omega (arith, h 0, h 1, h 2, h 3)

@@ -143,7 +143,7 @@ module _ (h : HostView) (id : SocketId) (c : View) (now : Moment) (alone : IsAlo
   emitted_interface = ap (λ (g : HostView). g.interface) sent
 
   pub emitted_stays : HostStays h (after_emission h now)
-  emitted_stays = record { interface = same_but _ _ emitted_interface; moment = ap (λ (g : HostView). let t = g.sockets in t.kept) sent; addr = ap (λ (g : HostView). let t = g.sockets in t.addr) sent }
+  emitted_stays = record { interface = same_but _ _ emitted_interface; moment = ap (λ (g : HostView). let t = g.sockets in t.kept) sent; addr = ap (λ (g : HostView). let t = g.sockets in t.addr) sent; manner = ap (λ (g : HostView). let t = g.sockets in t.manner) sent }
 
 pub due_out : (h : HostView) (id : SocketId) (c : View) (now : Moment) (due : Due) (mac : Mac) → IsAlone h id c → h.interface.replies ≡ [] → first_due c ≡ Some due → way h.interface (later_moment h.sockets now) c.peer.addr ≡ To mac
     → (carried h now ≡ Some (record { mac = mac; to = c.peer.addr; segment = segment_of c due })) × (is_some (emission_len h now) ≡ true) × IsAlone (after_emission h now) id (after_event c (Event.Emits (later_moment h.sockets now)))

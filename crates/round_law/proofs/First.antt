@@ -10,6 +10,7 @@ use Rattle.tcp_state.specs.declared.emission.Due.{Due}
 use Rattle.tcp_state.specs.View.{View, is_opening, awaits_fin_ack}
 use Rattle.tcp_state.specs.Due.{first_due}
 use Rattle.sockets.specs.declared.entry.SocketId.{SocketId}
+use Rattle.host.specs.Heard.{shuts_out}
 use Rattle.host.specs.HostView.{HostView}
 use Rattle.host.specs.Emission.{emission_len}
 use Rattle.round_law.specs.Exchange.{IsOut, AreOut, IsBrought, AreBrought, most_frames}
@@ -30,7 +31,7 @@ none_left count h g some few same (inr full) = omega (arith, full, few)
 
 module _ (start : HostView) (v : View) (id : SocketId) (mac : Mac) (leads : way start.interface start.sockets.kept v.peer.addr ≡ To mac) (other : start.interface.addr ≢ v.peer.addr) (past : is_opening v.state ≡ false) (open_ : awaits_fin_ack v.state ≡ false)
     (there : HostView) (u : View) (to_id : SocketId) (own : u.local.addr ≡ there.sockets.addr) (theirs : v.local.addr ≡ start.interface.addr) (local : u.local ≡ v.peer) (peer : u.peer ≡ v.local) (past_there : is_opening u.state ≡ false)
-    (open_there : awaits_fin_ack u.state ≡ false) (mac_there : mac ≡ there.interface.mac) (addr_there : v.peer.addr ≡ there.interface.addr) (due : Due) (first : first_due v ≡ Some due) where
+    (open_there : awaits_fin_ack u.state ≡ false) (lets : shuts_out there start.interface.addr ≡ false) (mac_there : mac ≡ there.interface.mac) (addr_there : v.peer.addr ≡ there.interface.addr) (due : Due) (first : first_due v ≡ Some due) where
   abbrev pub BringsThere : List ℕ → Type 0
   BringsThere octets = Brings there.interface.mac there.interface.addr start.interface.addr (IsPlain v) octets
 
@@ -69,7 +70,7 @@ module _ (start : HostView) (v : View) (id : SocketId) (mac : Mac) (leads : way 
           let report = report_on start v id mac leads other past open_ h v octets out.0 sender out.1 r waits is in
           let said : Reports there.interface.mac there.interface.addr start.interface.addr octets =
           subst (λ (a : Addr). Reports there.interface.mac a start.interface.addr octets) addr_there (subst (λ (m : Mac). Reports m v.peer.addr start.interface.addr octets) mac_there report.1) in
-          let passed = passes_on there u to_id v start.interface.addr own theirs local peer past_there open_there g u octets brought.0 taker brought.1 said in
+          let passed = passes_on there u to_id v start.interface.addr own theirs local peer past_there open_there lets g u octets brought.0 taker brought.1 said in
           let before : length h.interface.replies ≡ length (r ∷ waits) = ap length is in
           let left : length out.0.interface.replies ≡ length waits = ap length report.2 in
           further out.0 brought.0 (count + 1) report.0 passed (omega (arith, few, before, left)) out.2 brought.2 (subst (λ n. Ends n h_last) (omega arith) ends)

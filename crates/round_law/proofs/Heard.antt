@@ -30,7 +30,8 @@ use Rattle.sockets.specs.Steps.{connected}
 use Rattle.sockets.proofs.Arrived.{taken}
 use Rattle.sockets.proofs.Ends.{same_addr-same}
 use Rattle.host.specs.HostView.{HostView, with_sockets}
-use Rattle.host.specs.Arrival.{MeetsSegment, MeetsHeard, IsDelivered, heard_by, arrival_by_route, segment_arrival}
+use Rattle.host.specs.Arrival.{MeetsSegment, MeetsHeard, IsDelivered, arrival_by_route, segment_arrival}
+use Rattle.host.specs.Heard.{heard_by}
 use Rattle.host.proofs.Waiting.{later-twice}
 use Rattle.round_law.specs.Alone.{IsSilent, IsAlone, IsFor}
 use Rattle.round_law.proofs.Staying.{HostStays, same_but}
@@ -148,7 +149,7 @@ module _ (h : HostView) (id : SocketId) (c : View) (now : Moment) (isn : ℕ) (s
           lives = lives;
           called = hears_kept c s moment alone.called;
         },
-        record { interface = same_but _ _ (ap (λ (g : HostView). g.interface) met.1); moment = ap (λ (g : HostView). let t = g.sockets in t.kept) met.1; addr = ap (λ (g : HostView). let t = g.sockets in t.addr) met.1 },
+        record { interface = same_but _ _ (ap (λ (g : HostView). g.interface) met.1); moment = ap (λ (g : HostView). let t = g.sockets in t.kept) met.1; addr = ap (λ (g : HostView). let t = g.sockets in t.addr) met.1; manner = ap (λ (g : HostView). let t = g.sockets in t.manner) met.1 },
         ap (λ (g : HostView). g.interface) met.1,
       )
 

@@ -6,10 +6,11 @@ use Rattle.tcp_halves.proofs.Keeping.{inserted_readable}
 use Rattle.tcp_halves.specs.Halves.{Receiving}
 use Rattle.tcp_halves.specs.Stream.{buffer_of, distance_of, octets_within, octets_gained, after_octets}
 use Rattle.tcp_halves.specs.Windows.{updates_window}
-use Rattle.tcp_halves.proofs.Choices.{either, clash, and_left, or_left}
+use Rattle.tcp_halves.proofs.Choices.{either, clash, and_left, and_false, or_left}
 use Rattle.tcp_state.specs.View.{View, is_opening, is_syn_sent, is_syn_received, is_closed}
-use Rattle.tcp_state.specs.Arrival.{is_receiving, beyond_fin, may_delay, after_ack, after_window, after_text, after_fin, after_lost, after_segment, after_segment_at, is_read, is_lost}
+use Rattle.tcp_state.specs.Arrival.{is_receiving, beyond_fin, may_delay, after_ack, after_window, after_text, after_fin, after_lost, after_segment, after_heard, after_segment_at, is_read, is_lost, is_unused, draws_one, before, timed_by}
 use Rattle.tcp_state.proofs.Freed.{opened}
+use Rattle.tcp_state.proofs.Guarded.{owes_kept, without_syn}
 use Rattle.tcp_state.proofs.Segments.{by_ack, by_fin, by_segment, by_clock, ack_receives}
 
 -- An acknowledgement that is owed stays owed as long as it lives; SND.NXT stays; and octets came, or nothing did.
@@ -48,12 +49,25 @@ fin_on : (v w : View) (s : Segment) → s.flags.fin ≡ false → LeavesOn v s w
 fin_on v w s no_fin on =
     by_fin (LeavesOn v s) w s (λ counts. clash s.flags.fin (and_left s.flags.fin (is_receiving w.state) (and_left (s.flags.fin && is_receiving w.state) _ counts)) no_fin) (λ owes lives. refl, on.1, on.2) on
 
+-- what is owed isn't held back
+timed_on : (v : View) (s : Segment) (now : Moment) → is_syn_received v.state ≡ false → LeavesOn v s (after_heard v s) → LeavesOn v s (timed_by (before v s) (after_heard v s) now)
+timed_on v s now established on = (owes_on, on.1, on.2)
+  where
+    owes_on : OwesOn v (timed_by (before v s) (after_heard v s) now)
+    owes_on owes lives =
+        let b = before v s in
+        let w = after_heard v s in
+        let none : draws_one v s ≡ false =
+        ap (λ o. v.guard.on && not o && not (is_syn_sent v.state) && is_unused v s) owes
+        ∙ ap (λ x. x && not (is_syn_sent v.state) && is_unused v s) (and_false v.guard.on) in
+        owes_kept b w now none (without_syn v s (inl established)) ∙ on.0 owes lives
+
 pub heard_leaves : (v : View) (s : Segment) (now : Moment) → is_opening v.state ≡ false → v.released ≡ false → s.flags.rst ≡ false → s.flags.fin ≡ false → LeavesOn v s (after_segment_at v s now)
 heard_leaves v s now past kept no_rst no_fin =
     let states = opened v.state past in
     let same : LeavesOn v s v = (λ owes lives. owes, refl, inl refl) in
     by_clock (LeavesOn v s) v s now same
-    (λ lives. either View (LeavesOn v s) (is_lost v s) (after_lost v s) (after_segment v s)
+    (λ lives. timed_on v s now states.1 (either View (LeavesOn v s) (is_lost v s) (after_lost v s) (after_segment v s)
     (λ lost. clash v.released (and_left v.released (is_receiving v.state) (and_left (v.released && is_receiving v.state) (is_read v s) (and_left (v.released && is_receiving v.state && is_read v s) _ lost))) kept)
     (λ stays. by_segment (LeavesOn v s) v s (record {
       dropped = same;
@@ -66,7 +80,7 @@ heard_leaves v s now past kept no_rst no_fin =
           let w = after_ack v s.acknowledgement in
           let told = after_window w s in
           fin_on v (after_text told s) s no_fin (read_on v told s (ack_receives v s.acknowledgement) (told_on v w s (acked v s states.1)));
-    })))
+    }))))
 
 -- Where nothing can be read afterwards, nothing came.
 

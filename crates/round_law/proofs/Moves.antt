@@ -1,5 +1,5 @@
 -- Why an exchange moves data.
-use Rattle.std.proofs.Common.{◌≡◌, ◌≢◌, ℕ, ◌+◌, ◌<◌, ◌≤◌, ◌||◌, if◌then◌else◌, true, false, List, length, drop, Some, inl, inr, arith, refl, sym, ◌∙◌, ap, subst}
+use Rattle.std.proofs.Common.{◌≡◌, ◌≢◌, ℕ, ◌+◌, ◌<◌, ◌≤◌, ◌||◌, if◌then◌else◌, true, false, List, length, drop, Some, inl, inr, arith, refl, sym, ◌∙◌, ap, subst, ◌&&◌}
 use Rattle.std.specs.List.{AllByRecursion}
 use Rattle.std.proofs.lemmas.List.{length-drop}
 use Rattle.clock.specs.declared.moment.Moment.{Moment}
@@ -9,13 +9,17 @@ use Rattle.ipv4.specs.declared.addr.Endpoint.{Endpoint}
 use Rattle.tcp_segment.specs.declared.TheConstants.{MSS}
 use Rattle.tcp_segment.specs.Segment.{Segment}
 use Rattle.frames.specs.Meaning.{heard}
+use Rattle.interface.specs.Strangers.{is_no_host}
 use Rattle.interface.specs.InterfaceView.{InterfaceView}
 use Rattle.interface.specs.declared.way.Way.TheVariants.{To}
 use Rattle.interface.specs.Ways.{way}
 use Rattle.tcp_halves.specs.Halves.{Sending, Receiving}
 use Rattle.tcp_halves.specs.Stream.{outstanding, receive_window}
+use Rattle.tcp_halves.proofs.Choices.{and_false}
 use Rattle.tcp_state.specs.declared.emission.Due.{Due}
 use Rattle.tcp_state.specs.View.{View, IsSound, is_opening, is_closed, awaits_fin_ack, takes_flag_number}
+use Rattle.tcp_state.specs.Guard.{is_spent}
+use Rattle.tcp_state.specs.Arrival.{draws_one, holds_back}
 use Rattle.tcp_state.specs.Due.{first_due}
 use Rattle.tcp_state.specs.Edges.{Event, after_event}
 use Rattle.tcp_state.specs.Progress.{BringsOldest}
@@ -25,6 +29,8 @@ use Rattle.tcp_state.proofs.Ordinary.{leaves_end}
 use Rattle.tcp_state.proofs.OwedAlone.{owed_alone}
 use Rattle.sockets.specs.declared.entry.SocketId.{SocketId}
 use Rattle.sockets.specs.SocketsView.{later_moment}
+use Rattle.tcp_halves.specs.declared.buffers.Manner.{Manner}
+use Rattle.host.specs.Heard.{shuts_out}
 use Rattle.host.specs.HostView.{HostView}
 use Rattle.round_law.specs.Exchange.{Hosts, IsExchange, after_minute, minute_past}
 use Rattle.round_law.specs.Progress.{Meet, MayMove, HasMoved}
@@ -37,6 +43,7 @@ use Rattle.round_law.proofs.Plain.{IsPlain}
 use Rattle.round_law.proofs.Quiet.{own_time, own_edge, all_come}
 use Rattle.round_law.proofs.Reader.{Receives, receiver, Sends, sender, HasCome, StandsStill, stands_still, has_come_on, oldest_comes, frees}
 use Rattle.round_law.proofs.Says.{Says, Brings, own_sound, IsSender, sends_first, out_says, plain_due, all_out}
+use Rattle.round_law.proofs.Staying.{kept_later}
 use Rattle.round_law.proofs.Taking.{IsTaker, takes_first, takes_on, all_taken}
 
 -- where octets are outstanding and no flag is, some are held
@@ -115,6 +122,9 @@ module _ (old new : Hosts) (writer_id reader_id : SocketId) (v d : View) (may : 
   at_writer : w.local.addr ≡ h.interface.addr
   at_writer = writer.own ∙ sym writer.same
 
+  lets : shuts_out g h.interface.addr ≡ false
+  lets = ap (shuts_out g) (sym at_writer ∙ ap (λ (p : Endpoint). p.addr) (sym peer)) ∙ reader.lets
+
   said : AllByRecursion (Brings g.interface.mac g.interface.addr h.interface.addr (IsPlain w)) frames
   said =
       subst (λ (a : Addr). AllByRecursion (Brings g.interface.mac a h.interface.addr (IsPlain w)) frames) at_reader
@@ -142,7 +152,7 @@ module _ (old new : Hosts) (writer_id reader_id : SocketId) (v d : View) (may : 
   -- with the oldest octet first
   oldest_first : MSS ≤ receive_window d.receiving → (due : Due) → first_due w ≡ Some due → BringsOldest w (segment_of w due) → Read
   oldest_first room due first brings =
-      let x = first_comes h w writer_id mac_of_reader writer.leads writer.other past unshut g e reader_id reader.own at_writer local peer state.past state.unshut (sym reader.own_mac) at_reader due first frames h g exchange.between.writer exchange.between.reader 0 first_sender first_taker
+      let x = first_comes h w writer_id mac_of_reader writer.leads writer.other past unshut g e reader_id reader.own at_writer local peer state.past state.unshut lets (sym reader.own_mac) at_reader due first frames h g exchange.between.writer exchange.between.reader 0 first_sender first_taker
       (omega (arith, writer.few)) said exchange.bringing.out exchange.bringing.brought (subst (λ n. Ends n exchange.between.writer) (omega arith) exchange.bringing.ends) in
       let s = segment_of w due in
       let now = later_moment x.to.sockets x.to.sockets.kept in
@@ -150,19 +160,21 @@ module _ (old new : Hosts) (writer_id reader_id : SocketId) (v d : View) (may : 
       let heard_there = out_says h w writer_id mac_of_reader writer.leads writer.other past unshut x.from w x.octets x.sent x.sender x.idle x.out due first in
       let heard_here = ap (λ (a : Addr). heard g.interface.mac a x.octets) (sym at_reader) ∙ (ap (λ (m : Mac). heard m w.peer.addr x.octets) reader.own_mac ∙ heard_there) in
       let it : Says g.interface.mac g.interface.addr h.interface.addr (IsPlain w) x.octets = (s, heard_here, plain) in
-      let taker = takes_on g e reader_id w h.interface.addr reader.own at_writer local peer state.past state.unshut x.to e x.octets x.taken x.taker x.brought it in
+      let taker = takes_on g e reader_id w h.interface.addr reader.own at_writer local peer state.past state.unshut lets x.to e x.octets x.taken x.taker x.brought it in
       let sound = own_sound x.to reader_id e x.brought.0 x.taker.alone in
       let lives = taker.alone.lives in
       let room_then : MSS ≤ receive_window e.receiving = subst (λ (r : Receiving). MSS ≤ receive_window r) (sym reader.streams.1) room in
       let still = stands_still e meet.una meet.next e s now sound reader.alone.called state.past plain.ordinary.no_rst plain.no_fin lives (meet.held, refl) in
-      let come = oldest_comes w e s now meet (own_sound x.from writer_id w x.out.kept x.sender.alone) sound reader.alone.called state brings plain.no_fin (own_edge x.to reader_id e x.brought.0 x.taker.alone) room_then lives in
-      all_taken g e reader_id w h.interface.addr reader.own at_writer local peer state.past state.unshut Q keeps x.rest x.taken (after_event e (Event.Hears s now)) exchange.between.reader x.all taker (still, come) x.more
+      let shown : now ≡ g.sockets.kept = kept_later x.to.sockets ∙ x.taker.host.moment in
+      let free : holds_back e s now ≡ false = ap (λ m. draws_one e s && is_spent e.guard m) shown ∙ (ap (λ u. draws_one e s && u) reader.rested ∙ and_false (draws_one e s)) in
+      let come = oldest_comes w e s now meet (own_sound x.from writer_id w x.out.kept x.sender.alone) sound reader.alone.called state brings plain.no_fin (own_edge x.to reader_id e x.brought.0 x.taker.alone) room_then free lives in
+      all_taken g e reader_id w h.interface.addr reader.own at_writer local peer state.past state.unshut lets Q keeps x.rest x.taken (after_event e (Event.Hears s now)) exchange.between.reader x.all taker (still, come) x.more
 
   read : Read
   read = elim may.some [
     | inl some ↦
         let readable : length e.receiving.readable ≡ length d.receiving.readable = ap (λ (r : Receiving). length r.readable) reader.streams.1 in
-        all_taken g e reader_id w h.interface.addr reader.own at_writer local peer state.past state.unshut Q keeps frames g e exchange.between.reader said first_taker ((meet.held, refl), inl (omega (arith, readable, some))) exchange.bringing.brought
+        all_taken g e reader_id w h.interface.addr reader.own at_writer local peer state.past state.unshut lets Q keeps frames g e exchange.between.reader said first_taker ((meet.held, refl), inl (omega (arith, readable, some))) exchange.bringing.brought
     | inr held ↦
         let time = own_time old.writer writer_id v may.writer.kept (alone_there old.writer writer_id v mac_of_reader may.writer) in
         let oldest = oldest_brought v (minute_past old.writer.sockets.kept) (own_sound old.writer writer_id v may.writer.kept (alone_there old.writer writer_id v mac_of_reader may.writer)) time.0 time.1 held.0 (all_come old.writer writer_id v mac_of_reader may.writer) may.few in
@@ -234,6 +246,15 @@ module _ (old new : Hosts) (writer_id reader_id : SocketId) (v d : View) (may : 
   at_writer_back =
       ap (λ (p : Endpoint). p.addr) (sym local_back) ∙ (own_back ∙ (sender_then.host.addr ∙ (sym writer.same ∙ ap (λ (i : InterfaceView). i.addr) (sym sender_then.host.interface))))
 
+  lets_back : shuts_out exchange.between.writer exchange.between.reader.interface.addr ≡ false
+  lets_back =
+      let to = exchange.between.writer in
+      let from = exchange.between.reader.interface.addr in
+      ap (λ (m : Manner). m.guards && is_no_host to.interface from) sender_then.host.manner
+      ∙ ap (λ (i : InterfaceView). h.sockets.manner.guards && is_no_host i from) sender_then.host.interface
+      ∙ ap (shuts_out h) (sym theirs_back ∙ ap (λ (p : Endpoint). p.addr) (sym peer_back ∙ sender_then.peer))
+      ∙ writer.lets
+
   mac_back : mac_of_writer ≡ exchange.between.writer.interface.mac
   mac_back = sym (ap (λ (i : InterfaceView). i.mac) sender_then.host.interface ∙ writer.own_mac)
 
@@ -264,7 +285,7 @@ module _ (old new : Hosts) (writer_id reader_id : SocketId) (v d : View) (may : 
       let to = exchange.between.writer in
       let alone = owed_alone c (own_sound from reader_id c exchange.answering.kept taker.alone) past_reader unshut_reader read.2.0.0 owes in
       let waits : length from.interface.replies ≡ length g.interface.replies = ap length taker.waits in
-      let x = first_comes from c reader_id mac_of_writer leads_back other_back past_reader unshut_reader to b writer_id own_back theirs_back local_back peer_back past_back unshut_back mac_back at_writer_back Due.Ack alone.0 answers from to new.reader new.writer 0 first_answerer first_hearer
+      let x = first_comes from c reader_id mac_of_writer leads_back other_back past_reader unshut_reader to b writer_id own_back theirs_back local_back peer_back past_back unshut_back lets_back mac_back at_writer_back Due.Ack alone.0 answers from to new.reader new.writer 0 first_answerer first_hearer
       (omega (arith, waits, reader.few)) said_back exchange.answering.out exchange.answering.brought (subst (λ n. Ends n new.reader) (omega arith) exchange.answering.ends) in
       let s = segment_of c Due.Ack in
       let now = later_moment x.to.sockets x.to.sockets.kept in
@@ -272,14 +293,14 @@ module _ (old new : Hosts) (writer_id reader_id : SocketId) (v d : View) (may : 
       let heard_there = out_says from c reader_id mac_of_writer leads_back other_back past_reader unshut_reader x.from c x.octets x.sent x.sender x.idle x.out Due.Ack alone.0 in
       let heard_here = ap (λ (a : Addr). heard to.interface.mac a x.octets) (sym at_writer_back) ∙ (ap (λ (m : Mac). heard m c.peer.addr x.octets) (sym mac_back) ∙ heard_there) in
       let it : Says to.interface.mac to.interface.addr from.interface.addr (IsPlain c) x.octets = (s, heard_here, plain) in
-      let hearer = takes_on to b writer_id c from.interface.addr own_back theirs_back local_back peer_back past_back unshut_back x.to b x.octets x.taken x.taker x.brought it in
+      let hearer = takes_on to b writer_id c from.interface.addr own_back theirs_back local_back peer_back past_back unshut_back lets_back x.to b x.octets x.taken x.taker x.brought it in
       let sound_writer = own_sound x.to writer_id b x.brought.0 x.taker.alone in
       let within : meet.next ≤ meet.una + outstanding b.sending = omega (arith, meet.sent, sender_then.grown) in
       let some = held_some b sound_writer past_back unshut_back (omega (arith, more, within)) in
       let number_then : s.number ≡ b.receiving.rnext = alone.1.number ∙ (read.2.0.1 ∙ (sym meet.answered ∙ sym sender_then.next)) in
       let freed = frees b s now meet.initial meet.una meet.next sound_writer some alone.1.ordinary alone.1.octets alone.1.no_fin number_then (sender_then.una ∙ meet.una_number) (alone.1.acknowledgement ∙ (number ∙ meet.next_number)) more within in
       let held : length b.sending.held ≡ length v.sending.held = ap length sender_then.held ∙ ap (λ (t : Sending). length t.held) writer.streams.0 in
-      all_taken to b writer_id c from.interface.addr own_back theirs_back local_back peer_back past_back unshut_back HoldsLess less_still x.rest x.taken (after_event b (Event.Hears s now)) new.writer x.all hearer (omega (arith, freed, held)) x.more
+      all_taken to b writer_id c from.interface.addr own_back theirs_back local_back peer_back past_back unshut_back lets_back HoldsLess less_still x.rest x.taken (after_event b (Event.Hears s now)) new.writer x.all hearer (omega (arith, freed, held)) x.more
 
   abbrev z : View
   z = answered.1.0
@@ -296,7 +317,7 @@ module _ (old new : Hosts) (writer_id reader_id : SocketId) (v d : View) (may : 
   pub moves : HasMoved new writer_id reader_id v d
   moves = elim read.2.1 [
     | inl some ↦
-        let written : Written (λ y. Unit {0}) = all_taken exchange.between.writer b writer_id c exchange.between.reader.interface.addr own_back theirs_back local_back peer_back past_back unshut_back (λ y. Unit {0}) (λ y s now sound called before after plain t. tt)
+        let written : Written (λ y. Unit {0}) = all_taken exchange.between.writer b writer_id c exchange.between.reader.interface.addr own_back theirs_back local_back peer_back past_back unshut_back lets_back (λ y. Unit {0}) (λ y s now sound called before after plain t. tt)
         answers exchange.between.writer b new.writer said_back first_hearer tt exchange.answering.brought in
         let readable : length z.receiving.readable ≡ length c.receiving.readable = ap length last.readable in
         record { written = written.0; read = z; writer = named_there new.writer writer_id written.0 written.1.alone; reader = named_there new.reader reader_id z last.alone; states = (written.1.state ∙ state_then, last_state); moved = inl (omega (arith, readable, some)) }

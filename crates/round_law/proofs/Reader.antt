@@ -1,6 +1,6 @@
 -- What a reader makes of the oldest octet that its writer holds, and what the writer makes of the answer.
 use Rattle.std.proofs.Common.{◌≡◌, ◌⊎◌, ℕ, zero, suc, ◌+◌, ◌^◌, ◌<◌, ◌≤◌, ◌==◌, ◌&&◌, ◌||◌, not, if◌then◌else◌, Bool, true, false, List, [], ◌∷◌, ◌++◌, length, drop, inl, inr, arith, refl, sym, ◌∙◌, ap, subst, length-append}
-use Rattle.std.proofs.lemmas.Bool.{eq-eqb, lt-ltb}
+use Rattle.std.proofs.lemmas.Bool.{eq-eqb, lt-ltb, le-ltb}
 use Rattle.std.proofs.lemmas.Bool.Decides.{leb_tells, eqb_tells}
 use Rattle.clock.specs.declared.moment.Moment.{Moment}
 use Rattle.tcp_segment.specs.declared.TheConstants.{MSS}
@@ -8,12 +8,12 @@ use Rattle.tcp_segment.specs.Segment.{Segment, bit, span_of}
 use Rattle.tcp_segment.specs.Wire.{wire, past}
 use Rattle.tcp_halves.specs.Halves.{Receiving}
 use Rattle.tcp_halves.specs.Stream.{outstanding, receive_window, is_in_window, is_acceptable}
-use Rattle.tcp_halves.proofs.Choices.{either, clash, both, of_false}
+use Rattle.tcp_halves.proofs.Choices.{either, clash, both, and_false, of_false}
 use Rattle.tcp_state.specs.declared.state.State.{State}
 use Rattle.tcp_state.specs.declared.state.State.TheVariants.{Established, FinWait2, CloseWait}
 use Rattle.tcp_state.specs.View.{View, IsSound, is_opening, is_closed, is_time_wait, is_write_finished, awaits_fin_ack, takes_flag_number}
-use Rattle.tcp_state.specs.Arrival.{is_acceptable_to, is_receiving}
-use Rattle.tcp_state.specs.Duties.{acknowledges, Places, StandsAt}
+use Rattle.tcp_state.specs.Arrival.{is_acceptable_to, is_receiving, holds_back}
+use Rattle.tcp_state.specs.Duties.{acknowledges, Places, StandsAt, is_aged}
 use Rattle.tcp_state.specs.Edges.{Event, after_event}
 use Rattle.tcp_state.specs.Progress.{IsOrdinary, BringsOldest}
 use Rattle.tcp_state.proofs.Fewer.{fewer_held}
@@ -99,7 +99,7 @@ few_out w sound =
     omega (arith, sound.flight, one_at_most (takes_flag_number w.state), sound.held, at_most (is_opening w.state || is_write_finished w.state) w.sending.size, sound.terms.send_size)
 
 module _ (w e : View) (s : Segment) (now : Moment) (meet : Meet w e) (sound_far : IsSound w) (sound : IsSound e) (called : e.released ≡ false) (state : Receives e.state) (oldest : BringsOldest w s) (no_fin : s.flags.fin ≡ false)
-    (edge : e.receiving.edge < 2 ^ 32) (room : MSS ≤ receive_window e.receiving) (lives : is_closed (after_event e (Event.Hears s now)).state ≡ false) where
+    (edge : e.receiving.edge < 2 ^ 32) (room : MSS ≤ receive_window e.receiving) (free : holds_back e s now ≡ false) (lives : is_closed (after_event e (Event.Hears s now)).state ≡ false) where
   abbrev at : Places
   at = record { own = e.sending.una; una = 0; ack = 0; peer = meet.initial; next = meet.next; edge = meet.next + receive_window e.receiving; first = meet.una }
 
@@ -126,6 +126,10 @@ module _ (w e : View) (s : Segment) (now : Moment) (meet : Meet w e) (sound_far 
     first_near = record { behind = omega (arith, meet.sent, few_out w sound_far); ahead = omega (arith, meet.behind, short) };
   }
 
+  -- its acknowledgement stands at SND.UNA
+  young : is_aged at e ≡ false
+  young = ap (λ b. e.guard.on && b) (le-ltb (0 + e.sending.max_window) 0 (omega arith)) ∙ and_false e.guard.on
+
   pub oldest_comes : HasCome e meet.una meet.next (after_event e (Event.Hears s now))
   oldest_comes = by_readable e.receiving.readable refl
     where
@@ -136,9 +140,9 @@ module _ (w e : View) (s : Segment) (now : Moment) (meet : Meet w e) (sound_far 
       by_readable [] empty =
           elim (leb_tells (meet.una + length s.octets) meet.next) [
             | inl old ↦ owed_or_read e meet.una meet.next e s now sound called state.past oldest.ordinary.no_rst no_fin lives refl
-                (answered_at_once at e s now sound stands state.receives oldest.ordinary (omega arith) oldest.some old.1) (omega (arith, old.1, oldest.some))
+                (answered_at_once at e s now sound stands state.receives oldest.ordinary (omega arith) oldest.some old.1 free) (omega (arith, old.1, oldest.some))
             | inr new ↦
-                let grows = more_read at e s now sound stands called state.receives oldest.ordinary (omega arith) meet.behind (omega (arith, short, room)) new.1 in
+                let grows = more_read at e s now sound stands called state.receives oldest.ordinary (omega arith) young meet.behind (omega (arith, short, room)) new.1 in
                 inl (omega (arith, grows))
           ]
 

@@ -146,7 +146,7 @@ module _ (start : HostView) (v : View) (id : SocketId) (mac : Mac) (leads : way 
       let said = report_out h m v.peer.addr mac r rest waits all.0 leads_it out.kept.sound.interface whole (record { single = out.kept.sound.single; other = λ same. other (sym addr ∙ same) }) in (
         record {
           alone = subst (λ (x : HostView). IsAlone x id c) (sym left) (record { before = sender.alone.before; behind = sender.alone.behind; entries = sender.alone.entries; named = sender.alone.named; silent_before = sender.alone.silent_before; silent_behind = sender.alone.silent_behind; lives = sender.alone.lives; called = sender.alone.called });
-          host = stays_on start h g sender.host (subst (λ (x : HostView). HostStays h x) (sym left) (record { interface = refl; moment = refl; addr = refl }));
+          host = stays_on start h g sender.host (subst (λ (x : HostView). HostStays h x) (sym left) (record { interface = refl; moment = refl; addr = refl; manner = refl }));
           local = sender.local;
           peer = sender.peer;
           state = sender.state;

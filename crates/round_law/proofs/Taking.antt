@@ -1,5 +1,5 @@
 -- A host whose one connection is open hears frames, each with a plain segment for it, one after the other.
-use Rattle.std.proofs.Common.{◌≡◌, ℕ, false, List, [], ◌∷◌, Option, Some, None, Result, Ok, inl, inr, refl, sym, ◌∙◌, ap, subst}
+use Rattle.std.proofs.Common.{◌≡◌, ℕ, ◌&&◌, false, List, [], ◌∷◌, Option, Some, None, Result, Ok, inl, inr, refl, sym, ◌∙◌, ap, subst}
 use Rattle.std.specs.List.{AllByRecursion}
 use Rattle.clock.specs.declared.moment.Moment.{Moment}
 use Rattle.ipv4.specs.declared.addr.Addr.{Addr}
@@ -12,6 +12,8 @@ use Rattle.frames.specs.declared.meaning.Meaning.TheVariants.{Tcp, Icmp}
 use Rattle.frames.specs.Meaning.{heard}
 use Rattle.interface.specs.InterfaceView.{InterfaceView}
 use Rattle.interface.specs.Ways.{is_routed}
+use Rattle.interface.specs.Strangers.{is_no_host}
+use Rattle.tcp_halves.specs.declared.buffers.Manner.{Manner}
 use Rattle.tcp_halves.proofs.Choices.{by, clash}
 use Rattle.tcp_state.specs.View.{View, IsSound, is_opening, is_closed, awaits_fin_ack}
 use Rattle.tcp_state.specs.Edges.{Event, after_event}
@@ -21,7 +23,9 @@ use Rattle.sockets.specs.SocketsView.{later_moment}
 use Rattle.sockets.proofs.KeptEnds.{keeps-event}
 use Rattle.host.specs.HostView.{HostView}
 use Rattle.host.specs.Messages.{Told}
-use Rattle.host.specs.Arrival.{MeetsHeard, MeetsMessage, heard_by, foreseen_of}
+use Rattle.host.specs.Arrival.{MeetsHeard, MeetsMessage, foreseen_of}
+use Rattle.host.specs.Heard.{heard_by, shuts_out}
+use Rattle.host.proofs.Guarded.{takes_in, tells_in}
 use Rattle.round_law.specs.Alone.{IsAlone, IsFor}
 use Rattle.round_law.specs.Exchange.{IsBrought, AreBrought, isn_of_exchange}
 use Rattle.round_law.proofs.Staying.{HostStays, stays_first, stays_on}
@@ -44,7 +48,11 @@ takes_first h v id alone = record { alone = alone; host = stays_first h; local =
 
 -- from the view of the other end
 module _ (start : HostView) (v : View) (id : SocketId) (far : View) (source : Addr) (own : v.local.addr ≡ start.sockets.addr) (theirs : far.local.addr ≡ source) (local : v.local ≡ far.peer) (peer : v.peer ≡ far.local)
-    (past : is_opening v.state ≡ false) (open_ : awaits_fin_ack v.state ≡ false) where
+    (past : is_opening v.state ≡ false) (open_ : awaits_fin_ack v.state ≡ false) (lets : shuts_out start source ≡ false) where
+  lets_on : (h : HostView) → HostStays start h → shuts_out h source ≡ false
+  lets_on h stays =
+      ap (λ (m : Manner). m.guards && is_no_host h.interface source) stays.manner ∙ ap (λ (i : InterfaceView). start.sockets.manner.guards && is_no_host i source) stays.interface ∙ lets
+
   for_it : (h : HostView) (c : View) (s : Segment) → IsTaker start v id h c → IsPlain far s → IsFor h c source s
   for_it h c s taker plain = record {
     local = taker.local ∙ ends v.local h.sockets.addr s.destination (own ∙ sym taker.host.addr) (ap (λ (e : Endpoint). e.port) local ∙ sym plain.destination);
@@ -71,7 +79,7 @@ module _ (start : HostView) (v : View) (id : SocketId) (far : View) (source : Ad
       let opened = ap is_opening taker.state ∙ past in
       let state = still c s (later_moment h.sockets now) taker.state taker.alone.called said.2 in
       let lives : is_closed w.state ≡ false = ap is_closed (state ∙ sym taker.state) ∙ taker.alone.lives in
-      let heard_is : heard_by h octets ≡ Ok (Tcp (record { source = source; segment = s })) = ap (λ (i : InterfaceView). heard i.mac i.addr octets) taker.host.interface ∙ said.1 in
+      let heard_is : heard_by h octets ≡ Ok (Tcp (record { source = source; segment = s })) = takes_in h octets (record { source = source; segment = s }) (lets_on h taker.host) (ap (λ (i : InterfaceView). heard i.mac i.addr octets) taker.host.interface ∙ said.1) in
       elim brought.1 [
         | inl delivered ↦
             let meets = subst (λ (m : Result Meaning DropCause). MeetsHeard m h (later_moment h.sockets now) isn_of_exchange delivered.0 g) heard_is delivered.1 in
@@ -92,7 +100,7 @@ module _ (start : HostView) (v : View) (id : SocketId) (far : View) (source : Ad
   pub passes_on : (h : HostView) (c : View) (octets : List ℕ) (g : HostView) → IsTaker start v id h c → IsBrought octets h g → Reports start.interface.mac start.interface.addr source octets → IsTaker start v id g c
   passes_on h c octets g taker brought said =
       let m = said.0 in
-      let heard_is : heard_by h octets ≡ Ok (Icmp (record { source = source; message = m })) = ap (λ (i : InterfaceView). heard i.mac i.addr octets) taker.host.interface ∙ said.1 in
+      let heard_is : heard_by h octets ≡ Ok (Icmp (record { source = source; message = m })) = tells_in h octets (record { source = source; message = m }) (lets_on h taker.host) (ap (λ (i : InterfaceView). heard i.mac i.addr octets) taker.host.interface ∙ said.1) in
       elim brought.1 [
         | inl delivered ↦
             let meets = subst (λ (x : Result Meaning DropCause). MeetsHeard x h (later_moment h.sockets h.sockets.kept) isn_of_exchange delivered.0 g) heard_is delivered.1 in

@@ -23,12 +23,13 @@ use Rattle.sockets.specs.declared.role.Role.TheVariants.{Connected}
 use Rattle.sockets.specs.Entries.{in_connection}
 use Rattle.sockets.specs.SocketsView.{role_of}
 use Rattle.host.specs.HostView.{HostView}
+use Rattle.host.specs.Heard.{shuts_out}
 use Rattle.host.specs.Places.{places}
 use Rattle.round_law.specs.Alone.{IsKept}
 use Rattle.round_law.specs.Exchange.{Hosts, minute_past}
 
 -- The socket of this id has this connection, which is not CLOSED, and every other one of the host is; and nothing is due. A minute later the host still knows this MAC as that of the way to the peer, what reassemblies end then
--- came from there, and the clock is far from its end.
+-- came from there, its guards, where it has them, let the peer's address in, no segment that isn't used drew an acknowledgement past the kept moment, and the clock is far from its end.
 pub record IsQuiet (h : HostView) (id : SocketId) (c : View) (mac : Mac) : Type 0 where
   pub kept : IsKept h
   pub socket : role_of h.sockets id ≡ Some (Connected c None)
@@ -37,6 +38,8 @@ pub record IsQuiet (h : HostView) (id : SocketId) (c : View) (mac : Mac) : Type 
   pub nothing : places h ≡ []
   pub way : hop_mac h.interface (minute_past h.sockets.kept) c.peer.addr ≡ Some mac
   pub reports : AllByRecursion (λ (x : Expired). x.key.source ≡ c.peer.addr) (expired (minute_past h.sockets.kept) h.pool)
+  pub lets : shuts_out h c.peer.addr ≡ false
+  pub drawn : c.guard.latest.0 ≤ h.sockets.kept.0
   pub early : h.sockets.kept.0 < 2 ^ 63
 
 -- The next hop to an address is a neighbour with this MAC, that was heard less than 1,100,000 milliseconds before a moment.

@@ -1,11 +1,12 @@
 //! Laws of the definitions that the contracts of this crate cite: each is the contract of a function that does nothing.
 
-ghost use Rattle.std.specs.Prelude.{◌≡◌, ◌↔◌, List, Option, Contains};
+ghost use Rattle.std.specs.Prelude.{◌≡◌, ◌<◌, ◌↔◌, All, IsTrue, List, length, Option, Contains};
 ghost use Rattle.ipv4.specs.declared.addr.Addr.{Addr};
 ghost use Rattle.ipv4.specs.declared.prefix.Prefix.{Prefix};
 ghost use Rattle.routes.specs.declared.route.Route.{Route};
 ghost use Rattle.routes.specs.declared.route.Hop.{Hop};
 ghost use Rattle.routes.specs.declared.table.TheConstants.{MOST};
+ghost use Rattle.routes.specs.Ends.{is_end_of, IsEndOf};
 ghost use Rattle.routes.specs.Routes.{IsTable, HasPrefix, TakesOut, IsBest, Picks};
 
 /// Of a table, in which no two entries have one prefix, one route at most is the best for an address.
@@ -32,6 +33,11 @@ pub fn one_rest()
     ensures one { (old first second : List Route) (prefix : Prefix) → IsTable old → TakesOut old first prefix → TakesOut old second prefix
         → first ≡ second }
     ensures gone { (old new : List Route) (prefix : Prefix) → IsTable old → TakesOut old new prefix → ¬ HasPrefix new prefix }
+{}
+
+/// An end of a network, bit by bit: an address that has its prefix, of 30 bits at most, and past that only zeros or only ones (RFC 1122 section 3.2.1.3, RFC 3021).
+pub fn past_the_prefix_of_an_end_all_bits_are_alike()
+    ensures { (addr : Addr) (prefix : Prefix) → length addr.0 ≡ 4 → All (λ octet. octet < 256) addr.0 → IsTrue (is_end_of addr prefix) ↔ IsEndOf addr prefix }
 {}
 
 /// What the public constant is: a table has 32 routes at most, which is this stack's own limit.

@@ -3,6 +3,7 @@
 ghost use Rattle.std.specs.Prelude.{◌≡◌, ◌<◌, ◌≤◌, ◌⊎◌, [], ◌∷◌, ◌++◌, ◌↔◌, List, length, IsTrue, IsOk, OnOk, OnErr, IfSome, MatchOption, Contains};
 ghost use Rattle.std.specs.List.{HoldsAt};
 ghost use Rattle.routes.specs.declared.route.Route.{Route};
+ghost use Rattle.routes.specs.Ends.{is_link_end};
 ghost use Rattle.routes.specs.Routes.{IsTable, HasPrefix, TakesOut, Matches, IsBest, Picks};
 
 use crate::route::{Hop, Route};
@@ -97,6 +98,14 @@ impl Routes {
         ensures table { IsTable self.now }
     {
         best(self.entries.as_slice(), addr).map(|route| route.hop)
+    }
+
+    /// Whether an address is that of a network on the link, or of all its hosts (RFC 1122 section 3.2.1.3): the first or the last one with the prefix of a
+    /// direct route. A prefix of 31 bits or more has neither (RFC 3021).
+    pub fn is_link_end(&self, addr: Addr) -> bool
+        ensures { result ≡ is_link_end self.now addr }
+    {
+        self.entries.iter().any(|route| route.has_end(addr))
     }
 }
 

@@ -14,6 +14,7 @@ mod ends;
 mod forged;
 mod fragments;
 mod gateways;
+mod guards;
 mod hops;
 mod interrupts;
 mod links;

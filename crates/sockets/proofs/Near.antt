@@ -12,6 +12,7 @@ use Rattle.tcp_segment.specs.Segment.{Segment}
 use Rattle.tcp_halves.proofs.Choices.{either}
 use Rattle.tcp_state.specs.declared.state.State.{State}
 use Rattle.tcp_state.specs.declared.state.State.TheVariants.{FinWait2, TimeWait}
+use Rattle.tcp_state.specs.declared.guard.Guard.{Guard}
 use Rattle.tcp_state.specs.View.{View, IsSound, is_fin_wait_2, end_of_wait, ends_at}
 use Rattle.tcp_state.specs.Calls.{latest}
 use Rattle.tcp_state.specs.Alive.{wait_of, rests, end_of_silence, alive_at}
@@ -22,6 +23,7 @@ use Rattle.tcp_state.specs.Edges as edge
 use Rattle.tcp_state.proofs.Clocked.{ticks_keep, emission_keeps}
 use Rattle.tcp_state.proofs.AliveBy.{counted_since}
 use Rattle.tcp_state.proofs.Events.{by_event}
+use Rattle.tcp_state.proofs.Guarded.{heard_guard}
 use Rattle.tcp_state.proofs.Segments.{by_ack, by_fin, by_hearing}
 use Rattle.tcp_state.proofs.SetSoon.{soon, never}
 use Rattle.sockets.specs.declared.entry.Entry.{Entry}
@@ -103,12 +105,42 @@ asked_by last c old e told = elim (counted_since c e) [
   | inr began ↦ subst (λ (m : Moment). m.0 ≤ last.0) (sym began.2) (told began.0 began.1)
 ]
 
+-- .. and so is what was drawn on guard
+abbrev DrawnBy : Moment → View → edge.Event → View → Type 0
+DrawnBy last c e d = ((now : Moment) → edge.moment_of e ≡ Some now → now.0 ≤ last.0) → d.guard.latest.0 ≤ last.0
+
+drawn_by : (last : Moment) (c : View) → c.guard.latest.0 ≤ last.0 → (e : edge.Event) → DrawnBy last c e (edge.after_event c e)
+drawn_by last c old =
+    by_event (DrawnBy last c) c
+    (record {
+      same = λ e told. old;
+      asks = λ e alive told. old;
+      silent = λ now told. old;
+      heard = λ s now lives told.
+          let w = after_heard c s in
+          let kept : w.guard.latest.0 ≤ last.0 = subst (λ (g : Guard). g.latest.0 ≤ last.0) (sym (heard_guard c s)) old in
+          chosen _ now w.guard.latest last (told now refl) kept;
+      over = λ now ends told. old;
+      given_up = λ now waits gives told. old;
+      acts = λ now told. subst (λ (g : Guard). g.latest.0 ≤ last.0) (sym (ap (λ (d : View). d.guard) (ticks_keep c now))) old;
+      emits = λ now told. subst (λ (g : Guard). g.latest.0 ≤ last.0) (sym (ap (λ (d : View). d.guard) (emission_keeps c (first_due c) now))) old;
+      sends = λ octets taken now open_ told. old;
+      reads = λ len told. old;
+      shuts = λ now told. old;
+      delays = λ on now told. old;
+      leaves = λ now lives told. old;
+      aborts = λ e now moment cause lives told. old;
+      refused = λ number hit told. old;
+      hopless = λ now over told. old;
+    })
+
 event_near : (last : Moment) (c : View) (ev : edge.Event) → IsSound c → ((now : Moment) → edge.moment_of ev ≡ Some now → now.0 ≤ last.0) → IsNear last c → IsNear last (edge.after_event c ev)
 event_near last c ev sound told near = record {
   since = since_by last c near.since ev told;
   unheard = unheard_by last c near.unheard ev told;
   timers = λ kind end set. by_moment kind end set (edge.moment_of ev) refl;
   asked = asked_by last c near.asked ev told;
+  drawn = drawn_by last c near.drawn ev told;
 }
   where
     by_moment : (kind : TimerKind) (end : Moment) → (let d = edge.after_event c ev in timer_of d.timers kind) ≡ Some end → (o : Option Moment) → edge.moment_of ev ≡ o → end.0 ≤ last.0 + 60000
@@ -148,14 +180,14 @@ told_by h last kept x _ _ (loses_it lost moment hopless) up now is = same_moment
 step_near : (h : SocketsView) (e : Event) (last : Moment) → h.kept.0 ≤ last.0 → IsUpTo last e → (x y : Entry) → IsStepOf h e x (Some y) → IsSoundRole x.role → IsNearIn last x.role → IsNearIn last y.role
 step_near h e last kept up x _ stays sound near = near
 step_near h e last kept up _ _ (moves ev id c l meets is) sound near = event_near last c ev sound.sound (told_by h last kept _ e ev meets up) near
-step_near h _ last kept up _ _ (opens now isn named peer routed id buffers bound local names) sound near = record { since = omega arith; unheard = from_then last (later_moment h now) (later_up_to h now last kept up); timers = none_near last; asked = omega arith }
+step_near h _ last kept up _ _ (opens now isn named peer routed id buffers bound local names) sound near = record { since = omega arith; unheard = from_then last (later_moment h now) (later_up_to h now last kept up); timers = none_near last; asked = omega arith; drawn = omega arith }
 step_near h _ last kept up _ _ (accepted named id c l next) sound near = near
 step_near h e last kept up _ _ _ sound near = tt
 
 joining_near : (h : SocketsView) (e : Event) (last : Moment) → h.kept.0 ≤ last.0 → IsUpTo last e → (x : Entry) → IsJoining h e x → IsNearIn last x.role
 joining_near h _ last kept up _ (made buffers) = tt
 joining_near h _ last kept up _ made_datagrams = tt
-joining_near h _ last kept up _ (called now isn source s listener call) = record { since = omega arith; unheard = from_then last (later_moment h now) (later_up_to h now last kept up); timers = none_near last; asked = omega arith }
+joining_near h _ last kept up _ (called now isn source s listener call) = record { since = omega arith; unheard = from_then last (later_moment h now) (later_up_to h now last kept up); timers = none_near last; asked = omega arith; drawn = omega arith }
 
 moment_up_to : (h : SocketsView) (e : Event) (last : Moment) → h.kept.0 ≤ last.0 → IsUpTo last e → (let w = after_event h e in w.kept.0 ≤ last.0)
 moment_up_to h e last before up = by_step (after_event h e) (stepped h e)
@@ -184,7 +216,7 @@ further last new later [] all = tt
 further last new later (x ∷ xs) all = (by_role x.role all.0, further last new later xs all.1)
   where
     by_role : (r : Role) → IsNearIn last r → IsNearIn new r
-    by_role (Connected c l) near = record { since = omega (arith, near.since, later); unheard = λ since is. omega (arith, near.unheard since is, later); timers = λ kind end set. omega (arith, near.timers kind end set, later); asked = omega (arith, near.asked, later) }
+    by_role (Connected c l) near = record { since = omega (arith, near.since, later); unheard = λ since is. omega (arith, near.unheard since is, later); timers = λ kind end set. omega (arith, near.timers kind end set, later); asked = omega (arith, near.asked, later); drawn = omega (arith, near.drawn, later) }
     by_role (Idle buffers bound) near = tt
     by_role (Listener local backlog) near = tt
     by_role (Datagrams bound queues) near = tt

@@ -5,6 +5,7 @@ use Rattle.ipv4.specs.declared.addr.Addr.{Addr}
 use Rattle.tcp_halves.specs.declared.buffers.Manner.{Manner}
 use Rattle.tcp_state.proofs.Timers.{stays_timed, opened_timed, accepted_timed}
 use Rattle.tcp_state.proofs.Congestion.{stays_kept, opened_kept, accepted_kept}
+use Rattle.sockets.specs.Arrival.{room_for}
 use Rattle.sockets.specs.declared.entry.Entry.{Entry}
 use Rattle.sockets.specs.Causes.{Event, Follows, after_event}
 use Rattle.sockets.specs.Sound.{IsSoundRole, IsSoundTable}
@@ -33,7 +34,8 @@ step_timed h e small _ _ (binds_datagrams id bound local before after takes) sou
 joining_timed : (h : SocketsView) (e : Event) → IsNumbered e → (x : Entry) → IsJoining h e x → KeepsTimeIn x.role
 joining_timed h _ small _ (made buffers) = tt
 joining_timed h _ small _ made_datagrams = tt
-joining_timed h _ small _ (called now isn source s listener call) = (accepted_timed _ _ _ isn s (later_moment h now) small, accepted_kept _ _ _ isn s (later_moment h now))
+joining_timed h _ small _ (called now isn source s listener call) =
+    (accepted_timed (room_for h s) _ _ isn s (later_moment h now) small, accepted_kept (room_for h s) _ _ isn s (later_moment h now))
 
 pub each_timed : (h : SocketsView) (e : Event) → IsSoundTable h → IsNumbered e → EachKeepsTime h → EachKeepsTime (after_event h e)
 each_timed h e sound small all = by_step (after_event h e) (stepped h e)

@@ -36,12 +36,13 @@ abbrev pub AreSound : SocketsView → List Event → Type 0
 AreSound h [] = Unit {0}
 AreSound h (e ∷ rest) = IsSoundTable h × IsNumbered e × AreSound (after_event h e) rest
 
--- a connection counts its wait, that for its hop and that for a silent peer from this moment at the latest, and each of its timers runs until a minute past it at the latest
+-- a connection counts its wait, that for its hop and that for a silent peer from this moment at the latest, and each of its timers runs until a minute past it at the latest; by then it drew what it did for segments that aren't used
 pub record IsNear (latest : Moment) (c : View) : Type 0 where
   pub since : c.since.0 ≤ latest.0
   pub unheard : (since : Moment) → c.unheard ≡ Some since → since.0 ≤ latest.0
   pub timers : (kind : TimerKind) (deadline : Moment) → deadline_of c.timers kind ≡ Some deadline → deadline.0 ≤ latest.0 + 60000
   pub asked : c.alive.since.0 ≤ latest.0
+  pub drawn : c.guard.latest.0 ≤ latest.0
 
 abbrev pub IsNearIn : Moment → Role → Type 0
 IsNearIn latest (Connected c listener) = IsNear latest c

@@ -85,6 +85,13 @@ impl Sockets {
         self.addr
     }
 
+    /// Whether the host is on its guard.
+    pub fn is_guarded(&self) -> bool
+        ensures { result ≡ self.now.manner.guards }
+    {
+        self.manner.guards
+    }
+
     /// The kept moment: the latest of those of the ticks so far.
     pub fn kept(&self) -> Moment
         ensures { result ≡ self.now.kept }

@@ -5,12 +5,11 @@ use Rattle.tcp_segment.specs.Wire.{past}
 use Rattle.tcp_segment.specs.Segment.{Segment}
 use Rattle.tcp_state.specs.declared.state.State.{State}
 use Rattle.tcp_state.specs.declared.state.State.TheVariants.{SynSent, SynReceived, Established, FinWait1, FinWait2, Closing, LastAck}
-use Rattle.tcp_halves.specs.Numbers.{is_before}
 use Rattle.tcp_state.specs.View.{View, IsSound, is_opening, is_syn_sent, is_syn_received, is_closed, is_write_closed, is_read_closed, is_write_finished, awaits_fin_ack}
 use Rattle.tcp_halves.specs.Halves.{Receiving as ReceivingHalf}
 use Rattle.tcp_halves.specs.Stream.{outstanding, is_new_ack, after_acknowledged, receive_window, after_octets, stands_next, after_end}
 use Rattle.tcp_halves.specs.Windows.{window_in, updates_window}
-use Rattle.tcp_state.specs.Arrival.{after_segment, is_simultaneous_syn, after_simultaneous_syn, after_syn_ack, is_right_syn_ack, is_of_fin, is_acceptable_to, after_acceptable_segment, after_acknowledging_segment, after_ack, is_read_on, after_window, after_text, owing_ack, after_establishment, ends_by_syn, fin_acknowledged, after_new_ack, beyond_fin, beyond_end, is_receiving, counts_fin, after_fin}
+use Rattle.tcp_state.specs.Arrival.{after_segment, is_simultaneous_syn, after_simultaneous_syn, after_syn_ack, is_right_syn_ack, is_of_fin, is_acceptable_to, after_acceptable_segment, after_acknowledging_segment, after_ack, is_read_on, after_window, after_text, owing_ack, after_establishment, ends_by_syn, fin_acknowledged, after_new_ack, beyond_fin, beyond_end, is_receiving, counts_fin, after_fin, is_off}
 use Rattle.stream_law.specs.Channel.{Channel, Sending, Open, Receiving, Waiting, Synchronised, IsAmong, IsRecent, number_of}
 use Rattle.stream_law.specs.ChannelSteps.{Step, nothing_kept}
 use Rattle.stream_law.specs.ChannelViews.{frame_of, Leads, stays, goes, sender_of, kept_at, receiver_of, receiving_of, SendsInto, ReceivesFrom, Follows, IsOfWidth, CameFrom}
@@ -255,7 +254,7 @@ arrives-ack cap limit v s c d sound fits past_syn ack into came =
       synchronised = past_syn;
       end_seen = refl;
     }))
-    (λ old. either P (is_before v.sending.nxt s.acknowledgement) (owing_ack v) v (λ beyond. owes) (λ within. same)))
+    (λ old. either P (is_off v s.acknowledgement) (owing_ack v) v (λ beyond. owes) (λ within. same)))
 
 -- the receiving side of a connection after octets or the FIN
 record Heard (cap limit : ℕ) (v w : View) (d : Channel) : Type 0 where

@@ -3,10 +3,9 @@ use Rattle.std.proofs.Common.{◌≡◌, ℕ, ◌+◌, ◌<◌, ◌||◌, ◌&&�
 use Rattle.tcp_segment.specs.Segment.{Segment}
 use Rattle.tcp_state.specs.declared.state.State.{State}
 use Rattle.tcp_state.specs.declared.state.State.TheVariants.{Established, FinWait1, FinWait2, Closing, LastAck}
-use Rattle.tcp_halves.specs.Numbers.{is_before}
 use Rattle.tcp_state.specs.View.{View, IsSound, is_closed, is_listening, is_syn_sent, is_syn_received}
 use Rattle.tcp_halves.specs.Stream.{is_new_ack}
-use Rattle.tcp_state.specs.Arrival.{after_segment, fate, is_simultaneous_syn, after_simultaneous_syn, after_syn_ack, is_right_syn_ack, is_of_fin, is_acceptable_to, after_acceptable_segment, after_acknowledging_segment, after_ack, is_read_on, after_window, after_text, after_fin, counts_fin, is_receiving, owing_ack, after_establishment, ends_by_syn, fin_acknowledged, after_new_ack, beyond_fin, beyond_end}
+use Rattle.tcp_state.specs.Arrival.{after_segment, fate, is_simultaneous_syn, after_simultaneous_syn, after_syn_ack, is_right_syn_ack, is_of_fin, is_acceptable_to, after_acceptable_segment, after_acknowledging_segment, after_ack, is_read_on, after_window, after_text, after_fin, counts_fin, is_receiving, owing_ack, after_establishment, ends_by_syn, fin_acknowledged, after_new_ack, beyond_fin, beyond_end, is_off}
 use Rattle.stream_law.specs.Channel.{Channel, IsAmong}
 use Rattle.stream_law.specs.ChannelViews.{CameFrom}
 use Rattle.stream_law.specs.Pairing.{Present, Emission, Pairing, IsTimely, remains}
@@ -49,7 +48,7 @@ unlistening v s l unreset =
         (λ received. either P (is_new_ack v.sending s.acknowledgement) (after_establishment v) v (λ new. refl) (λ old. l))
         (λ unreceived. either P (is_new_ack v.sending s.acknowledgement) _ _
         (λ new. either P (is_of_fin v s.acknowledgement) (fin_acknowledged (after_new_ack v s.acknowledgement)) (after_new_ack v s.acknowledgement) (λ fin. beyond v.state l) (λ octets. l))
-        (λ old. either P (is_before v.sending.nxt s.acknowledgement) (owing_ack v) v (λ beyond. l) (λ within. l)))
+        (λ old. either P (is_off v s.acknowledgement) (owing_ack v) v (λ beyond. l) (λ within. l)))
 
     with_end : (w : View) → is_listening w.state ≡ false → is_listening (after_fin (after_text w s) s).state ≡ false
     with_end w e =

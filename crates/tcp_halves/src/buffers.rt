@@ -32,6 +32,8 @@ pub struct Manner {
     pub control: Control,
     /// The least retransmission timeout, in milliseconds: 200 at least and a second at most (RFC 6298 section 2.4).
     pub least_timeout: u16,
+    /// Whether the host is on its guard: against senders that are no host (RFC 1122 section 3.2.1.3).
+    pub guards: bool,
 }
 
 /// The empty buffers of one connection, made before it opens, so that an open one takes no memory.

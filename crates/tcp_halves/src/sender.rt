@@ -233,6 +233,13 @@ impl Sender {
         self.window
     }
 
+    /// MAX.SND.WND, the largest window that the peer ever told, in octets.
+    pub fn max_window(&self) -> u32
+        ensures { result ≡ self.now.max_window }
+    {
+        self.max_window
+    }
+
     /// The octets that a segment takes at most.
     pub fn smss(&self) -> usize
         ensures { result ≡ self.now.smss }

@@ -1,14 +1,13 @@
 -- What an acknowledgement that is read, and the octets and the FIN behind it, leave owed.
-use Rattle.std.proofs.Common.{◌≡◌, ℕ, ◌+◌, ◌==◌, ◌||◌, ◌&&◌, not, nat_lt, nat_le, if◌then◌else◌, Bool, true, false, length, refl, sym, ◌∙◌, ap}
+use Rattle.std.proofs.Common.{◌≡◌, ℕ, ◌==◌, ◌||◌, ◌&&◌, not, nat_lt, if◌then◌else◌, Bool, true, false, length, refl, sym, ◌∙◌, ap}
 use Rattle.tcp_segment.specs.Segment.{Segment}
 use Rattle.stream_buf.specs.Receiving.{ranges}
 use Rattle.tcp_state.specs.declared.state.State.{State}
 use Rattle.tcp_state.specs.declared.state.State.TheVariants.{SynSent, SynReceived, Established, FinWait1, FinWait2}
-use Rattle.tcp_halves.specs.Numbers.{is_before}
-use Rattle.tcp_halves.specs.Stream.{outstanding, is_new_ack}
+use Rattle.tcp_halves.specs.Stream.{is_new_ack}
 use Rattle.tcp_state.specs.View.{View, is_opening, is_syn_sent, is_syn_received, is_closed}
-use Rattle.tcp_state.specs.Arrival.{owing_ack, after_establishment, is_of_fin, beyond_fin, fin_acknowledged, after_new_ack, after_ack, is_read_on, after_window, is_receiving, may_delay, after_text, beyond_end, counts_fin, after_fin, before}
-use Rattle.tcp_state.specs.Duties.{Places, may_bring, brings_text, hurries, draws}
+use Rattle.tcp_state.specs.Arrival.{owing_ack, after_establishment, is_of_fin, beyond_fin, fin_acknowledged, after_new_ack, is_off, after_ack, is_read_on, after_window, is_receiving, may_delay, after_text, beyond_end, counts_fin, after_fin, before}
+use Rattle.tcp_state.specs.Duties.{Places, is_out_of_reach, is_in_reach, may_bring, brings_text, hurries, draws}
 use Rattle.tcp_halves.proofs.Choices.{either, clash, and_right, or_right}
 use Rattle.tcp_state.proofs.Segments.{after_reading, ack_receives}
 use Rattle.tcp_state.proofs.Standing.{AckOrder}
@@ -62,17 +61,17 @@ not_on false false true e = (refl, λ is. refl)
 not_on false false false e = cc
 
 pub unused_answered : (at : Places) (v : View) (s : Segment) → is_syn_sent v.state ≡ false
-    → AckOrder (nat_lt (at.una + outstanding v.sending) at.ack) (nat_le at.ack (at.una + outstanding v.sending)) (nat_lt at.una at.ack) (is_new_ack v.sending s.acknowledgement) (is_before v.sending.nxt s.acknowledgement)
-    → draws at v s ≡ ((not (is_opening v.state) && nat_lt (at.una + outstanding v.sending) at.ack) || (nat_le at.ack (at.una + outstanding v.sending) && (not (is_syn_received v.state) || nat_lt at.una at.ack) && may_bring v.state && (s.flags.fin || hurries at v s)))
-    → (brings_text at v s && not (length s.octets == 0)) ≡ (nat_le at.ack (at.una + outstanding v.sending) && (not (is_syn_received v.state) || nat_lt at.una at.ack) && may_bring v.state && not (length s.octets == 0))
+    → AckOrder (is_out_of_reach at v) (is_in_reach at v) (nat_lt at.una at.ack) (is_new_ack v.sending s.acknowledgement) (is_off v s.acknowledgement)
+    → draws at v s ≡ ((not (is_opening v.state) && is_out_of_reach at v) || (is_in_reach at v && (not (is_syn_received v.state) || nat_lt at.una at.ack) && may_bring v.state && (s.flags.fin || hurries at v s)))
+    → (brings_text at v s && not (length s.octets == 0)) ≡ (is_in_reach at v && (not (is_syn_received v.state) || nat_lt at.una at.ack) && may_bring v.state && not (length s.octets == 0))
     → is_read_on v s.acknowledgement ≡ false → Answered at v s (after_ack v s.acknowledgement)
 unused_answered at v s past order d t off =
     let ack = s.acknowledgement in
-    let beyond = nat_lt (at.una + outstanding v.sending) at.ack in
-    let within = nat_le at.ack (at.una + outstanding v.sending) in
+    let beyond = is_out_of_reach at v in
+    let within = is_in_reach at v in
     let above = nat_lt at.una at.ack in
     let new = is_new_ack v.sending ack in
-    let told = not_on (is_syn_received v.state) new (is_before v.sending.nxt ack) off in
+    let told = not_on (is_syn_received v.state) new (is_off v ack) off in
     let P : View → Type 0 = Answered at v s in
     either View P (is_syn_received v.state) _ _
     (λ received. either View P new (after_establishment v) v
@@ -82,11 +81,11 @@ unused_answered at v s past order d t off =
     (t ∙ wrong_brings_none within (is_syn_received v.state) above (may_bring v.state) (not (length s.octets == 0)) new received order.fresh wrong)))
     (λ established. either View P new _ _
     (λ is. clash new is told.0)
-    (λ other. either View P (is_before v.sending.nxt ack) (owing_ack v) v
+    (λ other. either View P (is_off v ack) (owing_ack v) v
     (λ before. one_drawn at v s
-    (d ∙ ahead_is_one (is_opening v.state) beyond _ new (is_before v.sending.nxt ack) (past_opening_is v.state past established) order.ahead other before)
-    (t ∙ ahead_brings_none within (not (is_syn_received v.state) || above) (may_bring v.state) (not (length s.octets == 0)) new (is_before v.sending.nxt ack) order.sent other before))
-    (λ sent. clash (is_before v.sending.nxt ack) (told.1 established) sent)))
+    (d ∙ ahead_is_one (is_opening v.state) beyond _ new (is_off v ack) (past_opening_is v.state past established) order.ahead other before)
+    (t ∙ ahead_brings_none within (not (is_syn_received v.state) || above) (may_bring v.state) (not (length s.octets == 0)) new (is_off v ack) order.sent other before))
+    (λ sent. clash (is_off v ack) (told.1 established) sent)))
 
 -- One that is.
 
@@ -130,13 +129,13 @@ reached v ack on =
     either View P (is_syn_received v.state) _ _
     (λ received. either View P new (after_establishment v) v
     (λ is lives. record { owes = refl; delays = refl; receives = brings_received v.state received })
-    (λ wrong. clash new (on_new (is_syn_received v.state) new (is_before v.sending.nxt ack) on received) wrong))
+    (λ wrong. clash new (on_new (is_syn_received v.state) new (is_off v ack) on received) wrong))
     (λ established. either View P new _ _
     (λ is. either View P (is_of_fin v ack) (fin_acknowledged (after_new_ack v ack)) (after_new_ack v ack)
     (λ fin lives. record { owes = unclosed v.owes_ack (is_closed (beyond_fin v.state)) lives; delays = unclosed v.delays_ack (is_closed (beyond_fin v.state)) lives; receives = brings_beyond v.state established })
     (λ octets lives. record { owes = refl; delays = refl; receives = brings_open v.state established }))
-    (λ old. either View P (is_before v.sending.nxt ack) (owing_ack v) v
-    (λ before. clash (is_before v.sending.nxt ack) before (on_tells (is_syn_received v.state) new (is_before v.sending.nxt ack) on established old))
+    (λ old. either View P (is_off v ack) (owing_ack v) v
+    (λ before. clash (is_off v ack) before (on_tells (is_syn_received v.state) new (is_off v ack) on established old))
     (λ sent lives. record { owes = refl; delays = refl; receives = brings_open v.state established })))
 
 -- octets, by their tests
@@ -266,10 +265,10 @@ on_stands opening false beyond within above new before o opens on =
     last false = refl
 
 pub used_answered : (at : Places) (v : View) (s : Segment)
-    → AckOrder (nat_lt (at.una + outstanding v.sending) at.ack) (nat_le at.ack (at.una + outstanding v.sending)) (nat_lt at.una at.ack) (is_new_ack v.sending s.acknowledgement) (is_before v.sending.nxt s.acknowledgement)
+    → AckOrder (is_out_of_reach at v) (is_in_reach at v) (nat_lt at.una at.ack) (is_new_ack v.sending s.acknowledgement) (is_off v s.acknowledgement)
     → (at.first == at.next) ≡ (s.number == v.receiving.rnext)
-    → draws at v s ≡ ((not (is_opening v.state) && nat_lt (at.una + outstanding v.sending) at.ack) || (nat_le at.ack (at.una + outstanding v.sending) && (not (is_syn_received v.state) || nat_lt at.una at.ack) && may_bring v.state && (s.flags.fin || hurries at v s)))
-    → (brings_text at v s && not (length s.octets == 0)) ≡ (nat_le at.ack (at.una + outstanding v.sending) && (not (is_syn_received v.state) || nat_lt at.una at.ack) && may_bring v.state && not (length s.octets == 0))
+    → draws at v s ≡ ((not (is_opening v.state) && is_out_of_reach at v) || (is_in_reach at v && (not (is_syn_received v.state) || nat_lt at.una at.ack) && may_bring v.state && (s.flags.fin || hurries at v s)))
+    → (brings_text at v s && not (length s.octets == 0)) ≡ (is_in_reach at v && (not (is_syn_received v.state) || nat_lt at.una at.ack) && may_bring v.state && not (length s.octets == 0))
     → is_read_on v s.acknowledgement ≡ true → is_closed (after_reading v s).state ≡ false → Answered at v s (after_reading v s)
 used_answered at v s order same d t on lives =
     let told = after_window (after_ack v s.acknowledgement) s in
@@ -277,7 +276,7 @@ used_answered at v s order same d t on lives =
     let fin = fin_owes (after_text told s) s in
     let open_yet : is_closed (after_ack v s.acknowledgement).state ≡ false = ap is_closed (sym text.2) ∙ sym fin.2 ∙ lives in
     let r = reached v s.acknowledgement on open_yet in
-    let o = on_stands (is_opening v.state) (is_syn_received v.state) (nat_lt (at.una + outstanding v.sending) at.ack) (nat_le at.ack (at.una + outstanding v.sending)) (nat_lt at.una at.ack) (is_new_ack v.sending s.acknowledgement) (is_before v.sending.nxt s.acknowledgement)
+    let o = on_stands (is_opening v.state) (is_syn_received v.state) (is_out_of_reach at v) (is_in_reach at v) (nat_lt at.una at.ack) (is_new_ack v.sending s.acknowledgement) (is_off v s.acknowledgement)
     order (opening_received v.state) on in
     let none = length s.octets == 0 in
     let kept = ranges v.receiving.kept == 0 in
@@ -292,10 +291,10 @@ used_answered at v s order same d t on lives =
     record {
       owes = fin.0 ∙ (ap (λ b. b || (is_receiving (after_text told s).state && s.flags.fin)) texted
           ∙ (ap (λ b. v.owes_ack || (may_bring v.state && not none && (v.delays_ack || not (next && kept))) || (b && s.flags.fin)) receives
-          ∙ (joined_owes v.owes_ack (is_opening v.state) (nat_lt (at.una + outstanding v.sending) at.ack) (nat_le at.ack (at.una + outstanding v.sending)) (not (is_syn_received v.state) || nat_lt at.una at.ack) (may_bring v.state)
+          ∙ (joined_owes v.owes_ack (is_opening v.state) (is_out_of_reach at v) (is_in_reach at v) (not (is_syn_received v.state) || nat_lt at.una at.ack) (may_bring v.state)
           s.flags.fin none v.delays_ack next kept (at.first == at.next) o.none_ahead o.within_is o.right_is same
           ∙ sym (ap (λ b. v.owes_ack || b) d))));
       delays = fin.1 ∙ (text.1 ∙ (ap (λ b. b || (is_receiving told.state && not none)) r.delays ∙ (ap (λ b. v.delays_ack || (b && not none)) r.receives
-          ∙ (joined_delays v.delays_ack (nat_le at.ack (at.una + outstanding v.sending)) (not (is_syn_received v.state) || nat_lt at.una at.ack) (may_bring v.state) none o.within_is o.right_is
+          ∙ (joined_delays v.delays_ack (is_in_reach at v) (not (is_syn_received v.state) || nat_lt at.una at.ack) (may_bring v.state) none o.within_is o.right_is
           ∙ sym (ap (λ b. v.delays_ack || b) t)))));
     }

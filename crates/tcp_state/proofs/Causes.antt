@@ -7,13 +7,12 @@ use Rattle.tcp_state.specs.declared.calls.Refusal.TheVariants.{ECONNREFUSED}
 use Rattle.tcp_state.specs.declared.emission.Due.{Due}
 use Rattle.tcp_state.specs.declared.state.State.{State}
 use Rattle.tcp_state.specs.declared.state.State.TheVariants.{Closed, Established, FinWait1, FinWait2, Closing, LastAck}
-use Rattle.tcp_halves.specs.Numbers.{is_before}
 use Rattle.tcp_halves.specs.Stream.{is_new_ack}
 use Rattle.tcp_state.specs.View.{View, is_syn_sent, is_syn_received, is_closed, is_over, awaits_fin_ack, is_at_end, after_reset}
 use Rattle.tcp_state.specs.Alive.{after_silence}
 use Rattle.tcp_state.specs.Timing.{gives_up}
 use Rattle.tcp_state.specs.Calls.{beyond_shutdown, is_removed_by_close, is_aborted_by_close}
-use Rattle.tcp_state.specs.Arrival.{is_receiving, beyond_fin, beyond_end, is_of_fin, after_ack, is_read, after_window, after_text, after_fin, ends_by_syn, ends_by_reset, ends_opening, is_acting_reset, after_segment, is_lost, after_lost, after_heard, is_rejected}
+use Rattle.tcp_state.specs.Arrival.{is_receiving, beyond_fin, beyond_end, is_of_fin, is_off, after_ack, is_read, after_window, after_text, after_fin, ends_by_syn, ends_by_reset, ends_opening, is_acting_reset, after_segment, is_lost, after_lost, after_heard, is_rejected}
 use Rattle.tcp_state.specs.Due.{first_due}
 use Rattle.tcp_state.specs.Unreachable.{is_unreachable, after_unreachable}
 use Rattle.clock.specs.Moments.{has_come}
@@ -87,7 +86,7 @@ closed_by_segment v s lives =
     let acks : is_taken v s ≡ true → (last && new && fin) ≡ true → C = λ taken three.
     let two = and_left (last && new) fin three in
     let is_new = and_right last new two in
-    let read : is_read v s ≡ true = both (is_taken v s) _ taken (read_by_new (is_syn_received v.state) new (is_before v.sending.nxt s.acknowledgement) is_new) in
+    let read : is_read v s ≡ true = both (is_taken v s) _ taken (read_by_new (is_syn_received v.state) new (is_off v s.acknowledgement) is_new) in
     inr (both (last && is_read v s && new) fin (both (last && is_read v s) new (both last (is_read v s) (and_left last new two) read) is_new) (and_right (last && new) fin three)) in
     by_segment (λ w. is_closed w.state ≡ true → C) v s (record {
       dropped = none;

@@ -12,14 +12,15 @@ use Rattle.tcp_state.specs.declared.state.State.TheVariants.{FinWait2, TimeWait}
 use Rattle.tcp_state.specs.declared.timing.TheConstants.{OVERRIDE_WAIT}
 use Rattle.clock.specs.Moments.{has_come}
 use Rattle.tcp_state.specs.declared.arrival.Before.{Before}
+use Rattle.tcp_state.specs.declared.guard.Guard.{Guard}
 use Rattle.tcp_state.specs.declared.emission.Due.{Due}
 use Rattle.tcp_state.specs.declared.emission.Due.TheVariants.{Rst, Syn, Text, Probe, Ack, KeepAlive as Asks}
 use Rattle.tcp_state.specs.declared.emission.Stretch.{Stretch}
 use Rattle.tcp_halves.specs.Stream.{outstanding, after_sent}
 use Rattle.tcp_state.specs.View.{View, is_opening, is_syn_received, is_closed}
 use Rattle.tcp_state.specs.Resend.{Resend, mark_past, resend_probed, resend_acknowledged, resend_first, resend_lost, resend_ends, excused_by, gives_back}
-use Rattle.tcp_state.specs.Timing.{KeepsTime, probes, retransmits, awaits_more, running, retransmission_timer, probe_timer, delayed_ack_timer, override_timer, interval_of, awaits_first, unheard_since, clocked, retransmission_expired, probe_expired, after_expiry, delayed_ack_expired, override_expired, after_timers, after_expiries}
-use Rattle.tcp_state.specs.Arrival.{after_heard, is_rejected, begins_wait, answers_probe, is_counted_duplicate, blocks_told, before, since_after, is_moved, resend_heard, resend_told, told, reports_more, resend_after, congestion_event_of, is_partial, behind_ack, told_behind, ends_tail, whole_signal, acknowledged_signal, tells_loss, report_event, resend_counted, resend_signalled, congestion_after, timed_by, after_segment_at, report_signal, came_twice, is_since_loss, tells_needless, given_back, resend_left, congestion_left}
+use Rattle.tcp_state.specs.Timing.{KeepsTime, probes, retransmits, awaits_more, running, retransmission_timer, probe_timer, delayed_ack_timer, override_timer, interval_of, awaits_first, waiting_since, unheard_since, clocked, retransmission_expired, probe_expired, after_expiry, delayed_ack_expired, override_expired, after_timers, after_expiries}
+use Rattle.tcp_state.specs.Arrival.{is_opening_syn, is_held_back, answers_again, guarded, after_heard, is_rejected, begins_wait, answers_probe, is_counted_duplicate, blocks_told, before, since_after, is_moved, resend_heard, resend_told, told, reports_more, resend_after, congestion_event_of, is_partial, behind_ack, told_behind, ends_tail, whole_signal, acknowledged_signal, tells_loss, report_event, resend_counted, resend_signalled, congestion_after, timed_by, after_segment_at, report_signal, came_twice, is_since_loss, tells_needless, given_back, resend_left, congestion_left}
 use Rattle.tcp_state.specs.Due.{probe_stretch, end_of, after_syn_ack_paid, after_resent, after_first_sent, after_numbers, after_new_octets, after_new_text, brings_new_octets, after_syn_again, after_syn_out, after_stretch, after_probe, after_going_out, after_emitted}
 use Rattle.tcp_state.specs.Edges.{after_first}
 use Rattle.tcp_state.specs.Congestion.{Signal, after_signal}
@@ -29,9 +30,12 @@ use Rattle.congestion.specs.Window.{Window, third_is_next, is_recovering}
 use Rattle.congestion.specs.Events.{Event, after_event}
 use Rattle.congestion.specs.Events.Event.{NewAck, PartialAck, Duplicate, Loss}
 use Rattle.stream_buf.specs.Ranges.{covered}
-use Rattle.tcp_state.specs.Selective.{selects, with_blocks}
-use Rattle.tcp_halves.proofs.Choices.{either, clash, and_false}
+use Rattle.tcp_state.specs.Selective.{selects, with_blocks, allowance}
+use Rattle.tcp_halves.specs.Windows.{waits_for_more}
+use Rattle.tcp_state.specs.New.{waits_no_longer, sends_new, sends_fin}
+use Rattle.tcp_halves.proofs.Choices.{either, clash, and_left, and_right, and_false}
 use Rattle.tcp_state.proofs.Segments.{by_clock}
+use Rattle.tcp_state.proofs.Guarded.{opening_syn_opens}
 use Rattle.tcp_state.proofs.Awaited.{waits_on}
 
 -- Timers.
@@ -158,30 +162,50 @@ owed_still true probing e = e refl
 owed_still false probing e = refl
 
 -- the parts of the retransmission state and the timers, one by one
-parts : (v : View) (owes : Bool) (since : Moment) (alive : KeepAlive) (interval : ℕ) (probe : Bool) (resending probing ack overriding unheard : Option Moment) → interval ≡ v.resend.interval → probe ≡ v.resend.owes_probe
-    → resending ≡ v.timers.retransmission → probing ≡ v.timers.probe → overriding ≡ v.timers.overriding → unheard ≡ v.unheard
+parts : (v : View) (owes : Bool) (since : Moment) (alive : KeepAlive) (guard : Guard) (mark : Option ℕ) (interval : ℕ) (probe : Bool) (resending probing ack overriding unheard : Option Moment)
+    → interval ≡ v.resend.interval → probe ≡ v.resend.owes_probe → resending ≡ v.timers.retransmission → probing ≡ v.timers.probe → overriding ≡ v.timers.overriding → unheard ≡ v.unheard
     → record v {
       owes_ack = owes;
       since = since;
-      resend = record v.resend { interval = interval; owes_probe = probe };
+      resend = record v.resend { mark = mark; interval = interval; owes_probe = probe };
       timers = record { retransmission = resending; probe = probing; delayed_ack = ack; overriding = overriding };
       unheard = unheard;
       alive = alive;
-    } ≡ record v { owes_ack = owes; since = since; timers = record v.timers { delayed_ack = ack }; alive = alive }
-parts v owes since alive interval probe resending probing ack overriding unheard a b c d e f = rw a (rw b (rw c (rw d (rw e (rw f refl)))))
+      guard = guard;
+    } ≡ record v { owes_ack = owes; since = since; resend = record v.resend { mark = mark }; timers = record v.timers { delayed_ack = ack }; alive = alive; guard = guard }
+parts v owes since alive guard mark interval probe resending probing ack overriding unheard a b c d e f = rw a (rw b (rw c (rw d (rw e (rw f refl)))))
+
+-- what goes out again stays, or the connection opens, where no new octets wait and our SYN is all that may be due
+abbrev pub Marked : View → Option ℕ → Type 0
+Marked v mark = (mark ≡ v.resend.mark) ⊎ (is_opening v.state ≡ true)
+
+marked_waits : (v : View) (mark : Option ℕ) → Marked v mark → (let w : View = record v { resend = record v.resend { mark = mark } } in (awaits_more w ≡ awaits_more v) × (awaits_first w ≡ awaits_first v))
+marked_waits v mark (inl same) =
+    let P : Option ℕ → Type 0 = λ m. (let w : View = record v { resend = record v.resend { mark = m } } in (awaits_more w ≡ awaits_more v) × (awaits_first w ≡ awaits_first v)) in
+    subst P (sym same) (refl, refl)
+marked_waits v mark (inr opens) =
+    let w : View = record v { resend = record v.resend { mark = mark } } in
+    (none_more w opens ∙ sym (none_more v opens), at_first w opens ∙ sym (at_first v opens))
+  where
+    none_more : (x : View) → is_opening x.state ≡ true → awaits_more x ≡ false
+    none_more x e = ap (λ o. not o && waits_for_more x.sending (allowance x) (waits_no_longer x)) e
+
+    at_first : (x : View) → is_opening x.state ≡ true → awaits_first x ≡ ((outstanding x.sending == 0) && true)
+    at_first x e = ap (λ o. (outstanding x.sending == 0) && (o || sends_new x || sends_fin x || (x.resend.owes_probe && probes x))) e
 
 -- an acknowledgement that is owed ends the wait of one that is delayed, and leaves the other timers as they run
-pub settles : (v : View) (owes : Bool) (since : Moment) (alive : KeepAlive) (now : Moment) → KeepsTime v
-    → (let w = record v { owes_ack = owes; since = since; alive = alive } in clocked false w now ≡ record w { timers = record v.timers { delayed_ack = delayed_ack_timer w now } })
-settles v owes since alive now keeps =
-    let w = record v { owes_ack = owes; since = since; alive = alive } in
-    parts v owes since alive (interval_of v) (v.resend.owes_probe && probes v) (retransmission_timer v false now) (probe_timer v now) (delayed_ack_timer w now) (override_timer v now) (unheard_since v now)
+settles : (v : View) (owes : Bool) (since : Moment) (alive : KeepAlive) (guard : Guard) (mark : Option ℕ) (now : Moment) → KeepsTime v → Marked v mark
+    → (let w = record v { owes_ack = owes; since = since; resend = record v.resend { mark = mark }; alive = alive; guard = guard } in clocked false w now ≡ record w { timers = record v.timers { delayed_ack = delayed_ack_timer w now } })
+settles v owes since alive guard mark now keeps marked =
+    let w = record v { owes_ack = owes; since = since; resend = record v.resend { mark = mark }; alive = alive; guard = guard } in
+    let waits = marked_waits v mark marked in
+    parts v owes since alive guard mark (interval_of v) (v.resend.owes_probe && probes v) (retransmission_timer v false now) (probe_timer v now) (delayed_ack_timer w now) (override_timer w now) (unheard_since w now)
     (interval_stays (probes v) (is_some v.timers.probe) v.resend.interval v.resend.timeout.rto keeps.probe keeps.interval)
     (owed_still v.resend.owes_probe (probes v) keeps.owed)
     (runs_on (retransmits v) v.timers.retransmission now v.resend.timeout.rto keeps.retransmission)
     (runs_on (probes v) v.timers.probe now v.resend.timeout.rto keeps.probe)
-    (goes_on (awaits_more v) v.timers.overriding now OVERRIDE_WAIT keeps.overriding)
-    (waits_on (awaits_first v) v.unheard now keeps.unheard)
+    (ap (λ b. if b then running v.timers.overriding now OVERRIDE_WAIT else v.timers.overriding) waits.0 ∙ goes_on (awaits_more v) v.timers.overriding now OVERRIDE_WAIT keeps.overriding)
+    (ap (λ b. if b then Some (waiting_since v.unheard now) else None) waits.1 ∙ waits_on (awaits_first v) v.unheard now keeps.unheard)
 
 -- Segments.
 
@@ -327,9 +351,16 @@ probes_kept b w now =
 abbrev pub Owing : View → View → Type 0
 Owing v w = w ≡ record v { owes_ack = w.owes_ack }
 
--- .. and at its moment nothing but that, the acknowledgement that is delayed, the moment from which a wait is counted, and that its peer was heard
+-- .. and at its moment nothing but that, the acknowledgement that is delayed, the moment from which a wait is counted, and that its peer was heard; on guard what is kept for that, and what goes out again
 abbrev pub OwingAt : View → View → Type 0
-OwingAt v w = w ≡ record v { owes_ack = w.owes_ack; since = w.since; timers = record v.timers { delayed_ack = w.timers.delayed_ack }; alive = w.alive }
+OwingAt v w = w ≡ record v {
+  owes_ack = w.owes_ack;
+  since = w.since;
+  resend = record v.resend { mark = w.resend.mark };
+  timers = record v.timers { delayed_ack = w.timers.delayed_ack };
+  alive = w.alive;
+  guard = w.guard;
+}
 
 -- no acknowledgement moved SND.UNA
 pub unmoved : (v : View) → not (v.sending.una == v.sending.una) ≡ false
@@ -342,7 +373,7 @@ silent_needed v s silent = ap (λ bs. came_twice s.acknowledgement bs && is_sinc
 
 -- a segment that acknowledges nothing new, reports nothing, does not answer a probe, and is no duplicate ACK changes no timer by itself
 pub timed_unmoved : (b : Before) (w : View) (now : Moment) → is_moved b w ≡ false → b.answers_probe ≡ false → b.is_duplicate ≡ false → b.blocks ≡ [] → b.needless ≡ false
-    → timed_by b w now ≡ clocked false (record w { since = since_after b w now; alive = heard_now w.alive now }) now
+    → timed_by b w now ≡ clocked false (guarded b (record w { since = since_after b w now; alive = heard_now w.alive now }) now) now
 timed_unmoved b w now same quiet first silent needed =
     let since = since_after b w now in
     let alive = heard_now w.alive now in
@@ -351,21 +382,37 @@ timed_unmoved b w now same quiet first silent needed =
     ∙ (ap (λ t. if t then resend_acknowledged w.resend w.sending.una (is_opening b.state) now else if b.answers_probe then record w.resend { expiries = 0 } else w.resend) same
     ∙ ap (λ t. if t then record w.resend { expiries = 0 } else w.resend) quiet) in
     let congestion : congestion_left b w now ≡ w.congestion = ap (λ t. given_back (gives_back t (resend_left b w now)) (congestion_after b w)) needed ∙ ap (λ e. after_signal w.congestion e w.sending.smss w.resend.syn_resent) (event_none b w same first silent) in
-    ap (λ t. clocked t (record w { since = since; resend = resend_left b w now; congestion = congestion_left b w now; alive = alive }) now) same
-    ∙ (ap (λ (p : Resend). clocked false (record w { since = since; resend = p; congestion = congestion_left b w now; alive = alive }) now) resend
-    ∙ ap (λ (c : Window). clocked false (record w { since = since; congestion = c; alive = alive }) now) congestion)
+    ap (λ t. clocked t (guarded b (record w { since = since; resend = resend_left b w now; congestion = congestion_left b w now; alive = alive }) now) now) same
+    ∙ (ap (λ (p : Resend). clocked false (guarded b (record w { since = since; resend = p; congestion = congestion_left b w now; alive = alive }) now) now) resend
+    ∙ ap (λ (c : Window). clocked false (guarded b (record w { since = since; congestion = c; alive = alive }) now) now) congestion)
 
 timed_owing : (v : View) (s : Segment) (owes : Bool) (now : Moment) → KeepsTime v → answers_probe v s ≡ false → is_counted_duplicate v s ≡ false → blocks_told v s ≡ []
     → OwingAt v (timed_by (before v s) (record v { owes_ack = owes }) now)
 timed_owing v s owes now keeps quiet first silent =
+    let b = before v s in
     let w = record v { owes_ack = owes } in
-    subst (λ x. OwingAt v x) (sym (timed_unmoved (before v s) w now (unmoved v) quiet first silent (silent_needed v s silent))) (settles v owes (since_after (before v s) w now) (heard_now v.alive now) now keeps)
+    let x = guarded b (record w { since = since_after b w now; alive = heard_now v.alive now }) now in
+    subst (λ y. OwingAt v y) (sym (timed_unmoved b w now (unmoved v) quiet first silent (silent_needed v s silent))) (settles v x.owes_ack x.since x.alive x.guard x.resend.mark now keeps
+    (either (Option ℕ) (Marked v) (answers_again b w now) (mark_past 0 (outstanding v.sending)) v.resend.mark
+    (λ again. inr (opening_syn_opens v s (and_right v.guard.on (is_opening_syn v s) (and_left b.asks_again _ again))))
+    (λ none. inl refl)))
 
 -- a segment that draws an acknowledgement, or nothing, and reports nothing
 pub owing_timed : (v : View) (s : Segment) (now : Moment) → KeepsTime v → answers_probe v s ≡ false → is_counted_duplicate v s ≡ false → blocks_told v s ≡ [] → Owing v (after_heard v s) → OwingAt v (after_segment_at v s now)
 owing_timed v s now keeps quiet first silent same =
     by_clock (OwingAt v) v s now refl
     (λ heard. subst (λ w. OwingAt v (timed_by (before v s) w now)) (sym same) (timed_owing v s (after_heard v s).owes_ack now keeps quiet first silent))
+
+-- what goes out again stays, but where its SYN comes again on guard
+pub owing_marks : (v : View) (s : Segment) (now : Moment) → answers_probe v s ≡ false → is_counted_duplicate v s ≡ false → blocks_told v s ≡ [] → Owing v (after_heard v s) → (v.guard.on && is_opening_syn v s) ≡ false
+    → (after_segment_at v s now).resend.mark ≡ v.resend.mark
+owing_marks v s now quiet first silent same plain =
+    let b = before v s in
+    let w = record v { owes_ack = (after_heard v s).owes_ack } in
+    by_clock (λ x. x.resend.mark ≡ v.resend.mark) v s now refl
+    (λ heard. subst (λ x. (timed_by b x now).resend.mark ≡ v.resend.mark) (sym same)
+    (ap (λ (x : View). x.resend.mark) (timed_unmoved b w now (unmoved v) quiet first silent (silent_needed v s silent))
+    ∙ ap (λ again. if again && not (is_held_back b w now) then mark_past 0 (outstanding v.sending) else v.resend.mark) plain))
 
 -- nothing goes out again where nothing is outstanding
 pub unmarked_after : (b : Before) (w : View) (now : Moment) → w.resend.mark ≡ None → outstanding w.sending ≡ 0 → (resend_after b w now).mark ≡ None

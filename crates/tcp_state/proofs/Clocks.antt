@@ -15,8 +15,8 @@ use Rattle.tcp_state.specs.Resend.{Resend, stopped, resend_acknowledged}
 use Rattle.tcp_state.specs.View.{View, is_opening, is_syn_sent, is_syn_received, is_closed, is_fin_wait_2}
 use Rattle.tcp_state.specs.Timing.{probes, retransmits, awaits_more, running, clocked, expires, retransmission_expired, probe_expired, after_expiry, delayed_ack_expired, after_timers}
 use Rattle.tcp_state.specs.Calls.{told_nodelay, latest, aborted_at}
-use Rattle.tcp_state.specs.Alive.{heard_now, after_silence}
-use Rattle.tcp_state.specs.Arrival.{after_heard, acknowledges_unsent, is_rejected, is_acceptable_to, answers_probe, timed_by, before, since_after, is_moved, resend_heard, resend_after, resend_left, congestion_left}
+use Rattle.tcp_state.specs.Alive.{after_silence}
+use Rattle.tcp_state.specs.Arrival.{after_heard, acknowledges_unsent, is_rejected, is_acceptable_to, answers_probe, timed_by, before, is_moved, resend_heard, resend_after, noted_by}
 use Rattle.tcp_state.specs.Due.{first_due, after_going_out}
 use Rattle.tcp_state.specs.Edges.{Event, Hears, Ticks, Emits, Sends, Receives, Shuts, SetsNoDelay, Closes, Unreachable, LosesHop, moment_of, after_first, after_event}
 use Rattle.tcp_halves.proofs.Choices.{either, clash, and_left, and_right, both, or_left, or_right, not_true, of_false}
@@ -186,7 +186,7 @@ closed_window v s e =
     eqb-true v.sending.window 0 (and_right one (v.sending.window == 0) (and_left two (is_acceptable_to v s) (and_left three s.flags.ack (and_left four (not s.flags.rst) e))))
 
 heard_unset : (v : View) (s : Segment) (now : Moment)
-    → (let b = before v s in let w = after_heard v s in Unset v (Hears s now) (record w { since = since_after b w now; resend = resend_left b w now; congestion = congestion_left b w now; alive = heard_now w.alive now }))
+    → (let b = before v s in let w = after_heard v s in Unset v (Hears s now) (noted_by b w now))
 heard_unset v s now =
     let b = before v s in
     let w = after_heard v s in
@@ -327,7 +327,7 @@ clocks v = by_event (Clocks v) v (record {
   asks = λ e alive. stays v (record v { alive = alive }) e refl refl refl refl;
   silent = λ now. stays v (after_silence v now) (Ticks now) refl refl refl refl;
   heard = λ s now lives. let b = before v s in let w = after_heard v s in
-      sets v (record w { since = since_after b w now; resend = resend_left b w now; congestion = congestion_left b w now; alive = heard_now w.alive now }) (Hears s now) (is_moved b w) now refl
+      sets v (noted_by b w now) (Hears s now) (is_moved b w) now refl
       (λ moves. apart v.sending.una w.sending.una moves) (heard_unset v s now);
   over = λ now ends. stops v _ (Ticks now) refl refl refl;
   given_up = λ now waits expired. stops v _ (Ticks now) refl refl refl;
@@ -394,7 +394,7 @@ restarts v s now = by_clock (λ w. w.sending.una ≢ v.sending.una → 0 < outst
     (λ lives moves some unprobed.
     let b = before v s in
     let w = after_heard v s in
-    let x = record w { since = since_after b w now; resend = resend_left b w now; congestion = congestion_left b w now; alive = heard_now w.alive now } in
+    let x = noted_by b w now in
     let moved : is_moved b w ≡ true = of_false (v.sending.una == w.sending.una) (apart_test v.sending.una w.sending.una moves) in
     let runs : retransmits x ≡ true = both (nat_lt 0 (outstanding x.sending)) (not (probes x)) (lt-ltb 0 (outstanding x.sending) some) (of_false (probes x) unprobed) in
     anew (retransmits x) (is_moved b w) x.timers.retransmission now x.resend.timeout.rto runs moved)

@@ -1,10 +1,9 @@
 -- What the flags of a segment leave of what draws an acknowledgement, and what answers it.
-use Rattle.std.proofs.Common.{◌≡◌, ◌+◌, ◌==◌, ◌||◌, ◌&&◌, not, nat_lt, nat_le, Bool, true, false, length, refl, ap}
+use Rattle.std.proofs.Common.{◌≡◌, ◌==◌, ◌||◌, ◌&&◌, not, nat_lt, Bool, true, false, length, refl, ap}
 use Rattle.tcp_segment.specs.Segment.{Segment}
-use Rattle.tcp_halves.specs.Stream.{outstanding}
 use Rattle.tcp_state.specs.View.{View, is_syn_received}
 use Rattle.tcp_state.specs.Arrival.{owing_ack, is_acceptable_to}
-use Rattle.tcp_state.specs.Duties.{Places, acknowledges, may_bring, brings_text, draws}
+use Rattle.tcp_state.specs.Duties.{Places, acknowledges, is_in_reach, may_bring, brings_text, draws}
 
 -- all that draws one, by its tests
 abbrev pub drawn : (rst accepted syn ack behind below bars opening beyond within right may last : Bool) → Bool
@@ -112,4 +111,4 @@ one_drawn at v s one quiet = record { owes = with_it v.owes_ack (draws at v s) o
 -- no text is brought where nothing is acknowledged
 pub quiet : (at : Places) (v : View) (s : Segment) → acknowledges v s ≡ false → (brings_text at v s && not (length s.octets == 0)) ≡ false
 quiet at v s none =
-    unheard s.flags.rst (is_acceptable_to v s) s.flags.syn s.flags.ack (nat_le at.ack (at.una + outstanding v.sending)) (not (is_syn_received v.state) || nat_lt at.una at.ack) (may_bring v.state) (not (length s.octets == 0)) none
+    unheard s.flags.rst (is_acceptable_to v s) s.flags.syn s.flags.ack (is_in_reach at v) (not (is_syn_received v.state) || nat_lt at.una at.ack) (may_bring v.state) (not (length s.octets == 0)) none

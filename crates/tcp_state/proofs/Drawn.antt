@@ -1,14 +1,17 @@
 -- Why a segment draws an acknowledgement exactly where it asks for one, and delays one exactly from octets on.
-use Rattle.std.proofs.Common.{◌≡◌, ◌+◌, ◌==◌, ◌||◌, ◌&&◌, not, nat_lt, nat_le, if◌then◌else◌, Bool, true, false, length, inl, inr, refl, ◌∙◌, ap, subst}
+use Rattle.std.proofs.Common.{◌≡◌, ◌+◌, ◌==◌, ◌||◌, ◌&&◌, ◌%◌, ◌^◌, not, nat_lt, if◌then◌else◌, Bool, true, false, length, inl, inr, refl, sym, ◌∙◌, ap, ap₂, subst}
 use Rattle.tcp_segment.specs.Segment.{Segment, span_of}
 use Rattle.clock.specs.declared.moment.Moment.{Moment}
-use Rattle.tcp_halves.specs.Stream.{outstanding, is_in_window}
+use Rattle.tcp_halves.specs.Stream.{is_in_window}
 use Rattle.tcp_state.specs.View.{View, IsSound, is_opening, is_syn_sent, is_syn_received, is_closed, after_reset}
-use Rattle.tcp_state.specs.Arrival.{owing_ack, reset_error, after_rst_in_syn_sent, after_rst, is_simultaneous_syn, after_simultaneous_syn, after_syn_ack, is_acceptable_to, ends_by_syn, is_acting_reset, ends_by_reset, after_ack, is_read_on, after_acknowledging_segment, after_acceptable_segment, after_segment, is_lost, after_lost, after_heard, is_rejected, before, timed_by, after_segment_at}
-use Rattle.tcp_state.specs.Duties.{Places, StandsAt, may_bring, brings_text, hurries, draws}
-use Rattle.tcp_halves.proofs.Choices.{either, clash, and_right, or_else}
+use Rattle.tcp_state.specs.Arrival.{owing_ack, reset_error, after_rst_in_syn_sent, after_rst, is_simultaneous_syn, after_simultaneous_syn, after_syn_ack, is_acceptable_to, ends_by_syn, is_acting_reset, ends_by_reset, after_ack, is_read_on, after_acknowledging_segment, after_acceptable_segment, after_segment, is_lost, after_lost, after_heard, is_rejected, is_unused, draws_one, is_opening_syn, is_silenced, is_held_back, before, timed_by, after_segment_at}
+use Rattle.tcp_state.specs.Guard.{is_spent}
+use Rattle.tcp_state.specs.Duties.{Places, StandsAt, is_out_of_reach, is_in_reach, may_bring, brings_text, hurries, draws}
+use Rattle.tcp_halves.proofs.Choices.{either, clash, and_right, and_false, or_else}
 use Rattle.tcp_state.proofs.Segments.{after_reading}
-use Rattle.tcp_state.proofs.Unchanged.{unsent, unsent_leaves}
+use Rattle.tcp_state.proofs.Unchanged.{IsUnsent, unsent, unsent_leaves}
+use Rattle.tcp_state.proofs.Guarded.{heard_guard}
+use Rattle.tcp_state.proofs.Unused.{unsent_used}
 use Rattle.tcp_state.proofs.Standing.{inside_accepted, ack_stands, number_stands}
 use Rattle.tcp_state.proofs.DrawTests.{by_rst, refused, by_syn, no_ack_drawn, by_ack_drawn, by_ack_brought, rst_says_none, refused_says_none, syn_says_none, no_ack_says_none, Answered, none_drawn, one_drawn, quiet}
 use Rattle.tcp_state.proofs.AckAnswers.{unused_answered, used_answered}
@@ -44,8 +47,8 @@ rst_answered at v s stands rst =
     let inside = is_in_window v.receiving s.number in
     let next = s.number == v.receiving.rnext in
     let d : draws at v s ≡ (inside && not next) =
-    by_rst s.flags.rst accepted s.flags.syn s.flags.ack (nat_lt at.next at.first) (nat_lt at.first at.edge) (v.passive && is_syn_received v.state) (is_opening v.state) (nat_lt (at.una + outstanding v.sending) at.ack)
-    (nat_le at.ack (at.una + outstanding v.sending)) (not (is_syn_received v.state) || nat_lt at.una at.ack) (may_bring v.state) (s.flags.fin || hurries at v s) rst ∙ n.challenged in
+    by_rst s.flags.rst accepted s.flags.syn s.flags.ack (nat_lt at.next at.first) (nat_lt at.first at.edge) (v.passive && is_syn_received v.state) (is_opening v.state) (is_out_of_reach at v)
+    (is_in_reach at v) (not (is_syn_received v.state) || nat_lt at.una at.ack) (may_bring v.state) (s.flags.fin || hurries at v s) rst ∙ n.challenged in
     let q = quiet at v s (rst_says_none s.flags.rst accepted s.flags.syn s.flags.ack rst) in
     let P : View → Type 0 = λ w. is_closed w.state ≡ false → Answered at v s w in
     either View P (is_acting_reset v s) (if ends_by_reset v s then v else after_reset v (reset_error v.state)) (if inside then owing_ack v else v)
@@ -64,8 +67,8 @@ accepted_answered at v s sound past stands no_rst accepted =
     let bars = v.passive && is_syn_received v.state in
     let last = s.flags.fin || hurries at v s in
     let right = not (is_syn_received v.state) || nat_lt at.una at.ack in
-    let within = nat_le at.ack (at.una + outstanding v.sending) in
-    let beyond = nat_lt (at.una + outstanding v.sending) at.ack in
+    let within = is_in_reach at v in
+    let beyond = is_out_of_reach at v in
     let says = is_acceptable_to v s in
     either View P s.flags.syn (if ends_by_syn v s then v else owing_ack v) (if s.flags.ack then after_acknowledging_segment v s else v)
     (λ syn.
@@ -105,8 +108,8 @@ segment_answered at v s sound past stands =
     (λ past_it. either View P (is_acceptable_to v s) (after_acceptable_segment v s) (owing_ack v)
     (λ accepted. accepted_answered at v s sound past stands no_rst accepted)
     (λ refuses lives. one_drawn at v s
-    (refused s.flags.rst (is_acceptable_to v s) s.flags.syn s.flags.ack (nat_lt at.next at.first) (nat_lt at.first at.edge) (v.passive && is_syn_received v.state) (is_opening v.state) (nat_lt (at.una + outstanding v.sending) at.ack)
-    (nat_le at.ack (at.una + outstanding v.sending)) (not (is_syn_received v.state) || nat_lt at.una at.ack) (may_bring v.state) (s.flags.fin || hurries at v s) no_rst refuses)
+    (refused s.flags.rst (is_acceptable_to v s) s.flags.syn s.flags.ack (nat_lt at.next at.first) (nat_lt at.first at.edge) (v.passive && is_syn_received v.state) (is_opening v.state) (is_out_of_reach at v)
+    (is_in_reach at v) (not (is_syn_received v.state) || nat_lt at.una at.ack) (may_bring v.state) (s.flags.fin || hurries at v s) no_rst refuses)
     (quiet at v s (refused_says_none s.flags.rst (is_acceptable_to v s) s.flags.syn s.flags.ack refuses))))))
 
 -- With the clock.
@@ -115,21 +118,58 @@ heard_answered : (at : Places) (v : View) (s : Segment) → IsSound v → is_syn
 heard_answered at v s sound past stands =
     either View (λ w. is_closed w.state ≡ false → Answered at v s w) (is_lost v s) (after_lost v s) (after_segment v s) (λ lost closed. let bad : true ≡ false = closed in cc) (λ kept. segment_answered at v s sound past stands)
 
-answered : (at : Places) (v : View) (s : Segment) (now : Moment) → IsSound v → is_syn_sent v.state ≡ false → StandsAt at v s → is_closed (after_segment_at v s now).state ≡ false → Answered at v s (after_segment_at v s now)
+-- What is owed at its moment: on guard it may be held back, or our SYN goes out again in its place.
+
+-- a segment that is rejected draws none
+unsent_draws : (v : View) (s : Segment) (now : Moment) → is_syn_sent v.state ≡ false → IsUnsent v s → is_silenced v s now ≡ false
+unsent_draws v s now past u =
+    let r = u.received past in
+    let one = v.guard.on && not v.owes_ack && not (is_syn_sent v.state) in
+    let silent : draws_one v s ≡ false = ap (λ b. one && b) (unsent_used v s past u) ∙ and_false one in
+    let again : is_opening_syn v s ≡ false =
+    ap (λ b. v.passive && is_syn_received v.state && b && not s.flags.ack && not s.flags.rst && not (is_acceptable_to v s) && ((s.number + 1) % 2 ^ 32 == v.receiving.rnext)) r.2
+    ∙ ap (λ b. b && not s.flags.ack && not s.flags.rst && not (is_acceptable_to v s) && ((s.number + 1) % 2 ^ 32 == v.receiving.rnext)) (and_false (v.passive && is_syn_received v.state)) in
+    ap₂ (λ a b. (a && is_spent v.guard now) || b) silent (ap (λ b. v.guard.on && b) again ∙ and_false v.guard.on)
+
+kept_or_none : (silent owes : Bool) → (if silent then false else owes) ≡ (owes && not silent)
+kept_or_none true owes = sym (and_false owes)
+kept_or_none false true = refl
+kept_or_none false false = refl
+
+abbrev AnsweredAt : Places → View → Segment → Moment → View → Type 0
+AnsweredAt at v s now w = (w.owes_ack ≡ ((v.owes_ack || draws at v s) && not (is_silenced v s now))) × (w.delays_ack ≡ (v.delays_ack || (brings_text at v s && not (length s.octets == 0))))
+
+answered : (at : Places) (v : View) (s : Segment) (now : Moment) → IsSound v → is_syn_sent v.state ≡ false → StandsAt at v s → is_closed (after_segment_at v s now).state ≡ false → AnsweredAt at v s now (after_segment_at v s now)
 answered at v s now sound past stands =
-    either View (λ w. is_closed w.state ≡ false → Answered at v s w) (is_closed v.state || is_rejected v s) v (timed_by (before v s) (after_heard v s) now)
+    let b = before v s in
+    let w = after_heard v s in
+    let silent = is_silenced v s now in
+    either View (λ x. is_closed x.state ≡ false → AnsweredAt at v s now x) (is_closed v.state || is_rejected v s) v (timed_by b w now)
     (λ unheard lives. elim (or_else (is_closed v.state) (is_rejected v s) unheard) [
       | inl closed ↦ clash (is_closed v.state) closed lives
       | inr rejected ↦
-          let same : after_segment v s ≡ v = unsent_leaves v s (unsent v s rejected) in
-          subst (Answered at v s) same (segment_answered at v s sound past stands (ap (λ (w : View). is_closed w.state) same ∙ lives))
+          let u = unsent v s rejected in
+          let same : after_segment v s ≡ v = unsent_leaves v s u in
+          let a = subst (Answered at v s) same (segment_answered at v s sound past stands (ap (λ (x : View). is_closed x.state) same ∙ lives)) in
+          (a.owes ∙ (kept_or_none false (v.owes_ack || draws at v s) ∙ ap (λ b. (v.owes_ack || draws at v s) && not b) (sym (unsent_draws v s now past u))), a.delays)
     ])
-    (λ heard lives. let a = heard_answered at v s sound past stands lives in record { owes = a.owes; delays = a.delays })
+    (λ heard lives.
+    let a = heard_answered at v s sound past stands lives in
+    let kept : silent ≡ (is_held_back b w now || b.asks_again) = ap (λ g. (draws_one v s && is_spent g now) || (v.guard.on && is_opening_syn v s)) (sym (heard_guard v s)) in
+    (ap (λ x. if x then false else w.owes_ack) (sym kept) ∙ (kept_or_none silent w.owes_ack ∙ ap (λ x. x && not silent) a.owes), a.delays))
 
 pub owed_as_drawn : (at : Places) (v : View) (s : Segment) (now : Moment) → IsSound v → is_syn_sent v.state ≡ false → StandsAt at v s → is_closed (after_segment_at v s now).state ≡ false
+    → (after_segment_at v s now).owes_ack ≡ ((v.owes_ack || draws at v s) && not (is_silenced v s now))
+owed_as_drawn at v s now sound past stands lives = (answered at v s now sound past stands lives).0
+
+-- without guards
+pub owed_unguarded : (at : Places) (v : View) (s : Segment) (now : Moment) → IsSound v → v.guard.on ≡ false → is_syn_sent v.state ≡ false → StandsAt at v s → is_closed (after_segment_at v s now).state ≡ false
     → (after_segment_at v s now).owes_ack ≡ (v.owes_ack || draws at v s)
-owed_as_drawn at v s now sound past stands lives = (answered at v s now sound past stands lives).owes
+owed_unguarded at v s now sound off past stands lives =
+    let owed = v.owes_ack || draws at v s in
+    let loud : is_silenced v s now ≡ false = ap (λ on. (on && not v.owes_ack && not (is_syn_sent v.state) && is_unused v s && is_spent v.guard now) || (on && is_opening_syn v s)) off in
+    owed_as_drawn at v s now sound past stands lives ∙ (ap (λ b. owed && not b) loud ∙ sym (kept_or_none false owed))
 
 pub delayed_as_brought : (at : Places) (v : View) (s : Segment) (now : Moment) → IsSound v → is_syn_sent v.state ≡ false → StandsAt at v s → is_closed (after_segment_at v s now).state ≡ false
     → (after_segment_at v s now).delays_ack ≡ (v.delays_ack || (brings_text at v s && not (length s.octets == 0)))
-delayed_as_brought at v s now sound past stands lives = (answered at v s now sound past stands lives).delays
+delayed_as_brought at v s now sound past stands lives = (answered at v s now sound past stands lives).1

@@ -7,12 +7,11 @@ use Rattle.tcp_segment.specs.Segment.{Segment}
 use Rattle.clock.specs.declared.moment.Moment.{Moment}
 use Rattle.tcp_state.specs.declared.state.State.{State}
 use Rattle.tcp_state.specs.declared.state.State.TheVariants.{SynReceived, Established, FinWait1, FinWait2, Closing, LastAck}
-use Rattle.tcp_halves.specs.Numbers.{is_before}
 use Rattle.tcp_halves.specs.Halves.{Receiving}
 use Rattle.tcp_halves.specs.Stream.{outstanding, is_new_ack, receive_window, buffer_of, distance_of, octets_within, octets_gained, after_octets, after_end, is_in_window}
 use Rattle.tcp_state.specs.View.{View, IsSound, is_syn_sent, is_syn_received, awaits_fin_ack, is_closed, after_reset}
-use Rattle.tcp_state.specs.Arrival.{owing_ack, reset_error, after_rst_in_syn_sent, after_rst, is_acceptable_to, ends_by_syn, is_acting_reset, ends_by_reset, after_establishment, is_of_fin, beyond_fin, fin_acknowledged, after_new_ack, after_ack, is_read_on, is_read, after_window, is_receiving, after_text, beyond_end, counts_fin, after_acknowledging_segment, after_acceptable_segment, after_segment, is_lost, after_lost, is_rejected, before, timed_by, after_segment_at}
-use Rattle.tcp_state.specs.Duties.{Places, StandsAt, acknowledges, may_bring, is_used, comes_too_late, acknowledges_end, ends_stream, state_beyond}
+use Rattle.tcp_state.specs.Arrival.{owing_ack, reset_error, after_rst_in_syn_sent, after_rst, is_acceptable_to, ends_by_syn, is_acting_reset, ends_by_reset, after_establishment, is_of_fin, beyond_fin, fin_acknowledged, after_new_ack, is_off, after_ack, is_read_on, is_read, after_window, is_receiving, after_text, beyond_end, counts_fin, after_acknowledging_segment, after_acceptable_segment, after_segment, is_lost, after_lost, is_rejected, before, timed_by, after_segment_at}
+use Rattle.tcp_state.specs.Duties.{Places, StandsAt, acknowledges, is_aged, is_in_reach, may_bring, is_used, comes_too_late, acknowledges_end, ends_stream, state_beyond}
 use Rattle.tcp_halves.proofs.Choices.{either, by, clash, and_left, and_right, and_false, neither}
 use Rattle.tcp_halves.proofs.Keeping.{IsKeeping, inserted_readable, gained_fits}
 use Rattle.tcp_state.proofs.Segments.{after_reading, ack_receives, by_clock, read_tells, reads}
@@ -187,9 +186,9 @@ state_acked : (at : Places) (v : View) (s : Segment) → IsSound v → StandsAt 
 state_acked at v s sound stands used on =
     let ack = s.acknowledgement in
     let new = is_new_ack v.sending ack in
-    let before = is_before v.sending.nxt ack in
+    let off = is_off v ack in
     let ours = acknowledges_end at v in
-    let within = nat_le at.ack (at.una + outstanding v.sending) in
+    let within = is_in_reach at v in
     let above = nat_lt at.una at.ack in
     let says : acknowledges v s ≡ true = and_left (acknowledges v s) within (and_left (acknowledges v s && within) (not (is_syn_received v.state) || above) used) in
     let order = ack_stands at v s sound stands (and_right _ s.flags.ack says) in
@@ -198,13 +197,13 @@ state_acked at v s sound stands used on =
     either View P (is_syn_received v.state) _ _
     (λ received. either View P new (after_establishment v) v
     (λ is. opens v.state ours received)
-    (λ wrong. clash new (on_new (is_syn_received v.state) new before on received) wrong))
+    (λ wrong. clash new (on_new (is_syn_received v.state) new off on received) wrong))
     (λ established. either View P new _ _
     (λ is.
     let is_above : above ≡ true = and_right within above (order.fresh ∙ is) in
     let higher : at.una < at.ack = ltb-true at.una at.ack is_above in
     let distance : past ack v.sending.una ≡ at.ack - at.una =
-    named_past at.own at.una at.ack (outstanding v.sending) v.sending.una ack stands.una_number (stands.ack_number (and_right _ s.flags.ack says)) higher (leb-true at.ack (at.una + outstanding v.sending) is_within) (omega arith) in
+    named_past at.own at.una at.ack (outstanding v.sending) v.sending.una ack stands.una_number (stands.ack_number (and_right _ s.flags.ack says)) higher (leb-true at.ack (at.una + outstanding v.sending) (and_left (nat_le at.ack (at.una + outstanding v.sending)) (not (is_aged at v)) is_within)) (omega arith) in
     let same : nat_lt (length v.sending.held) (past ack v.sending.una) ≡ ours = past_end at.una at.ack (length v.sending.held) (past ack v.sending.una) distance higher in
     either View P (is_of_fin v ack) (fin_acknowledged (after_new_ack v ack)) (after_new_ack v ack)
     (λ fin. moves v.state ours (sym (ap (λ b. awaits_fin_ack v.state && b) same) ∙ fin))
@@ -213,7 +212,7 @@ state_acked at v s sound stands used on =
     let low : above ≡ false = sym (ap (λ b. b && above) is_within) ∙ (order.fresh ∙ old) in
     let none : ours ≡ false = none_past at.una at.ack (length v.sending.held) (lower at.una at.ack low) in
     let kept : (awaits_fin_ack v.state && ours) ≡ false = ap (λ b. awaits_fin_ack v.state && b) none ∙ and_false (awaits_fin_ack v.state) in
-    either View P before (owing_ack v) v (λ ahead. stays v.state ours established kept) (λ sent. stays v.state ours established kept)))
+    either View P off (owing_ack v) v (λ ahead. stays v.state ours established kept) (λ sent. stays v.state ours established kept)))
   where
     lower : (una ack : ℕ) → nat_lt una ack ≡ false → ack ≤ una
     lower una ack e = elim (leb_tells (suc una) ack) [ inl t ↦ clash (nat_lt una ack) t.0 e | inr t ↦ omega (arith, t.1) ]
@@ -264,7 +263,7 @@ used_moves_on at v s now sound open_yet stands used in_time =
     let kept : is_lost v s ≡ false = lost_as_late at v s sound stands ∙ in_time in
     let new = is_new_ack v.sending s.acknowledgement in
     let taken : is_rejected v s ≡ false = by (is_rejected v s ≡ false) (is_rejected v s)
-    (λ rejected. let u = unsent v s rejected in clash new (on_new (is_syn_received v.state) new (is_before v.sending.nxt s.acknowledgement) read.on (u.received lives.0).0) u.old)
+    (λ rejected. let u = unsent v s rejected in clash new (on_new (is_syn_received v.state) new (is_off v s.acknowledgement) read.on (u.received lives.0).0) u.old)
     (λ none. none) in
     let heard : after_segment_at v s now ≡ timed_by (before v s) (after_reading v s) now =
     comes_to v s now lives.1 taken ∙ (ap (λ b. timed_by (before v s) (if b then after_lost v s else after_segment v s) now) kept ∙ ap (λ w. timed_by (before v s) w now) (reads v s lives.1 lives.0 read)) in
@@ -281,12 +280,12 @@ ack_leaves : (v : View) (ack : ℕ) → is_read_on v ack ≡ false → Leaves v 
 ack_leaves v ack off =
     let P : View → Type 0 = Leaves v in
     let new = is_new_ack v.sending ack in
-    let told = not_on (is_syn_received v.state) new (is_before v.sending.nxt ack) off in
+    let told = not_on (is_syn_received v.state) new (is_off v ack) off in
     either View P (is_syn_received v.state) _ _
     (λ received. either View P new (after_establishment v) v (λ is. clash new is told.0) (λ wrong on. (refl, refl)))
     (λ established. either View P new _ _
     (λ is. clash new is told.0)
-    (λ other. either View P (is_before v.sending.nxt ack) (owing_ack v) v (λ ahead on. (refl, refl)) (λ sent on. (refl, refl))))
+    (λ other. either View P (is_off v ack) (owing_ack v) v (λ ahead on. (refl, refl)) (λ sent on. (refl, refl))))
 
 segment_leaves : (v : View) (s : Segment) → is_syn_sent v.state ≡ false → is_read v s ≡ false → Leaves v (after_segment v s)
 segment_leaves v s past unread =

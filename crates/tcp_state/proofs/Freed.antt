@@ -6,12 +6,11 @@ use Rattle.tcp_segment.specs.Segment.{Segment}
 use Rattle.clock.specs.declared.moment.Moment.{Moment}
 use Rattle.tcp_state.specs.declared.state.State.{State}
 use Rattle.tcp_state.specs.declared.state.State.TheVariants.{SynSent, SynReceived}
-use Rattle.tcp_halves.specs.Numbers.{is_before}
 use Rattle.tcp_halves.specs.Halves.{Sending}
 use Rattle.tcp_halves.specs.Stream.{outstanding, is_new_ack, after_acknowledged}
 use Rattle.tcp_halves.specs.Windows.{window_in, updates_window, after_window_update}
 use Rattle.tcp_state.specs.View.{View, IsSound, is_opening, is_syn_sent, is_syn_received, is_closed, is_write_finished, takes_flag_number}
-use Rattle.tcp_state.specs.Arrival.{is_acceptable_to, after_establishment, after_new_ack, is_of_fin, fin_acknowledged, after_ack, is_read_on, after_window, is_lost, after_lost, after_segment, after_heard, is_rejected, before, timed_by, after_segment_at}
+use Rattle.tcp_state.specs.Arrival.{is_acceptable_to, after_establishment, after_new_ack, is_of_fin, fin_acknowledged, after_ack, is_off, is_read_on, after_window, is_lost, after_lost, after_segment, after_heard, is_rejected, before, timed_by, after_segment_at}
 use Rattle.tcp_state.specs.Duties.{acknowledges, HoldsFrom}
 use Rattle.tcp_halves.proofs.Choices.{either, by, clash, and_left, and_right, both, or_left, neither, not_true}
 use Rattle.tcp_state.proofs.Segments.{after_reading, by_ack, reading_sends, is_taken, by_hearing, by_clock, reads}
@@ -128,7 +127,7 @@ frees_named v s now own una ack sound open_yet acknowledged f l above within =
       accepted = a.accepted;
       no_syn = a.no_syn;
       ack = a.ack;
-      on = read_on (is_syn_received v.state) (is_new_ack v.sending s.acknowledgement) (is_before v.sending.nxt s.acknowledgement) new;
+      on = read_on (is_syn_received v.state) (is_new_ack v.sending s.acknowledgement) (is_off v s.acknowledgement) new;
     }) in
     let taken : is_rejected v s ≡ false = by (is_rejected v s ≡ false) (is_rejected v s)
     (λ rejected. let u = unsent v s rejected in clash (is_new_ack v.sending s.acknowledgement) new u.old) (λ none. none) in

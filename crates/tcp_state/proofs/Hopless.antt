@@ -15,13 +15,13 @@ use Rattle.tcp_state.specs.declared.state.State.TheVariants.{Closed, Listen}
 use Rattle.tcp_halves.specs.Stream.{outstanding}
 use Rattle.tcp_halves.proofs.Choices.{either, and_left}
 use Rattle.tcp_state.specs.View.{View, IsSound, is_opening, is_syn_received, is_closed, is_fin_wait_2, awaits_fin_ack, after_reset}
-use Rattle.tcp_state.specs.Alive.{heard_now, is_alive_due, after_silence}
+use Rattle.tcp_state.specs.Alive.{is_alive_due, after_silence}
 use Rattle.tcp_state.specs.Resend.{stopped}
 use Rattle.tcp_state.specs.New.{sends_new, sends_fin}
 use Rattle.tcp_state.specs.Timing.{KeepsTime, probes, waiting_since, awaits_first, clocked, retransmission_expired, probe_expired, after_timers}
 use Rattle.tcp_state.specs.Hop.{end_of_hop_wait, unheard_until, after_hopless}
 use Rattle.tcp_state.specs.Calls.{told_nodelay, latest}
-use Rattle.tcp_state.specs.Arrival.{is_receiving, after_ack, after_window, after_text, after_heard, is_moved, before, since_after, resend_left, congestion_left}
+use Rattle.tcp_state.specs.Arrival.{is_receiving, after_ack, after_window, after_text, after_heard, is_moved, before, noted_by}
 use Rattle.tcp_state.specs.Due.{MayGoOut, IsHeld, first_due, new_due, again_from, new_octets, fin_alone, probe_stretch, octets_of_stretch, after_resent, after_first_sent, after_numbers, after_new_text, brings_new_octets, after_syn_out, after_syn_ack_paid, after_going_out, end_of}
 use Rattle.tcp_state.specs.Edges.{Event, LosesHop, moment_of, after_first, after_event, fate_by, is_removed, left_by, state_after}
 use Rattle.tcp_state.specs.Positions.{takes_numbers}
@@ -158,11 +158,11 @@ heard_leaves v s =
     })
 
 heard_follows : (v : View) (s : Segment) (now : Moment) → (let b = before v s in let w = after_heard v s in
-    Follows v.unheard (Some now) (clocked (is_moved b w) (record w { since = since_after b w now; resend = resend_left b w now; congestion = congestion_left b w now; alive = heard_now w.alive now }) now).unheard)
+    Follows v.unheard (Some now) (clocked (is_moved b w) (noted_by b w now) now).unheard)
 heard_follows v s now =
     let b = before v s in
     let w = after_heard v s in
-    let x = record w { since = since_after b w now; resend = resend_left b w now; congestion = congestion_left b w now; alive = heard_now w.alive now } in
+    let x = noted_by b w now in
     elim (heard_leaves v s) [
       | inl same ↦ ticked v x (is_moved b w) now same
       | inr ended ↦ inr (inl (ap (λ c. if c then Some (waiting_since x.unheard now) else None) (awaits_nothing x ended.0 ended.1 ended.2)))

@@ -17,7 +17,7 @@ use Rattle.tcp_halves.specs.Halves.{Room, Sending, Receiving}
 use Rattle.tcp_halves.specs.Numbers.{is_before}
 use Rattle.tcp_halves.specs.Stream.{size_in, size_of, outstanding, is_new_ack, receive_window, buffer_of, distance_of, octets_within, octets_gained, after_octets}
 use Rattle.tcp_halves.specs.Windows.{updates_window, has_grown, after_advertisement, syn_window, after_syn_advertisement}
-use Rattle.tcp_halves.proofs.Choices.{either, by, clash, and_left, and_right, neither}
+use Rattle.tcp_halves.proofs.Choices.{either, by, clash, and_left, and_right, neither, or_left, or_else}
 use Rattle.tcp_halves.proofs.Keeping.{IsKeeping, gained_fits}
 use Rattle.tcp_state.specs.declared.emission.Due.TheVariants.{Syn}
 use Rattle.tcp_state.specs.declared.state.State.{State}
@@ -26,9 +26,10 @@ use Rattle.tcp_state.specs.View.{View, IsSound, opened_actively, is_opening, is_
 use Rattle.tcp_state.specs.Alive.{after_silence}
 use Rattle.tcp_state.specs.Timing.{clocked, retransmission_expired, probe_expired, after_expiry, delayed_ack_expired, after_timers}
 use Rattle.tcp_state.specs.Calls.{beyond_shutdown}
-use Rattle.tcp_state.specs.Arrival.{opened_passively, scales_with, after_simultaneous_syn, beyond_fin, after_ack, after_window, is_receiving, may_delay, after_text, beyond_end, after_fin, after_heard}
+use Rattle.tcp_state.specs.Arrival.{opened_passively, scales_with, after_simultaneous_syn, beyond_fin, after_ack, after_window, is_receiving, may_delay, after_text, beyond_end, after_fin, after_heard, draws_one, is_opening_syn, is_held_back, before, timed_by}
 use Rattle.tcp_state.specs.Due.{after_syn_ack_paid, after_speaking, after_resent, after_first_sent, after_numbers, after_stretch, after_probe, after_syn_out, after_emitted, again, new_octets, fin_alone, first_due}
 use Rattle.tcp_state.specs.Edges.{Event, after_first, after_event}
+use Rattle.tcp_state.specs.Guard.{is_spent}
 use Rattle.tcp_state.specs.Progress.{IsSized, least_left, LeavesAWindow}
 use Rattle.tcp_state.proofs.Segments.{by_ack, by_fin, ack_receives, by_hearing}
 use Rattle.tcp_state.proofs.Events.{by_event}
@@ -36,6 +37,7 @@ use Rattle.tcp_state.proofs.Emissions.{by_due, stretch_receives, probe_receives}
 use Rattle.tcp_state.proofs.Clocked.{syn_out}
 use Rattle.tcp_state.proofs.Gains.{receiving_lives}
 use Rattle.tcp_state.proofs.Sound.{sound_keeping}
+use Rattle.tcp_state.proofs.Unused.{unused_owes, drawing_tells, asking_owes}
 use Rattle.tcp_state.proofs.ToldRoom.{none_owed, segment_told}
 
 -- what the record has, part by part
@@ -306,12 +308,43 @@ opened_open Established e = refl
 opened_open CloseWait e = refl
 opened_open _ e = e
 
+-- An acknowledgement that is held back on guard leaves what was.
+
+-- as much is left as an acknowledgement needs
+abbrev LeftFor : View → Type 0
+LeftFor x = least_left x.delays_ack ≤ receive_window x.receiving
+
+drawn_leaves : (v : View) (s : Segment) → is_closed v.state ≡ false → Parts v → draws_one v s ≡ true → (let w = after_heard v s in (is_opening w.state || is_closed w.state) ≡ false → w.spoke ≡ false → LeftFor w)
+drawn_leaves v s lives p draws opened silent =
+    let d = drawing_tells v s draws in
+    let same = unused_owes v s lives d.past d.unused in
+    subst LeftFor (sym same) (p.2 (sym (ap (λ (x : View). is_opening x.state || is_closed x.state) same) ∙ opened) (sym (ap (λ (x : View). x.spoke) same) ∙ silent) d.free)
+
+asked_leaves : (v : View) (s : Segment) → is_opening_syn v s ≡ true → (let w = after_heard v s in (is_opening w.state || is_closed w.state) ≡ false → LeftFor w)
+asked_leaves v s asks opened =
+    let a = asking_owes v s asks in
+    clash (is_opening v.state || is_closed v.state) (or_left (is_opening v.state) (is_closed v.state) a.opens) (sym (ap (λ (x : View). is_opening x.state || is_closed x.state) a.heard) ∙ opened)
+
+timed_leaves : (v : View) (s : Segment) (now : Moment) → is_closed v.state ≡ false → Parts v → Parts (after_heard v s) → Parts (timed_by (before v s) (after_heard v s) now)
+timed_leaves v s now lives p q =
+    let b = before v s in
+    let w = after_heard v s in (
+      q.0,
+      q.1,
+      λ opened silent free. by (LeftFor w) (is_held_back b w now || b.asks_again)
+          (λ quiet. elim (or_else (is_held_back b w now) b.asks_again quiet) [
+            | inl held ↦ drawn_leaves v s lives p (and_left b.draws_one (is_spent w.guard now) held) opened silent
+            | inr asks ↦ asked_leaves v s (and_right v.guard.on (is_opening_syn v s) asks) opened
+          ])
+          (λ loud. q.2 opened silent (sym (ap (λ x. if x then false else w.owes_ack) loud) ∙ free)),
+    )
+
 event_parts : (v : View) (e : Event) → IsSound v → IsSized e → Parts v → Parts (after_event v e)
 event_parts v e sound sized p = by_event (λ e w. IsSized e → Parts w) v (record {
   same = λ e few. p;
   asks = λ e alive few. p;
   silent = λ now few. p;
-  heard = λ s now lives few. heard_leaves v s sound few p;
+  heard = λ s now lives few. timed_leaves v s now lives p (heard_leaves v s sound few p);
   over = λ now ends few. (p.0, λ received silent flies. cc, λ opened silent free. cc);
   given_up = λ now waits expired few. (p.0, λ received silent flies. cc, λ opened silent free. cc);
   acts = λ now few. timers_leave (after_silence v now) now p;

@@ -1,6 +1,7 @@
 pub mod Framing
 pub mod Sizes
 pub mod Segments
+pub mod Guarded
 pub mod Events
 pub mod GoesOut
 pub mod Asked
@@ -74,6 +75,9 @@ pub mod Freed
 pub mod Standing
 pub mod DrawTests
 pub mod AckAnswers
+pub mod Unused
+pub mod TenDrawn
+pub mod Unguarded
 pub mod Drawn
 pub mod Used
 pub mod TooLate

@@ -1,6 +1,6 @@
 -- Why the third duplicate ACK in a row, and no other, puts the segment at SND.UNA out again, and that alone.
 use Rattle.congestion.specs.Control.{repairs}
-use Rattle.std.proofs.Common.{◌≡◌, ℕ, ◌+◌, ◌-◌, ◌%◌, ◌^◌, ◌<◌, ◌==◌, ◌&&◌, ◌||◌, not, nat_lt, nat_le, if◌then◌else◌, Bool, true, false, length, Some, None, is_some, arith, refl, sym, ◌∙◌, ap, subst}
+use Rattle.std.proofs.Common.{◌≡◌, ℕ, ◌+◌, ◌-◌, ◌%◌, ◌^◌, ◌<◌, ◌==◌, ◌&&◌, ◌||◌, not, nat_lt, nat_le, if◌then◌else◌, Bool, true, false, length, Some, None, is_some, arith, refl, sym, ◌∙◌, ap, subst, inl}
 use Rattle.std.specs.Option.{option_or}
 use Rattle.std.proofs.lemmas.Bool.{eqb-true, lt-ltb, ltb-true}
 use Rattle.tcp_segment.specs.Segment.{Segment}
@@ -23,9 +23,10 @@ use Rattle.tcp_state.specs.Congestion.{Signal}
 use Rattle.tcp_state.specs.Congestion.Signal.{Begins, Counts, Both, Nothing}
 use Rattle.stream_buf.specs.Ranges.{AreApart}
 use Rattle.tcp_state.specs.Selective.{with_blocks, repairs_gaps}
+use Rattle.tcp_state.proofs.Guarded.{kept_mark}
 use Rattle.tcp_state.proofs.Places.{at_una_goes}
 use Rattle.tcp_state.proofs.Selects.{silent_unselected, counted_selects_none, ends_none}
-use Rattle.tcp_state.specs.Arrival.{owing_ack, after_establishment, is_receiving, beyond_fin, is_of_fin, fin_acknowledged, after_new_ack, after_ack, is_read, after_window, after_text, counts_fin, after_fin, is_lost, after_lost, after_segment, after_heard, octets_outstanding, is_duplicate, before, is_moved, resend_after, congestion_event_of, resend_told, reports_more, told, told_behind, behind_ack, tells_loss, reports_loss, timed_by, after_segment_at, acknowledged_signal, counts_duplicates, is_counted_duplicate, resend_signalled, report_signal}
+use Rattle.tcp_state.specs.Arrival.{owing_ack, after_establishment, is_receiving, beyond_fin, is_of_fin, fin_acknowledged, after_new_ack, is_off, after_ack, is_read, after_window, after_text, counts_fin, after_fin, is_lost, after_lost, after_segment, after_heard, octets_outstanding, is_duplicate, before, is_moved, resend_after, congestion_event_of, resend_told, reports_more, told, told_behind, behind_ack, tells_loss, reports_loss, timed_by, after_segment_at, acknowledged_signal, counts_duplicates, is_counted_duplicate, resend_signalled, report_signal}
 use Rattle.tcp_state.specs.Due.{end_of, after_resent, after_first_sent, after_numbers, after_new_text, brings_new_octets, after_emitted, ack_due, again, again_from, new_due, first_due}
 use Rattle.tcp_state.proofs.Clocked.{comes_to, unmoved, heard_paced, signalled, told_moved, told_still}
 use Rattle.tcp_halves.proofs.Choices.{either, clash, and_left, and_right, and_false, not_true, unowed}
@@ -77,12 +78,12 @@ old_ack v s fits t =
     let new = is_new_ack v.sending ack in
     let gained : past ack v.sending.una ≡ 0 = omega (arith, fits, t.same) in
     let old : new ≡ false = ap (λ n. nat_lt 0 n && nat_le n (outstanding v.sending)) gained in
-    let within : is_before v.sending.nxt ack ≡ false =
-    not_true (is_before v.sending.nxt ack)
-    (sym (ap (λ b. if b then new else (new || not (is_before v.sending.nxt ack))) received ∙ ap (λ b. b || not (is_before v.sending.nxt ack)) old) ∙ t.read.on) in
+    let within : is_off v ack ≡ false =
+    not_true (is_off v ack)
+    (sym (ap (λ b. if b then new else (new || not (is_off v ack))) received ∙ ap (λ b. b || not (is_off v ack)) old) ∙ t.read.on) in
     let past_fin : View = if is_of_fin v ack then fin_acknowledged (after_new_ack v ack) else after_new_ack v ack in
-    ap (λ b. if b then (if new then after_establishment v else v) else if new then past_fin else if is_before v.sending.nxt ack then owing_ack v else v) received
-    ∙ ap (λ b. if b then past_fin else if is_before v.sending.nxt ack then owing_ack v else v) old
+    ap (λ b. if b then (if new then after_establishment v else v) else if new then past_fin else if is_off v ack then owing_ack v else v) received
+    ∙ ap (λ b. if b then past_fin else if is_off v ack then owing_ack v else v) old
     ∙ ap (λ b. if b then owing_ack v else v) within
 
 -- it tells of the window at most
@@ -139,7 +140,7 @@ third_resends v s now sound lives is third =
     let at : after_segment_at v s now ≡ x = comes_to v s now lives (not_rejected v s opened.0 opened.1) ∙ ap (λ u. timed_by (before v s) u now) (told_alone v s sound.una lives t) in
     let lost = loses v s now lives is third in
     let mark : x.resend.mark ≡ Some 0 =
-    ap (λ (p : Resend). p.mark) lost ∙ ap (λ n. mark_past 0 n) (numbers_stay v s).1 ∙ ap (λ b. if b then Some 0 else None) t.some in
+    kept_mark v s w now (inl opened.1) ∙ ap (λ (p : Resend). p.mark) lost ∙ ap (λ n. mark_past 0 n) (numbers_stay v s).1 ∙ ap (λ b. if b then Some 0 else None) t.some in
     let due : first_due x ≡ Some (Text (again x 0)) =
     ap (λ b. if b then Some Rst else if is_opening v.state then (if (outstanding x.sending == 0) || is_some x.resend.mark then Some Syn else ack_due x) else option_or (again_from x x.resend.mark) (new_due x))
     (unowed v.owes_reset (is_closed v.state) v.released lives sound.reset)
@@ -217,7 +218,7 @@ others_resend_none v s now sound none opened stands other unreported =
     let b = before v s in
     let w = after_heard v s in
     by_clock (λ x. x.resend.mark ≡ None) v s now none
-    (λ lives. ap (λ (p : Resend). p.mark) (others_unlost b w now (ap goes_on (window_kept v s) ∙ stands) (ap (λ c. is_counted_duplicate v s && third_is_next c) (window_kept v s) ∙ other) unreported)
+    (λ lives. kept_mark v s w now (inl (past_opening v.state opened).1) ∙ ap (λ (p : Resend). p.mark) (others_unlost b w now (ap goes_on (window_kept v s) ∙ stands) (ap (λ c. is_counted_duplicate v s && third_is_next c) (window_kept v s) ∙ other) unreported)
     ∙ (heard_paced b w now (λ p. p.mark ≡ w.resend.mark) refl refl refl ∙ heard_marks_none v s opened none))
 
 -- That segment alone.

@@ -1,5 +1,5 @@
 -- Why the resend mark keeps its number, whatever a segment acknowledges.
-use Rattle.std.proofs.Common.{◌≡◌, ℕ, ◌-◌, ◌^◌, ◌<◌, ◌≤◌, ◌==◌, ◌&&◌, ◌||◌, not, nat_lt, if◌then◌else◌, Bool, true, false, length, Option, Some, None, arith, refl, sym, ◌∙◌, ap}
+use Rattle.std.proofs.Common.{◌≡◌, ℕ, ◌-◌, ◌^◌, ◌<◌, ◌≤◌, ◌==◌, ◌&&◌, ◌||◌, not, nat_lt, if◌then◌else◌, Bool, true, false, length, Option, Some, None, arith, refl, sym, ◌∙◌, ap, inl}
 use Rattle.std.proofs.lemmas.Bool.{lt-ltb, ltb-false}
 use Rattle.tcp_segment.specs.Segment.{Segment}
 use Rattle.tcp_segment.specs.Wire.{past}
@@ -12,8 +12,8 @@ use Rattle.tcp_halves.specs.Stream.{outstanding, is_new_ack}
 use Rattle.tcp_halves.specs.Windows.{updates_window}
 use Rattle.tcp_state.specs.Resend.{Resend, stopped, mark_past, mark_left}
 use Rattle.tcp_state.specs.View.{View, IsSound, is_opening, is_syn_sent, is_syn_received, is_closed}
-use Rattle.tcp_halves.specs.Numbers.{is_before}
-use Rattle.tcp_state.specs.Arrival.{owing_ack, is_receiving, is_of_fin, beyond_fin, beyond_end, fin_acknowledged, after_new_ack, after_ack, after_window, after_text, before, after_heard, after_segment_at, is_counted_duplicate, reports_loss}
+use Rattle.tcp_state.specs.Arrival.{owing_ack, is_receiving, is_of_fin, beyond_fin, beyond_end, fin_acknowledged, after_new_ack, is_off, after_ack, after_window, after_text, before, after_heard, after_segment_at, is_counted_duplicate, reports_loss}
+use Rattle.tcp_state.proofs.Guarded.{kept_mark}
 use Rattle.tcp_state.proofs.Clocked.{heard_paced}
 use Rattle.tcp_halves.proofs.Choices.{either, clash}
 use Rattle.tcp_state.proofs.Segments.{by_fin, by_hearing, by_clock}
@@ -55,7 +55,7 @@ ack_leaves v ack distance sound opened mark =
     (λ new. either View P (is_of_fin v ack) (fin_acknowledged acked) acked
     (λ fin lives. either Resend (λ q. q.mark ≡ mark_past (distance - gained) out) closed (stopped acked.resend) acked.resend (λ ends. clash closed ends lives) (λ goes_on. moved))
     (λ octets lives. moved))
-    (λ old. either View P (is_before v.sending.nxt ack) (owing_ack v) v (λ beyond. same) (λ within. same)))
+    (λ old. either View P (is_off v ack) (owing_ack v) v (λ beyond. same) (λ within. same)))
 
 still_closed : (t : State) → is_closed (beyond_end t) ≡ false → is_closed t ≡ false
 still_closed Closed e = cc
@@ -90,7 +90,7 @@ mark_left_by v s now distance sound opened stands other unreported mark =
     let b = before v s in
     let w = after_heard v s in
     by_clock (Left v.sending.una distance) v s now (stays v distance sound mark)
-    (λ lives. λ ends_not. ap (λ (p : Resend). p.mark) (others_unlost b w now (ap goes_on (window_kept v s) ∙ stands) (ap (λ c. is_counted_duplicate v s && third_is_next c) (window_kept v s) ∙ other) unreported)
+    (λ lives. λ ends_not. kept_mark v s w now (inl (past_opening v.state opened).1) ∙ ap (λ (p : Resend). p.mark) (others_unlost b w now (ap goes_on (window_kept v s) ∙ stands) (ap (λ c. is_counted_duplicate v s && third_is_next c) (window_kept v s) ∙ other) unreported)
     ∙ (heard_paced b w now (λ p. p.mark ≡ w.resend.mark) refl refl refl ∙ heard_leaves v s distance sound opened mark ends_not))
 
 stood : (m : Option ℕ) (rest out left : ℕ) → m ≡ mark_past rest out → m ≡ Some left → left ≡ rest

@@ -32,6 +32,7 @@ use Rattle.tcp_state.specs.Due.{ack_due, again, again_from, new_due, first_due, 
 use Rattle.tcp_state.specs.Edges.{Event, Hears, Ticks, Emits, after_first, after_event, gives_back_by}
 use Rattle.stream_buf.specs.Ranges.{AreApart}
 use Rattle.tcp_state.specs.Selective.{selects, repairs_gaps, with_blocks}
+use Rattle.tcp_state.proofs.Guarded.{kept_mark}
 use Rattle.tcp_state.proofs.Selects.{silent_unselected, more_counts, report_counts}
 use Rattle.tcp_state.proofs.Places.{at_una_goes}
 use Rattle.tcp_state.proofs.Scores.{heard_scores}
@@ -423,7 +424,7 @@ part_resends v s now sound opened on plain fits moved alive some =
     let left = (heard_left v s sound).0 in
     let nxt = (heard_left v s sound).1 in
     let flies : 0 < outstanding x.sending = omega (arith, some, recover, left, nxt, sound.recover, sound.una, sound.nxt, una) in
-    let mark : u.resend.mark ≡ Some 0 = ap (λ (p : Resend). p.mark) resend ∙ ap (λ t. if t then Some 0 else None) (lt-ltb 0 (outstanding x.sending) flies) in
+    let mark : u.resend.mark ≡ Some 0 = kept_mark v s x now (inl (past_opening v.state opened).1) ∙ ap (λ (p : Resend). p.mark) resend ∙ ap (λ t. if t then Some 0 else None) (lt-ltb 0 (outstanding x.sending) flies) in
     let owes : u.owes_reset ≡ false = k.reset ∙ unowed v.owes_reset (is_closed v.state) v.released (neither (is_closed v.state) (is_rejected v s) hears).0 sound.reset in
     let once : u.resend.once ≡ true = ap (λ (p : Resend). p.once) resend in
     let reported : u.resend.reported ≡ x.resend.reported = ap (λ (p : Resend). p.reported) resend ∙ ap (with_blocks x.resend.reported x.sending) (silent_unselected v s plain) in

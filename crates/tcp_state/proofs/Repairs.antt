@@ -34,6 +34,8 @@ use Rattle.tcp_state.specs.Edges.{Event, Hears, after_event, Ticks, Emits, Sends
 use Rattle.clock.specs.Moments.{has_come}
 use Rattle.tcp_state.specs.Alive.{after_silence}
 use Rattle.tcp_state.specs.Timing.{KeepsTime, probes, clocked, retransmission_expired, probe_expired, after_timers, after_tick, gives_up}
+use Rattle.tcp_state.proofs.Guarded.{kept_mark}
+use Rattle.tcp_state.proofs.Losses.{past_opening}
 use Rattle.tcp_state.proofs.Recount.{heard_counts}
 use Rattle.tcp_state.proofs.Clocked.{by_others, heard_paced, after_paced, told_moved, told_still, signalled, reports_none}
 use Rattle.tcp_state.proofs.Congestion.{window_kept}
@@ -294,7 +296,7 @@ loss_resends v s now sound is other hears alive =
       | inr behind ↦ ap is_recovering (window_by v (Hears s now) (Both (NewAck (length v.sending.held - length x.sending.held) flight) (Loss flight)) (event_is v s now hears ∙ behind))
     ] in
     let k = goes_after v s sound (more_opened v s x more) lives in
-    let mark : u.resend.mark ≡ Some 0 = ap (λ (p : Resend). p.mark) resend ∙ ap (λ t. if t then Some 0 else None) (lt-ltb 0 flight flies) in
+    let mark : u.resend.mark ≡ Some 0 = kept_mark v s x now (inl (past_opening v.state (more_opened v s x more)).1) ∙ ap (λ (p : Resend). p.mark) resend ∙ ap (λ t. if t then Some 0 else None) (lt-ltb 0 flight flies) in
     let owes : u.owes_reset ≡ false = k.reset ∙ unowed v.owes_reset (is_closed v.state) v.released (neither (is_closed v.state) (is_rejected v s) hears) sound.reset in
     let once : u.resend.once ≡ true = ap (λ (p : Resend). p.once) resend in
     let scores = blocks_score x.resend.reported x.sending b.blocks (heard_scores v s sound) in

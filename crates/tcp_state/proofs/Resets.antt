@@ -1,5 +1,5 @@
 -- Why a reset acts only at RCV.NXT, and a segment that is not acceptable changes nothing.
-use Rattle.std.proofs.Common.{◌≡◌, ℕ, ◌+◌, ◌^◌, ◌<◌, ◌≤◌, ◌==◌, ◌||◌, ◌&&◌, not, nat_lt, if◌then◌else◌, Bool, true, false, length, inl, inr, arith, refl, ◌∙◌, ap}
+use Rattle.std.proofs.Common.{◌≡◌, ℕ, ◌+◌, ◌%◌, ◌^◌, ◌<◌, ◌≤◌, ◌==◌, ◌||◌, ◌&&◌, not, nat_lt, if◌then◌else◌, Bool, true, false, Option, length, inl, inr, arith, refl, ◌∙◌, ap}
 use Rattle.std.proofs.lemmas.Bool.{eqb-true, ltb-true, leb-true, lt-ltb, eq-eqb}
 use Rattle.std.proofs.lemmas.Bool.Decides.{eqb_tells}
 use Rattle.tcp_segment.specs.Wire.{past}
@@ -11,13 +11,13 @@ use Rattle.tcp_state.specs.declared.state.State.TheVariants.{SynSent}
 use Rattle.tcp_halves.specs.Halves.{Receiving}
 use Rattle.tcp_halves.specs.Windows.{window_in}
 use Rattle.tcp_halves.specs.Stream.{outstanding, is_new_ack, is_in_window, receive_window, is_acceptable}
-use Rattle.tcp_state.specs.View.{View, IsSound, is_opening, is_syn_sent, is_closed, is_over, is_time_wait, is_write_finished, takes_flag_number, after_reset}
+use Rattle.tcp_state.specs.View.{View, IsSound, is_opening, is_syn_sent, is_syn_received, is_closed, is_over, is_time_wait, is_write_finished, takes_flag_number, after_reset}
 use Rattle.tcp_state.specs.Timing.{KeepsTime}
-use Rattle.tcp_state.specs.Arrival.{is_acceptable_to, is_acting_reset, is_read, octets_outstanding, is_duplicate, is_lost, after_lost, ends_by_syn, ends_by_reset, ends_opening, acknowledges_unsent, is_rejected, reset_error, after_rst_in_syn_sent, after_rst, after_segment, is_of_fin, begins_wait, repeats_fin, answers_probe, after_segment_at, after_heard, counts_duplicates, is_counted_duplicate}
+use Rattle.tcp_state.specs.Arrival.{is_opening_syn, is_acceptable_to, is_acting_reset, is_read, octets_outstanding, is_duplicate, is_lost, after_lost, ends_by_syn, ends_by_reset, ends_opening, acknowledges_unsent, is_rejected, reset_error, after_rst_in_syn_sent, after_rst, after_segment, is_of_fin, begins_wait, repeats_fin, answers_probe, after_segment_at, after_heard, counts_duplicates, is_counted_duplicate}
 use Rattle.tcp_state.specs.Edges.{Hears, after_event, fate_by, is_removed, is_reset_by, ends_by, ends_by_ack}
 use Rattle.tcp_state.proofs.Selects.{silent_unread}
-use Rattle.tcp_state.proofs.Clocked.{Owing, OwingAt, owing_timed, starts_none, comes_to}
-use Rattle.tcp_halves.proofs.Choices.{either, by, clash, and_left, and_right, both, or_left, or_right, or_else, not_true, of_false}
+use Rattle.tcp_state.proofs.Clocked.{Owing, OwingAt, owing_timed, owing_marks, starts_none, comes_to}
+use Rattle.tcp_halves.proofs.Choices.{either, by, clash, and_left, and_right, and_false, both, or_left, or_right, or_else, not_true, of_false}
 use Rattle.tcp_state.proofs.Segments.{is_taken, by_segment, by_clock, read_tells}
 use Rattle.tcp_state.proofs.Causes.{segment-cause}
 
@@ -122,12 +122,16 @@ unaccepted_repeats_none v s refused = by (is_counted_duplicate v s ≡ false) (i
 rst_repeats_none : (v : View) (s : Segment) → s.flags.rst ≡ true → is_counted_duplicate v s ≡ false
 rst_repeats_none v s rst = by (is_counted_duplicate v s ≡ false) (is_duplicate v s) (λ same. clash s.flags.rst rst (read_is_no_rst v s (duplicate_is_read v s same))) (λ none. ap (λ b. b && counts_duplicates v) none)
 
-pub unaccepted_changes : (v : View) (s : Segment) (now : Moment) → KeepsTime v → is_syn_sent v.state ≡ false → is_acceptable_to v s ≡ false → OwingAt v (after_segment_at v s now)
+pub unaccepted_changes : (v : View) (s : Segment) (now : Moment) → KeepsTime v → is_syn_sent v.state ≡ false → is_acceptable_to v s ≡ false
+    → (let w = after_segment_at v s now in OwingAt v w × (v.guard.on ≡ false → w.resend.mark ≡ v.resend.mark))
 unaccepted_changes v s now keeps past_opening refused =
-    owing_timed v s now keeps (unaccepted_is_none v s refused) (unaccepted_repeats_none v s refused)
-    (silent_unread v s (by (is_read v s ≡ false) (is_read v s) (λ read. clash (is_acceptable_to v s) (read_is_accepted v s read) refused) (λ unread. unread))) (either View (λ w. Owing v w) (is_lost v s) (after_lost v s) (after_segment v s)
+    let quiet = unaccepted_is_none v s refused in
+    let first = unaccepted_repeats_none v s refused in
+    let silent = silent_unread v s (by (is_read v s ≡ false) (is_read v s) (λ read. clash (is_acceptable_to v s) (read_is_accepted v s read) refused) (λ unread. unread)) in
+    let same : Owing v (after_heard v s) = either View (λ w. Owing v w) (is_lost v s) (after_lost v s) (after_segment v s)
     (λ lost. clash (is_acceptable_to v s) (read_is_accepted v s (lost_is_read v s lost)) refused)
-    (λ kept. unaccepted_segment v s past_opening refused))
+    (λ kept. unaccepted_segment v s past_opening refused) in
+    (owing_timed v s now keeps quiet first silent same, λ off. owing_marks v s now quiet first silent same (ap (λ on. on && is_opening_syn v s) off))
 
 -- an RST whose number is not RCV.NXT
 elsewhere_segment : (v : View) (s : Segment) → is_syn_sent v.state ≡ false → s.flags.rst ≡ true → (s.number == v.receiving.rnext) ≡ false → Owing v (after_segment v s)
@@ -157,14 +161,25 @@ rst_is_none v s rst = by (answers_probe v s ≡ false) (answers_probe v s)
     (λ none. none)
 
 pub elsewhere_changes : (v : View) (s : Segment) (now : Moment) → KeepsTime v → is_syn_sent v.state ≡ false → s.flags.rst ≡ true → (s.number == v.receiving.rnext) ≡ false
-    → after_segment_at v s now ≡ record v { owes_ack = (after_segment_at v s now).owes_ack; timers = record v.timers { delayed_ack = (after_segment_at v s now).timers.delayed_ack }; alive = (after_segment_at v s now).alive }
+    → (let w = after_segment_at v s now in w ≡ record v { owes_ack = w.owes_ack; timers = record v.timers { delayed_ack = w.timers.delayed_ack }; alive = w.alive; guard = w.guard })
 elsewhere_changes v s now keeps past_opening rst apart =
     let w = after_heard v s in
-    let same : Owing v w = either View (λ x. Owing v x) (is_lost v s) (after_lost v s) (after_segment v s)
+    let x = after_segment_at v s now in
+    let quiet = rst_is_none v s rst in
+    let first = rst_repeats_none v s rst in
+    let silent = silent_unread v s (by (is_read v s ≡ false) (is_read v s) (λ read. clash s.flags.rst rst (read_is_no_rst v s read)) (λ unread. unread)) in
+    let same : Owing v w = either View (λ y. Owing v y) (is_lost v s) (after_lost v s) (after_segment v s)
     (λ lost. clash s.flags.rst rst (read_is_no_rst v s (lost_is_read v s lost)))
     (λ kept. elsewhere_segment v s past_opening rst apart) in
-    let at : OwingAt v (after_segment_at v s now) = owing_timed v s now keeps (rst_is_none v s rst) (rst_repeats_none v s rst) (silent_unread v s (by (is_read v s ≡ false) (is_read v s) (λ read. clash s.flags.rst rst (read_is_no_rst v s read)) (λ unread. unread))) same in
-    at ∙ ap (λ (n : Moment). record v { owes_ack = (after_segment_at v s now).owes_ack; since = n; timers = record v.timers { delayed_ack = (after_segment_at v s now).timers.delayed_ack }; alive = (after_segment_at v s now).alive }) (no_wait v s now rst same)
+    let plain : (v.guard.on && is_opening_syn v s) ≡ false = ap (λ r. v.guard.on && (v.passive && is_syn_received v.state && s.flags.syn && not s.flags.ack && not r && not (is_acceptable_to v s) && ((s.number + 1) % 2 ^ 32 == v.receiving.rnext))) rst
+    ∙ none_asked v.guard.on (v.passive && is_syn_received v.state && s.flags.syn && not s.flags.ack) (not (is_acceptable_to v s)) ((s.number + 1) % 2 ^ 32 == v.receiving.rnext) in
+    let at : OwingAt v x = owing_timed v s now keeps quiet first silent same in
+    at
+    ∙ (ap (λ (n : Moment). record v { owes_ack = x.owes_ack; since = n; resend = record v.resend { mark = x.resend.mark }; timers = record v.timers { delayed_ack = x.timers.delayed_ack }; alive = x.alive; guard = x.guard }) (no_wait v s now rst same)
+    ∙ ap (λ (m : Option ℕ). record v { owes_ack = x.owes_ack; resend = record v.resend { mark = m }; timers = record v.timers { delayed_ack = x.timers.delayed_ack }; alive = x.alive; guard = x.guard }) (owing_marks v s now quiet first silent same plain))
+  where
+    none_asked : (on a b c : Bool) → (on && (a && false && b && c)) ≡ false
+    none_asked on a b c = ap (λ x. on && (x && b && c)) (and_false a) ∙ and_false on
 
 -- A reset at RCV.NXT that takes no numbers acts.
 

@@ -6,12 +6,11 @@ use Rattle.clock.specs.declared.moment.Moment.{Moment}
 use Rattle.tcp_state.specs.declared.connection.Fate.TheVariants.{Stays, Removed, Rejected}
 use Rattle.tcp_state.specs.declared.state.State.{State}
 use Rattle.tcp_state.specs.declared.state.State.TheVariants.{SynSent, Established}
-use Rattle.tcp_halves.specs.Numbers.{is_before}
 use Rattle.tcp_halves.specs.Stream.{is_new_ack, is_in_window, after_end, after_syn_acknowledged}
 use Rattle.tcp_halves.specs.Windows.{syn_window}
 use Rattle.tcp_state.specs.Resend.{unmarked}
 use Rattle.tcp_state.specs.View.{View, is_syn_sent, is_syn_received, is_closed, after_reset}
-use Rattle.tcp_state.specs.Arrival.{owing_ack, reset_error, after_rst_in_syn_sent, after_rst, is_right_syn_ack, after_first_syn, after_syn_ack, is_simultaneous_syn, after_simultaneous_syn, is_acceptable_to, ends_by_syn, is_acting_reset, ends_by_reset, after_establishment, is_of_fin, fin_acknowledged, after_new_ack, after_ack, is_read_on, is_receiving, after_window, after_text, after_fin, after_acknowledging_segment, after_acceptable_segment, after_segment, is_read, is_lost, after_lost, after_heard, acknowledges_unsent, is_rejected, before, timed_by, after_segment_at}
+use Rattle.tcp_state.specs.Arrival.{owing_ack, reset_error, after_rst_in_syn_sent, after_rst, is_right_syn_ack, after_first_syn, after_syn_ack, is_simultaneous_syn, after_simultaneous_syn, is_acceptable_to, ends_by_syn, is_acting_reset, ends_by_reset, after_establishment, is_of_fin, fin_acknowledged, after_new_ack, after_ack, is_off, is_read_on, is_receiving, after_window, after_text, after_fin, after_acknowledging_segment, after_acceptable_segment, after_segment, is_read, is_lost, after_lost, after_heard, acknowledges_unsent, is_rejected, before, timed_by, after_segment_at}
 use Rattle.tcp_state.specs.Arrival.{beyond_end, counts_fin}
 use Rattle.tcp_state.specs.Edges.{is_reset_by}
 use Rattle.tcp_halves.proofs.Choices.{either, and_left, and_right, and_false, both, neither, not_true, then_chosen, else_chosen}
@@ -49,7 +48,7 @@ by_ack P v ack cases =
     (λ received. either View P (is_new_ack v.sending ack) (after_establishment v) v (cases.opens received) (λ old. cases.old))
     (λ past_opening. either View P (is_new_ack v.sending ack) _ _
     (λ new. either View P (is_of_fin v ack) (fin_acknowledged (after_new_ack v ack)) (after_new_ack v ack) (cases.fin new) (λ octets. cases.octets new))
-    (λ old. either View P (is_before v.sending.nxt ack) (owing_ack v) v (λ beyond. cases.beyond) (λ within. cases.old)))
+    (λ old. either View P (is_off v ack) (owing_ack v) v (λ beyond. cases.beyond) (λ within. cases.old)))
 
 -- it leaves the receiving half
 pub ack_receives : (v : View) (ack : ℕ) → (after_ack v ack).receiving ≡ v.receiving

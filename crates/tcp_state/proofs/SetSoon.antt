@@ -15,8 +15,8 @@ use Rattle.tcp_state.specs.Resend.{Resend, is_timed_by, timeout_sampled, resend_
 use Rattle.tcp_state.specs.View.{View, IsSound, is_opening, is_fin_wait_2}
 use Rattle.tcp_state.specs.Timing.{probes, retransmits, awaits_second, awaits_more, running, clocked, retransmission_expired, probe_expired, after_expiry, after_timers}
 use Rattle.tcp_state.specs.Calls.{told_nodelay, latest}
-use Rattle.tcp_state.specs.Alive.{heard_now, after_silence}
-use Rattle.tcp_state.specs.Arrival.{after_heard, before, is_moved, since_after, resend_after, timed_by, resend_left, congestion_left}
+use Rattle.tcp_state.specs.Alive.{after_silence}
+use Rattle.tcp_state.specs.Arrival.{after_heard, before, is_moved, resend_after, timed_by, noted_by}
 use Rattle.tcp_state.specs.Due.{first_due, after_going_out}
 use Rattle.tcp_state.specs.Edges.{Event, moment_of, after_first, after_event}
 use Rattle.tcp_state.proofs.Clocked.{by_others, heard_paced, after_paced}
@@ -122,7 +122,7 @@ heard_soon v s now least few =
       | inl same ↦ subst (λ t. SetSoon now v.timers t) (sym same) (unset now v.timers)
       | inr none ↦ subst (λ t. SetSoon now v.timers t) (sym none.0) (stopped_soon now v.timers)
     ] in
-    clocked_soon (is_moved b w) (record w { since = since_after b w now; resend = resend_left b w now; congestion = congestion_left b w now; alive = heard_now w.alive now }) now v.timers (heard_few v s now least few) kept
+    clocked_soon (is_moved b w) (noted_by b w now) now v.timers (heard_few v s now least few) kept
 
 -- Emissions.
 

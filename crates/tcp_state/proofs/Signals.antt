@@ -29,9 +29,10 @@ use Rattle.tcp_state.specs.Timing.{probes, gives_up, after_expiries, after_tick}
 use Rattle.tcp_state.specs.Resend.{gives_back}
 use Rattle.tcp_state.specs.Alive.{after_silence}
 use Rattle.tcp_state.specs.Reporting.{noted}
-use Rattle.tcp_state.specs.Arrival.{owing_ack, may_delay, beyond_end, is_acceptable_to, is_read, is_read_on, is_of_fin, fin_acknowledged, after_new_ack as after_acknowledging, after_establishment, after_ack, after_window, is_receiving, after_text, after_fin, after_segment, brings_more, is_lost, after_lost, after_heard, is_rejected, before, octets_outstanding, is_duplicate, is_moved, congestion_event_of, told, behind_ack, whole_signal, reports_more, tells_loss, report_event, is_report, reports_loss, timed_by, acknowledged_signal, counts_duplicates, is_counted_duplicate, came_twice, is_since_loss, tells_needless, given_back, repairs_tail, blocks_told, report_signal}
+use Rattle.tcp_state.specs.Arrival.{owing_ack, may_delay, beyond_end, is_acceptable_to, is_read, is_off, is_read_on, is_of_fin, fin_acknowledged, after_new_ack as after_acknowledging, after_establishment, after_ack, after_window, is_receiving, after_text, after_fin, after_segment, brings_more, is_lost, after_lost, after_heard, is_rejected, before, octets_outstanding, is_duplicate, is_moved, congestion_event_of, told, behind_ack, whole_signal, reports_more, tells_loss, report_event, is_report, reports_loss, timed_by, acknowledged_signal, counts_duplicates, is_counted_duplicate, came_twice, is_since_loss, tells_needless, given_back, repairs_tail, blocks_told, report_signal}
 use Rattle.tcp_state.specs.Edges.{Event, Hears, Ticks, Emits, Sends, Receives, Shuts, SetsNoDelay, SetsKeepAlive, Closes, Aborts, Unreachable, LosesHop, after_event, congestion_event_by, gives_back_by}
 use Rattle.tcp_state.specs.Counted.{HasOctetOut, IsDuplicate}
+use Rattle.tcp_state.proofs.Guarded.{in_reach}
 use Rattle.tcp_state.proofs.Segments.{IsRead, by_ack, by_fin, by_hearing, reads, read_tells, reading_sends, not_rejected}
 use Rattle.tcp_state.proofs.Unchanged.{closed_plain}
 use Rattle.tcp_state.proofs.Congestion.{moves_by_events, window_kept}
@@ -61,17 +62,18 @@ no_octets [] e = refl
 no_octets (x ∷ l) e = absurd (omega (arith, e))
 
 -- an acknowledgement of SND.UNA is neither new nor of what was not sent
-old_ack : (v : View) (ack : ℕ) → IsSound v → ack ≡ v.sending.una → (is_new_ack v.sending ack ≡ false) × (is_before v.sending.nxt ack ≡ false)
+old_ack : (v : View) (ack : ℕ) → IsSound v → ack ≡ v.sending.una → (is_new_ack v.sending ack ≡ false) × (is_off v ack ≡ false)
 old_ack v ack sound same =
     let flight = small_flight v sound in
     let none : past ack v.sending.una ≡ 0 = omega (arith, same, sound.una) in
     let near : past v.sending.nxt ack ≤ 1048577 = subst (λ n. past v.sending.nxt n ≤ 1048577) (sym same) flight in
-    (ap (λ n. nat_lt 0 n && nat_le n (outstanding v.sending)) none, elim (leb_tells (2 ^ 31) (past v.sending.nxt ack)) [ inl far ↦ absurd (omega (arith, near, far.1)) | inr close ↦ close.0 ])
+    let sent : is_before v.sending.nxt ack ≡ false = elim (leb_tells (2 ^ 31) (past v.sending.nxt ack)) [ inl far ↦ absurd (omega (arith, near, far.1)) | inr close ↦ close.0 ] in
+    (ap (λ n. nat_lt 0 n && nat_le n (outstanding v.sending)) none, in_reach v ack sent (omega (arith, same, sound.una)))
 
-reads_on : (v : View) (ack : ℕ) → is_syn_received v.state ≡ false → is_before v.sending.nxt ack ≡ false → is_read_on v ack ≡ true
+reads_on : (v : View) (ack : ℕ) → is_syn_received v.state ≡ false → is_off v ack ≡ false → is_read_on v ack ≡ true
 reads_on v ack opened within =
     let new = is_new_ack v.sending ack in
-    ap (λ b. if b then new else (new || not (is_before v.sending.nxt ack))) opened ∙ or_right new (not (is_before v.sending.nxt ack)) (of_false (is_before v.sending.nxt ack) within)
+    ap (λ b. if b then new else (new || not (is_off v ack))) opened ∙ or_right new (not (is_off v ack)) (of_false (is_off v ack) within)
 
 duplicate_reads : (v : View) (s : Segment) → IsSound v → IsDuplicate v s → IsRead v s
 duplicate_reads v s sound d = record {
@@ -160,7 +162,7 @@ only_window v s sound d =
     let kept : is_lost v s ≡ false = ap (λ b. v.released && is_receiving v.state && is_read v s && b) unread ∙ and_false (v.released && is_receiving v.state && is_read v s) in
     let acked : after_ack v s.acknowledgement ≡ v =
     ap (λ b. if b then (if is_new_ack v.sending s.acknowledgement then after_establishment v else v) else unestablished) opened.1
-    ∙ ap (λ b. if b then (if is_of_fin v s.acknowledgement then fin_acknowledged (after_acknowledging v s.acknowledgement) else after_acknowledging v s.acknowledgement) else if is_before v.sending.nxt s.acknowledgement then owing_ack v else v) old.0
+    ∙ ap (λ b. if b then (if is_of_fin v s.acknowledgement then fin_acknowledged (after_acknowledging v s.acknowledgement) else after_acknowledging v s.acknowledgement) else if is_off v s.acknowledgement then owing_ack v else v) old.0
     ∙ ap (λ b. if b then owing_ack v else v) old.1 in
     let told = after_window v s in
     let text : after_text told s ≡ told = ap (λ b. if b || not (is_receiving told.state) then told else texted told) none in
@@ -173,7 +175,7 @@ only_window v s sound d =
   where
     unestablished : View
     unestablished = if is_new_ack v.sending s.acknowledgement then (if is_of_fin v s.acknowledgement then fin_acknowledged (after_acknowledging v s.acknowledgement) else after_acknowledging v s.acknowledgement)
-        else if is_before v.sending.nxt s.acknowledgement then owing_ack v else v
+        else if is_off v s.acknowledgement then owing_ack v else v
 
     next : View → Bool
     next w = stands_next w.receiving ((s.number + length s.octets) % 2 ^ 32)

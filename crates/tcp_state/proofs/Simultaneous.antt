@@ -25,17 +25,22 @@ use Rattle.tcp_halves.specs.Halves.{Room, Receiving}
 use Rattle.tcp_halves.specs.Stream.{size_in, own_unit, peer_unit, size_of, outstanding, sending_from, receiving_nothing, receive_window, is_in_window, is_acceptable}
 use Rattle.tcp_state.specs.New.{waits_no_longer}
 use Rattle.tcp_halves.specs.Windows.{window_in, updates_window, is_worth_sending, receive_room, has_grown, whole_units, after_advertisement, window_field, syn_window, after_syn_advertisement}
+use Rattle.tcp_state.specs.declared.arrival.Before.{Before}
+use Rattle.tcp_state.specs.declared.guard.Guard.{Guard}
+use Rattle.tcp_state.specs.declared.guard.TheConstants.{MOST_DRAWN, SECOND}
+use Rattle.tcp_state.specs.Guard.{first_guard, counting_at, is_spent, guard_after}
 use Rattle.tcp_state.specs.Resend.{Resend, first_resend, mark_past}
 use Rattle.tcp_state.specs.Timing.{waiting_since, clocked}
 use Rattle.tcp_state.specs.Alive.{asked}
 use Rattle.tcp_state.specs.View.{View, first_congestion, opened_actively}
 use Rattle.tcp_state.specs.Congestion.{after_signal}
 use Rattle.tcp_state.specs.Congestion.Signal.{Begins, Nothing}
-use Rattle.tcp_state.specs.Arrival.{owing_ack, after_establishment, after_window, after_text, after_fin, after_acceptable_segment, is_acceptable_to, acknowledges_unsent, answers_probe, before, timed_by, after_heard, resend_signalled}
+use Rattle.tcp_state.specs.Arrival.{owing_ack, after_establishment, after_window, after_text, after_fin, after_acceptable_segment, is_acceptable_to, acknowledges_unsent, answers_probe, draws_one, before, since_after, is_moved, resend_left, congestion_left, is_held_back, guarded, timed_by, after_heard, resend_signalled}
 use Rattle.tcp_state.specs.Due.{first_due, ack_due, new_octets, head_of, octets_of, after_syn_ack_paid, after_resent, after_first_sent, after_syn_again}
 use Rattle.tcp_state.specs.Edges.{Hears, Emits, after_first, after_event}
 use Rattle.tcp_state.specs.Simultaneous.{first_segment, after_coming, Ends, crossed, AnswersSyn, CanBeMade, HasOpened, KnowsWindow}
 use Rattle.tcp_state.proofs.Selects.{silent_opening}
+use Rattle.tcp_state.proofs.Guarded.{fresh_unspent}
 use Rattle.tcp_state.proofs.Clocked.{comes_to, unmoved, timed_unmoved, silent_needed}
 use Rattle.tcp_halves.proofs.Choices.{either, clash, both, or_left, and_false}
 use Rattle.tcp_halves.proofs.Keeping.{in_units}
@@ -105,8 +110,8 @@ reports sacks = record { sacks = sacks; latest = record { 0 = 0 } }
 abbrev receives : Meeting → ℕ → Receiving
 receives m window = record { readable = []; kept = (receiving_nothing m.mine.room).kept; rnext = wire m.other 1; edge = (wire m.other 1 + window) % 2 ^ 32; size = m.mine.size; capacity = m.mine.room.capacity; unit = m.unit }
 
-abbrev answering : Meeting → ℕ → Bool → Bool → Resend → Moment → Moment → View
-answering m window owes spoke resend first last = record (opening m first) {
+abbrev answering : Meeting → Guard → ℕ → Bool → Bool → Resend → Moment → Moment → View
+answering m guard window owes spoke resend first last = record (opening m first) {
   state = SynReceived;
   scales = m.scales;
   sending = record { held = []; una = m.isn; nxt = wire m.isn 1; window = m.theirs.told; max_window = max 0 m.theirs.told; wl1 = m.other; wl2 = m.isn; smss = 1460; size = m.mine.size; unit = m.unit };
@@ -118,6 +123,7 @@ answering m window owes spoke resend first last = record (opening m first) {
   unheard = None;
   alive = asked None last;
   reporting = reports m.sacks;
+  guard = guard;
 }
 
 -- .. which settled this, of windows and sizes
@@ -134,23 +140,23 @@ taken m t out mark first = record (opening m first) {
 }
 
 -- its SYN goes out again, with an acknowledgement ..
-abbrev again_due : Meeting → Moment → View
-again_due m first = answering m m.mine.told false false (record (timed_from m.mine.room.manner.least_timeout m.isn first) { mark = Some 0 }) first first
+abbrev again_due : Meeting → Guard → Moment → View
+again_due m guard first = answering m guard m.mine.told false false (record (timed_from m.mine.room.manner.least_timeout m.isn first) { mark = Some 0 }) first first
 
 -- .. and went out twice, so that its round trip is not measured
 abbrev resent_once : ℕ → Resend
 resent_once least = record (first_resend least) { resent = 1 }
 
-abbrev again_sent : Meeting → ℕ → Bool → Bool → Moment → Moment → View
-again_sent m window owes spoke first last = answering m window owes spoke (resent_once m.mine.room.manner.least_timeout) first last
+abbrev again_sent : Meeting → Guard → ℕ → Bool → Bool → Moment → Moment → View
+again_sent m guard window owes spoke first last = answering m guard window owes spoke (resent_once m.mine.room.manner.least_timeout) first last
 
 -- the other's window, in octets
 abbrev known : Meeting → ℕ
 known m = whole_units m.unit m.theirs.wide
 
 -- it is open, and its congestion window begins
-abbrev opened : Meeting → Moment → View
-opened m last = record (opening m (record { 0 = 0 })) {
+abbrev opened : Meeting → Guard → Moment → View
+opened m guard last = record (opening m (record { 0 = 0 })) {
   state = Established;
   scales = m.scales;
   sending = record { held = []; una = wire m.isn 1; nxt = wire m.isn 1; window = known m; max_window = max (max 0 m.theirs.told) (known m); wl1 = wire m.other 1; wl2 = wire m.isn 1; smss = 1460; size = m.mine.size; unit = m.unit };
@@ -161,11 +167,12 @@ opened m last = record (opening m (record { 0 = 0 })) {
   unheard = None;
   alive = asked None last;
   reporting = reports m.sacks;
+  guard = guard;
 }
 
 -- .. but for the clock
-abbrev heard : Meeting → Moment → Moment → View
-heard m first last = record (opened m last) { timers = runs_from first; congestion = first_congestion m.mine.room.manner.control }
+abbrev heard : Meeting → Guard → Moment → Moment → View
+heard m guard first last = record (opened m guard last) { timers = runs_from first; congestion = first_congestion m.mine.room.manner.control }
 
 -- the segments that each sends
 
@@ -173,10 +180,36 @@ abbrev syn_of : Meeting → Segment
 syn_of m = sent_segment (head_of (opening m (record { 0 = 0 })) Syn) []
 
 abbrev syn_ack_of : Meeting → Moment → Segment
-syn_ack_of m first = sent_segment (head_of (again_due m first) Syn) []
+syn_ack_of m first = sent_segment (head_of (again_due m (first_guard false) first) Syn) []
 
 abbrev ack_of : Meeting → Segment
-ack_of m = sent_segment (head_of (again_sent m m.mine.told true false (record { 0 = 0 }) (record { 0 = 0 })) Ack) []
+ack_of m = sent_segment (head_of (again_sent m (first_guard false) m.mine.told true false (record { 0 = 0 }) (record { 0 = 0 })) Ack) []
+
+-- what is kept on guard after the other's SYN, and its SYN-ACK; fewer than ten acknowledgements were drawn
+abbrev guard_at : Meeting → Moment → Guard
+guard_at m now = guard_after (first_guard m.mine.room.manner.guards) (draws_one (waiting m now) (syn_of (mirror m))) now
+
+abbrev guard_again : Meeting → Guard → Moment → Moment → Guard
+guard_again m guard first now = guard_after guard (draws_one (again_sent m guard m.mine.told false false first first) (syn_ack_of (mirror m) first)) now
+
+abbrev guard_open : Meeting → Guard → Moment → Moment → Moment → Guard
+guard_open m guard first last now = guard_after guard (draws_one (again_sent m guard m.mine.wide false true first last) (ack_of (mirror m))) now
+
+drawn_once : (g : Guard) (drew : Bool) (now : Moment) → (guard_after g drew now).drawn ≤ g.drawn + 1
+drawn_once g drew now =
+    either ℕ (λ n. n ≤ g.drawn + 1) (drew && not (is_spent g now)) (counting_at g now + 1) g.drawn
+    (λ counts. either ℕ (λ n. n + 1 ≤ g.drawn + 1) (nat_lt (now.0 - g.latest.0) SECOND) g.drawn 0 (λ recent. omega arith) (λ old. omega arith))
+    (λ none. omega arith)
+
+-- so what is owed stays, and what goes out again
+unguarded : (b : Before) (x : View) (now : Moment) → b.asks_again ≡ false → x.guard.drawn < MOST_DRAWN → guarded b x now ≡ record x { guard = guard_after x.guard b.draws_one now }
+unguarded b x now quiet few =
+    let held : is_held_back b x now ≡ false = ap (λ u. b.draws_one && u) (fresh_unspent x.guard now few) ∙ and_false b.draws_one in
+    ap₂ (λ h a. record x {
+      owes_ack = if h || a then false else x.owes_ack;
+      resend = record x.resend { mark = if a && not h then mark_past 0 (outstanding x.sending) else x.resend.mark };
+      guard = guard_after x.guard b.draws_one now;
+    }) held quiet
 
 -- What holds of them.
 
@@ -297,28 +330,30 @@ syn_goes m at now f =
     ∙ (ap (λ n. clocked false (record v { sending = record (sending_from (size_of m.mine.room) m.isn) { nxt = n }; resend = record (first_resend m.mine.room.manner.least_timeout) { timed = Some (record { end = record { 0 = n }; since = now }) } }) now) (sent_first m.isn f.isn)
     ∙ ap (running_if (waiting m now) (Some at) now now) (one_out m.isn f.isn)))
 
-syn_comes : (m : Meeting) (now : Moment) → Fits m → after_event (waiting m now) (Hears (syn_of (mirror m)) now) ≡ again_due m now
+syn_comes : (m : Meeting) (now : Moment) → Fits m → after_event (waiting m now) (Hears (syn_of (mirror m)) now) ≡ again_due m (guard_at m now) now
 syn_comes m now f =
     let v = waiting m now in
-    let w = again_due m now in
+    let on = m.mine.room.manner.guards in
+    let w = again_due m (first_guard on) now in
     let b = before v (syn_of (mirror m)) in
     ap (λ n. timed_by b (taken m (read_of m) n (mark_past 0 n) now) now) (one_out m.isn f.isn)
     ∙ (ap (λ t. timed_by b (taken m t 1 (Some 0) now) now) f.settles
-    ∙ (timed_unmoved b w now (unmoved v) refl refl (silent_opening v (syn_of (mirror m)) refl) (silent_needed v (syn_of (mirror m)) (silent_opening v (syn_of (mirror m)) refl)) ∙ ap (running_if w None now now) (one_out m.isn f.isn)))
+    ∙ (timed_unmoved b w now (unmoved v) refl refl (silent_opening v (syn_of (mirror m)) refl) (silent_needed v (syn_of (mirror m)) (silent_opening v (syn_of (mirror m)) refl))
+    ∙ (ap (λ x. clocked false x now) (unguarded b w now (and_false on) (omega arith)) ∙ ap (running_if (again_due m (guard_at m now) now) None now now) (one_out m.isn f.isn))))
 
 -- The SYN-ACK.
 
 sent_again : (isn : ℕ) → later_number isn (wire isn 1) (wire isn 1) ≡ wire isn 1
 sent_again isn = either ℕ (λ n. n ≡ wire isn 1) (nat_le (past (wire isn 1) isn) (past (wire isn 1) isn)) (wire isn 1) (wire isn 1) (λ le. refl) (λ gt. refl)
 
-first_is_syn_ack : (m : Meeting) (first : Moment) → Fits m → first_due (again_due m first) ≡ Some Syn
-first_is_syn_ack m first f = ap (λ n. if (n == 0) || true then Some Syn else None) (one_out m.isn f.isn)
+first_is_syn_ack : (m : Meeting) (guard : Guard) (first : Moment) → Fits m → first_due (again_due m guard first) ≡ Some Syn
+first_is_syn_ack m guard first f = ap (λ n. if (n == 0) || true then Some Syn else None) (one_out m.isn f.isn)
 
-syn_ack_goes : (m : Meeting) (first now : Moment) → Fits m → after_event (again_due m first) (Emits now) ≡ again_sent m m.mine.told false false first first
-syn_ack_goes m first now f =
-    let v = again_due m first in
-    let w = again_sent m m.mine.told false false first first in
-    ap (λ d. after_first v d now) (first_is_syn_ack m first f)
+syn_ack_goes : (m : Meeting) (guard : Guard) (first now : Moment) → Fits m → after_event (again_due m guard first) (Emits now) ≡ again_sent m guard m.mine.told false false first first
+syn_ack_goes m guard first now f =
+    let v = again_due m guard first in
+    let w = again_sent m guard m.mine.told false false first first in
+    ap (λ d. after_first v d now) (first_is_syn_ack m guard first f)
     ∙ (ap (λ n. clocked false (after_syn_ack_paid (out_again v now n)) now) (one_out m.isn f.isn)
     ∙ (ap (λ n. clocked false (after_syn_ack_paid (record w { sending = record w.sending { nxt = n }; resend = record (resent_once m.mine.room.manner.least_timeout) { mark = mark_past 1 (past n m.isn) } })) now) (sent_again m.isn)
     ∙ (ap (λ n. clocked false (after_syn_ack_paid (record w { resend = record (resent_once m.mine.room.manner.least_timeout) { mark = mark_past 1 n } })) now) (one_out m.isn f.isn)
@@ -338,26 +373,28 @@ unacceptable m f =
     kept : (n : ℕ) → n < 2 ^ 32 → (n + 0) % 2 ^ 32 ≡ n
     kept n fits = omega (arith, fits)
 
-syn_ack_comes : (m : Meeting) (first now : Moment) → Fits m
-    → after_event (again_sent m m.mine.told false false first first) (Hears (syn_ack_of (mirror m) first) now) ≡ again_sent m m.mine.told true false first now
-syn_ack_comes m first now f =
-    let v = again_sent m m.mine.told false false first first in
-    let w = again_sent m m.mine.told true false first now in
+syn_ack_comes : (m : Meeting) (guard : Guard) (first now : Moment) → Fits m → guard.drawn < MOST_DRAWN
+    → after_event (again_sent m guard m.mine.told false false first first) (Hears (syn_ack_of (mirror m) first) now) ≡ again_sent m (guard_again m guard first now) m.mine.told true false first now
+syn_ack_comes m guard first now f few =
+    let v = again_sent m guard m.mine.told false false first first in
+    let w = again_sent m guard m.mine.told true false first now in
     let s = syn_ack_of (mirror m) first in
     let b = before v s in
     comes_to v s now refl (and_no (acknowledges_unsent v s) (is_acceptable_to v s && false) (and_no (is_acceptable_to v s) false refl))
-    ∙ (ap (λ a. timed_by b (if a then after_acceptable_segment v s else owing_ack v) now) (unacceptable m f) ∙ (timed_unmoved b w now (unmoved v) refl refl (silent_opening v s refl) (silent_needed v s (silent_opening v s refl)) ∙ ap (running_if w None now first) (one_out m.isn f.isn)))
+    ∙ (ap (λ a. timed_by b (if a then after_acceptable_segment v s else owing_ack v) now) (unacceptable m f)
+    ∙ (timed_unmoved b w now (unmoved v) refl refl (silent_opening v s refl) (silent_needed v s (silent_opening v s refl))
+    ∙ (ap (λ x. clocked false x now) (unguarded b w now (and_false guard.on) few) ∙ ap (running_if (again_sent m (guard_again m guard first now) m.mine.told true false first now) None now first) (one_out m.isn f.isn))))
 
 -- The acknowledgement.
 
-first_is_ack : (m : Meeting) (first last : Moment) → Fits m → first_due (again_sent m m.mine.told true false first last) ≡ Some Ack
-first_is_ack m first last f = ap (λ n. if (n == 0) || false then Some Syn else Some Ack) (one_out m.isn f.isn)
+first_is_ack : (m : Meeting) (guard : Guard) (first last : Moment) → Fits m → first_due (again_sent m guard m.mine.told true false first last) ≡ Some Ack
+first_is_ack m guard first last f = ap (λ n. if (n == 0) || false then Some Syn else Some Ack) (one_out m.isn f.isn)
 
-ack_goes : (m : Meeting) (first last now : Moment) → Fits m → after_event (again_sent m m.mine.told true false first last) (Emits now) ≡ again_sent m m.mine.wide false true first last
-ack_goes m first last now f =
-    let v = again_sent m m.mine.told true false first last in
-    let w = again_sent m m.mine.wide false true first last in
-    ap (λ d. after_first v d now) (first_is_ack m first last f)
+ack_goes : (m : Meeting) (guard : Guard) (first last now : Moment) → Fits m → after_event (again_sent m guard m.mine.told true false first last) (Emits now) ≡ again_sent m guard m.mine.wide false true first last
+ack_goes m guard first last now f =
+    let v = again_sent m guard m.mine.told true false first last in
+    let w = again_sent m guard m.mine.wide false true first last in
+    ap (λ d. after_first v d now) (first_is_ack m guard first last f)
     ∙ (ap (λ r. clocked false (record w { receiving = r }) now) (widened m f) ∙ ap (running_if w None now first) (one_out m.isn f.isn))
 
 in_order : (m : Meeting) → Fits m → is_acceptable (receives m m.mine.wide) (wire m.other 1) 0 ≡ true
@@ -378,23 +415,23 @@ later other fits = le-leb (2 ^ 31) (past other (wire other 1)) (omega (arith, on
 not_behind : (n : ℕ) → n < 2 ^ 32 → is_before n n ≡ false
 not_behind n fits = lt-leb (2 ^ 31) (past n n) (omega (arith, none_out n fits))
 
-updates : (m : Meeting) (first last : Moment) → Fits m → (let e = after_establishment (again_sent m m.mine.wide false true first last) in updates_window e.sending (wire m.other 1) (wire m.isn 1)) ≡ true
-updates m first last f =
+updates : (m : Meeting) (guard : Guard) (first last : Moment) → Fits m → (let e = after_establishment (again_sent m guard m.mine.wide false true first last) in updates_window e.sending (wire m.other 1) (wire m.isn 1)) ≡ true
+updates m guard first last f =
     let same = is_before (wire m.isn 1) (wire m.isn 1) in
     both (not same) (is_before m.other (wire m.other 1) || (m.other == wire m.other 1 && not same))
     (ap not (not_behind (wire m.isn 1) (omega arith))) (or_left (is_before m.other (wire m.other 1)) (m.other == wire m.other 1 && not same) (later m.other f.other))
 
 -- what the acknowledgement makes of the connection without the clock
-ack_heard : (m : Meeting) (first last : Moment) → Fits m → after_heard (again_sent m m.mine.wide false true first last) (ack_of (mirror m)) ≡ heard m first last
-ack_heard m first last f =
-    let v = again_sent m m.mine.wide false true first last in
+ack_heard : (m : Meeting) (guard : Guard) (first last : Moment) → Fits m → after_heard (again_sent m guard m.mine.wide false true first last) (ack_of (mirror m)) ≡ heard m guard first last
+ack_heard m guard first last f =
+    let v = again_sent m guard m.mine.wide false true first last in
     let s = ack_of (mirror m) in
-    let w = heard m first last in
+    let w = heard m guard first last in
     let e = after_establishment v in
     let most = max 0 m.theirs.told in
     ap (λ b. if b then after_acceptable_segment v s else owing_ack v) (in_order m f)
     ∙ (ap (λ b. if b then after_fin (after_text (after_window (if b then e else v) s) s) s else (if b then e else v)) (acknowledges m.isn f.isn)
-    ∙ (ap (λ b. record w { sending = if b then record w.sending { window = window_in e.sending s.window; max_window = max most (window_in e.sending s.window) } else e.sending }) (updates m first last f)
+    ∙ (ap (λ b. record w { sending = if b then record w.sending { window = window_in e.sending s.window; max_window = max most (window_in e.sending s.window) } else e.sending }) (updates m guard first last f)
     ∙ (ap (λ r. record w { sending = record w.sending { window = window_field r * m.unit; max_window = max most (window_field r * m.unit) } }) (widened (mirror m) (mirrored m f))
     ∙ ap (λ n. record w { sending = record w.sending { window = n / m.unit * m.unit; max_window = max most (n / m.unit * m.unit) } }) (window_is (mirror m) m.theirs.wide f.theirs.most))))
 
@@ -403,9 +440,9 @@ none_waits : (out window : ℕ) → nat_lt 0 (min (0 - out) window) ≡ false
 none_waits out window = le-ltb 0 (min (0 - out) window) (omega arith)
 
 -- .. and no timer runs
-at_rest : (m : Meeting) (first now : Moment) → clocked true (record (opened m now) { timers = runs_from first }) now ≡ opened m now
-at_rest m first now =
-    let w = opened m now in
+at_rest : (m : Meeting) (guard : Guard) (first now : Moment) → clocked true (record (opened m guard now) { timers = runs_from first }) now ≡ opened m guard now
+at_rest m guard first now =
+    let w = opened m guard now in
     let n = outstanding w.sending in
     let open_window = min w.sending.window (allowance w) - n in
     let worth = is_worth_sending w.sending (allowance w) (waits_no_longer w) in
@@ -430,25 +467,31 @@ at_rest m first now =
       unheard = if (k == 0) && false then Some now else None;
     }) (none_out (wire m.isn 1) (omega arith)))
 
-ack_comes : (m : Meeting) (first last now : Moment) → Fits m → after_event (again_sent m m.mine.wide false true first last) (Hears (ack_of (mirror m)) now) ≡ opened m now
-ack_comes m first last now f =
-    let v = again_sent m m.mine.wide false true first last in
+ack_comes : (m : Meeting) (guard : Guard) (first last now : Moment) → Fits m → guard.drawn < MOST_DRAWN
+    → after_event (again_sent m guard m.mine.wide false true first last) (Hears (ack_of (mirror m)) now) ≡ opened m (guard_open m guard first last now) now
+ack_comes m guard first last now f few =
+    let v = again_sent m guard m.mine.wide false true first last in
     let s = ack_of (mirror m) in
     let b = before v s in
-    let w = heard m first last in
+    let silent = record b { blocks = []; needless = false } in
+    let w = heard m guard first last in
+    let left = guard_open m guard first last now in
+    let once = resent_once m.mine.room.manner.least_timeout in
     comes_to v s now refl (ap (λ a. not a && (is_acceptable_to v s && true)) (acknowledges m.isn f.isn))
-    ∙ (ap (λ x. timed_by b x now) (ack_heard m first last f)
+    ∙ (ap (λ x. timed_by b x now) (ack_heard m guard first last f)
     ∙ (ap₂ (λ bs t. timed_by (record b { blocks = bs; needless = t }) w now) (silent_opening v s refl) (silent_needed v s (silent_opening v s refl))
+    ∙ (ap (λ x. clocked (is_moved silent w) x now) (unguarded silent (record w { since = since_after silent w now; resend = resend_left silent w now; congestion = congestion_left silent w now; alive = asked None now }) now (and_false guard.on) few)
     ∙ (ap (λ x. clocked x (record w {
-      resend = let once = resent_once m.mine.room.manner.least_timeout in let resend : Resend = record (if x then once else if answers_probe v s then once else once) { reported = [] } in resend_signalled resend (if x then Begins else Nothing) w.congestion (outstanding w.sending);
+      resend = let resend : Resend = record (if x then once else if answers_probe v s then once else once) { reported = [] } in resend_signalled resend (if x then Begins else Nothing) w.congestion (outstanding w.sending);
       congestion = after_signal w.congestion (if x then Begins else Nothing) 1460 false;
       alive = asked None now;
+      guard = left;
     }) now) (moves m.isn f.isn)
-    ∙ at_rest m first now)))
+    ∙ at_rest m left first now))))
 
-none_left : (m : Meeting) (last : Moment) → Fits m → first_due (opened m last) ≡ None
-none_left m last f =
-    let v = opened m last in
+none_left : (m : Meeting) (guard : Guard) (last : Moment) → Fits m → first_due (opened m guard last) ≡ None
+none_left m guard last f =
+    let v = opened m guard last in
     let n = outstanding v.sending in
     ap (λ b. if b && is_worth_sending v.sending (allowance v) (waits_no_longer v) then Some (Text (new_octets v)) else ack_due v) (none_waits n (min v.sending.window (allowance v) - n))
     ∙ ap (λ b. if b then Some Ack else None) (full m f)
@@ -463,24 +506,24 @@ crosses v w x s y now goes is comes = ap (λ u. after_coming u (first_segment w)
 segment_due : (v : View) (due : Due) → first_due v ≡ Some due → first_segment v ≡ Some (sent_segment (head_of v due) (octets_of v due))
 segment_due v due is = ap (λ o. option_map (λ d. sent_segment (head_of v d) (octets_of v d)) o) is
 
-syns_cross : (m : Meeting) (one two now : Moment) → Fits m → after_coming (after_event (opening m one) (Emits now)) (first_segment (opening (mirror m) two)) now ≡ again_due m now
+syns_cross : (m : Meeting) (one two now : Moment) → Fits m → after_coming (after_event (opening m one) (Emits now)) (first_segment (opening (mirror m) two)) now ≡ again_due m (guard_at m now) now
 syns_cross m one two now f =
-    crosses (opening m one) (opening (mirror m) two) (waiting m now) (syn_of (mirror m)) (again_due m now) now
+    crosses (opening m one) (opening (mirror m) two) (waiting m now) (syn_of (mirror m)) (again_due m (guard_at m now) now) now
     (syn_goes m one now f) (segment_due (opening (mirror m) two) Syn (first_is_syn (mirror m) two (mirrored m f))) (syn_comes m now f)
 
-syn_acks_cross : (m : Meeting) (first now : Moment) → Fits m
-    → after_coming (after_event (again_due m first) (Emits now)) (first_segment (again_due (mirror m) first)) now ≡ again_sent m m.mine.told true false first now
-syn_acks_cross m first now f =
-    let w = again_due (mirror m) first in
-    crosses (again_due m first) w (again_sent m m.mine.told false false first first) (syn_ack_of (mirror m) first) (again_sent m m.mine.told true false first now) now
-    (syn_ack_goes m first now f) (segment_due w Syn (first_is_syn_ack (mirror m) first (mirrored m f))) (syn_ack_comes m first now f)
+syn_acks_cross : (m : Meeting) (guard other : Guard) (first now : Moment) → Fits m → guard.drawn < MOST_DRAWN
+    → after_coming (after_event (again_due m guard first) (Emits now)) (first_segment (again_due (mirror m) other first)) now ≡ again_sent m (guard_again m guard first now) m.mine.told true false first now
+syn_acks_cross m guard other first now f few =
+    let w = again_due (mirror m) other first in
+    crosses (again_due m guard first) w (again_sent m guard m.mine.told false false first first) (syn_ack_of (mirror m) first) (again_sent m (guard_again m guard first now) m.mine.told true false first now) now
+    (syn_ack_goes m guard first now f) (segment_due w Syn (first_is_syn_ack (mirror m) other first (mirrored m f))) (syn_ack_comes m guard first now f few)
 
-acks_cross : (m : Meeting) (first last now : Moment) → Fits m
-    → after_coming (after_event (again_sent m m.mine.told true false first last) (Emits now)) (first_segment (again_sent (mirror m) m.theirs.told true false first last)) now ≡ opened m now
-acks_cross m first last now f =
-    let w = again_sent (mirror m) m.theirs.told true false first last in
-    crosses (again_sent m m.mine.told true false first last) w (again_sent m m.mine.wide false true first last) (ack_of (mirror m)) (opened m now) now
-    (ack_goes m first last now f) (segment_due w Ack (first_is_ack (mirror m) first last (mirrored m f))) (ack_comes m first last now f)
+acks_cross : (m : Meeting) (guard other : Guard) (first last now : Moment) → Fits m → guard.drawn < MOST_DRAWN
+    → after_coming (after_event (again_sent m guard m.mine.told true false first last) (Emits now)) (first_segment (again_sent (mirror m) other m.theirs.told true false first last)) now ≡ opened m (guard_open m guard first last now) now
+acks_cross m guard other first last now f few =
+    let w = again_sent (mirror m) other m.theirs.told true false first last in
+    crosses (again_sent m guard m.mine.told true false first last) w (again_sent m guard m.mine.wide false true first last) (ack_of (mirror m)) (opened m (guard_open m guard first last now) now) now
+    (ack_goes m guard first last now f) (segment_due w Ack (first_is_ack (mirror m) other first last (mirrored m f))) (ack_comes m guard first last now f few)
 
 -- the two of a meeting
 abbrev pair : (Meeting → View) → Meeting → Ends
@@ -495,30 +538,59 @@ together m v w end now one other =
 abbrev both_open : Meeting → Moment → Moment → Ends
 both_open m one two = record { one = opening m one; other = opening (mirror m) two }
 
-first_crossing : (m : Meeting) (one two now : Moment) → Fits m → crossed (both_open m one two) now ≡ pair (λ m. again_due m now) m
-first_crossing m one two now f = together m (opening m one) (opening (mirror m) two) (λ m. again_due m now) now (syns_cross m one two now f) (syns_cross (mirror m) two one now (mirrored m f))
+-- the two once the SYNs crossed, the SYN-ACKs, and the acknowledgements of these
+abbrev once_crossed : Moment → Meeting → View
+once_crossed first m = again_due m (guard_at m first) first
 
-second_crossing : (m : Meeting) (first now : Moment) → Fits m → crossed (pair (λ m. again_due m first) m) now ≡ pair (λ m. again_sent m m.mine.told true false first now) m
+abbrev guard_twice : Meeting → Moment → Moment → Guard
+guard_twice m first second = guard_again m (guard_at m first) first second
+
+abbrev twice_crossed : Moment → Moment → Meeting → View
+twice_crossed first second m = again_sent m (guard_twice m first second) m.mine.told true false first second
+
+abbrev thrice_crossed : Moment → Moment → Moment → Meeting → View
+thrice_crossed first second third m = opened m (guard_open m (guard_twice m first second) first second third) third
+
+few_at : (m : Meeting) (first : Moment) → (guard_at m first).drawn < MOST_DRAWN
+few_at m first = let one = drawn_once (first_guard m.mine.room.manner.guards) (draws_one (waiting m first) (syn_of (mirror m))) first in omega (arith, one)
+
+few_twice : (m : Meeting) (first second : Moment) → (guard_twice m first second).drawn < MOST_DRAWN
+few_twice m first second =
+    let guard = guard_at m first in
+    let one = drawn_once (first_guard m.mine.room.manner.guards) (draws_one (waiting m first) (syn_of (mirror m))) first in
+    let two = drawn_once guard (draws_one (again_sent m guard m.mine.told false false first first) (syn_ack_of (mirror m) first)) second in
+    omega (arith, one, two)
+
+first_crossing : (m : Meeting) (one two now : Moment) → Fits m → crossed (both_open m one two) now ≡ pair (once_crossed now) m
+first_crossing m one two now f = together m (opening m one) (opening (mirror m) two) (once_crossed now) now (syns_cross m one two now f) (syns_cross (mirror m) two one now (mirrored m f))
+
+second_crossing : (m : Meeting) (first now : Moment) → Fits m → crossed (pair (once_crossed first) m) now ≡ pair (twice_crossed first now) m
 second_crossing m first now f =
-    together m (again_due m first) (again_due (mirror m) first) (λ m. again_sent m m.mine.told true false first now) now (syn_acks_cross m first now f) (syn_acks_cross (mirror m) first now (mirrored m f))
+    let here = guard_at m first in
+    let there = guard_at (mirror m) first in
+    together m (once_crossed first m) (once_crossed first (mirror m)) (twice_crossed first now) now
+    (syn_acks_cross m here there first now f (few_at m first)) (syn_acks_cross (mirror m) there here first now (mirrored m f) (few_at (mirror m) first))
 
-third_crossing : (m : Meeting) (first last now : Moment) → Fits m → crossed (pair (λ m. again_sent m m.mine.told true false first last) m) now ≡ pair (λ m. opened m now) m
+third_crossing : (m : Meeting) (first last now : Moment) → Fits m → crossed (pair (twice_crossed first last) m) now ≡ pair (thrice_crossed first last now) m
 third_crossing m first last now f =
-    together m (again_sent m m.mine.told true false first last) (again_sent (mirror m) m.theirs.told true false first last) (λ m. opened m now) now (acks_cross m first last now f) (acks_cross (mirror m) first last now (mirrored m f))
+    let here = guard_twice m first last in
+    let there = guard_twice (mirror m) first last in
+    together m (twice_crossed first last m) (twice_crossed first last (mirror m)) (thrice_crossed first last now) now
+    (acks_cross m here there first last now f (few_twice m first last)) (acks_cross (mirror m) there here first last now (mirrored m f) (few_twice (mirror m) first last))
 
-all_crossings : (m : Meeting) (one two first second third : Moment) → Fits m → crossed (crossed (crossed (both_open m one two) first) second) third ≡ pair (λ m. opened m third) m
+all_crossings : (m : Meeting) (one two first second third : Moment) → Fits m → crossed (crossed (crossed (both_open m one two) first) second) third ≡ pair (thrice_crossed first second third) m
 all_crossings m one two first second third f =
     ap (λ ends. crossed (crossed ends second) third) (first_crossing m one two first f) ∙ (ap (λ ends. crossed ends third) (second_crossing m first second f) ∙ third_crossing m first second third f)
 
-answers : (m : Meeting) (first : Moment) → Fits m → AnswersSyn m.isn m.other (again_due m first)
+answers : (m : Meeting) (first : Moment) → Fits m → AnswersSyn m.isn m.other (once_crossed first m)
 answers m first f = record {
   state = refl;
-  due = first_is_syn_ack m first f;
+  due = first_is_syn_ack m (guard_at m first) first f;
   syn = refl;
   ack = refl;
   number = refl;
   expects = refl;
-  then_sent = λ now. ap (λ (v : View). v.sending.nxt) (syn_ack_goes m first now f);
+  then_sent = λ now. ap (λ (v : View). v.sending.nxt) (syn_ack_goes m (guard_at m first) first now f);
 }
 
 -- The rooms.
@@ -661,9 +733,9 @@ all_told true told size same (inr large) =
     ap (λ b. if b then whole_units 32 size else told) (le-leb (told + 1460) size (omega (arith, same, large.0))) ∙ omega (arith, large.0)
 all_told false told size same (inr large) = cc
 
-has_opened : (both sacks : Bool) (room facing : Room) (here there : Endpoint) (isn other : ℕ) (last : Moment) → CanBeMade room
-    → (let m = meeting both sacks room facing here there isn other in Fits m → HasOpened both room.capacity isn other (opened m last))
-has_opened both sacks room facing here there isn other last made f =
+has_opened : (both sacks : Bool) (room facing : Room) (here there : Endpoint) (isn other : ℕ) (guard : Guard) (last : Moment) → CanBeMade room
+    → (let m = meeting both sacks room facing here there isn other in Fits m → HasOpened both room.capacity isn other (opened m guard last))
+has_opened both sacks room facing here there isn other guard last made f =
     let m = meeting both sacks room facing here there isn other in
     let window = window_is m m.mine.wide f.mine.most in
     let sized = sizes both room.capacity made.least in
@@ -672,7 +744,7 @@ has_opened both sacks room facing here there isn other last made f =
       una = refl;
       nxt = refl;
       expects = refl;
-      due = none_left m last f;
+      due = none_left m guard last f;
       scales = refl;
       sends = refl;
       takes = refl;
@@ -684,8 +756,8 @@ has_opened both sacks room facing here there isn other last made f =
     where_large true capacity large = refl
     where_large false capacity large = absurd (omega (arith, large))
 
-knows : (m : Meeting) (last : Moment) → Fits m → KnowsWindow (opened m last) (opened (mirror m) last)
-knows m last f = record { unit = refl; window = ap (whole_units m.unit) (sym (window_is (mirror m) m.theirs.wide f.theirs.most)) }
+knows : (m : Meeting) (first second third : Moment) → Fits m → KnowsWindow (thrice_crossed first second third m) (thrice_crossed first second third (mirror m))
+knows m first second third f = record { unit = refl; window = ap (whole_units m.unit) (sym (window_is (mirror m) m.theirs.wide f.theirs.most)) }
 
 pub both_answered : (here there : Endpoint) (room facing : Room) (isn other : ℕ) (one two first : Moment) → CanBeMade room → CanBeMade facing → isn < 2 ^ 32 → other < 2 ^ 32
     → (let ends = crossed (record { one = opened_actively room here there isn one; other = opened_actively facing there here other two }) first in
@@ -704,8 +776,10 @@ both_opened here there room facing isn other one two first second third made mad
     let both = room.manner.scales && facing.manner.scales in
     let m = meeting both (both_report room facing) room facing here there isn other in
     let f = fits room facing here there isn other made made_there few other_few in
-    subst (λ (ends : Ends). HasOpened both room.capacity isn other ends.one × HasOpened both facing.capacity other isn ends.other) (sym (all_crossings m one two first second third f))
-    (has_opened both (both_report room facing) room facing here there isn other third made f, has_opened both (both_report room facing) facing room there here other isn third made_there (mirrored m f))
+    subst (λ (ends : Ends). HasOpened both room.capacity isn other ends.one × HasOpened both facing.capacity other isn ends.other) (sym (all_crossings m one two first second third f)) (
+      has_opened both (both_report room facing) room facing here there isn other (guard_open m (guard_twice m first second) first second third) third made f,
+      has_opened both (both_report room facing) facing room there here other isn (guard_open (mirror m) (guard_twice (mirror m) first second) first second third) third made_there (mirrored m f),
+    )
 
 pub both_know : (here there : Endpoint) (room facing : Room) (isn other : ℕ) (one two first second third : Moment) → CanBeMade room → CanBeMade facing → isn < 2 ^ 32 → other < 2 ^ 32
     → (let ends = crossed (crossed (crossed (record { one = opened_actively room here there isn one; other = opened_actively facing there here other two }) first) second) third in
@@ -713,4 +787,4 @@ pub both_know : (here there : Endpoint) (room facing : Room) (isn other : ℕ) (
 both_know here there room facing isn other one two first second third made made_there few other_few =
     let m = meeting (room.manner.scales && facing.manner.scales) (both_report room facing) room facing here there isn other in
     let f = fits room facing here there isn other made made_there few other_few in
-    subst (λ (ends : Ends). KnowsWindow ends.one ends.other × KnowsWindow ends.other ends.one) (sym (all_crossings m one two first second third f)) (knows m third f, knows (mirror m) third (mirrored m f))
+    subst (λ (ends : Ends). KnowsWindow ends.one ends.other × KnowsWindow ends.other ends.one) (sym (all_crossings m one two first second third f)) (knows m first second third f, knows (mirror m) first second third (mirrored m f))

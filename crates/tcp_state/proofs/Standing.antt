@@ -1,5 +1,5 @@
 -- What the positions of a connection and of a segment tell of the tests by number.
-use Rattle.std.proofs.Common.{◌≡◌, ℕ, zero, suc, ◌+◌, ◌^◌, ◌<◌, ◌≤◌, ◌==◌, ◌||◌, ◌&&◌, not, nat_lt, nat_le, Bool, true, false, inl, inr, arith, refl, sym, ◌∙◌, ap}
+use Rattle.std.proofs.Common.{◌≡◌, ℕ, zero, suc, ◌+◌, ◌-◌, ◌^◌, ◌<◌, ◌≤◌, ◌==◌, ◌||◌, ◌&&◌, not, nat_lt, nat_le, Bool, true, false, inl, inr, arith, refl, sym, ◌∙◌, ap}
 use Rattle.std.proofs.lemmas.Bool.{eqb-true, ltb-true, leb-true, lt-ltb, le-leb, lt-leb, eq-eqb}
 use Rattle.std.proofs.lemmas.Bool.Decides.{leb_tells, eqb_tells}
 use Rattle.tcp_segment.specs.Wire.{wire, past}
@@ -9,8 +9,9 @@ use Rattle.tcp_halves.specs.Halves.{Sending, Receiving}
 use Rattle.tcp_halves.specs.Stream.{outstanding, is_new_ack, is_in_window, is_acceptable, receive_window}
 use Rattle.tcp_state.specs.View.{View, IsSound}
 use Rattle.tcp_state.specs.Positions.{ReceivesAt}
-use Rattle.tcp_state.specs.Duties.{Places, StandsAt}
-use Rattle.tcp_halves.proofs.Choices.{either, by, and_left, and_right, or_left}
+use Rattle.tcp_state.specs.Arrival.{is_too_old, is_off}
+use Rattle.tcp_state.specs.Duties.{Places, StandsAt, is_aged, is_out_of_reach, is_in_reach}
+use Rattle.tcp_halves.proofs.Choices.{either, by, and_left, and_right, and_false, or_left}
 use Rattle.tcp_state.proofs.Positions.{window_tells}
 use Rattle.tcp_state.proofs.Freed.{named_is_new}
 
@@ -155,9 +156,53 @@ inside_accepted r number (suc more) inside = or_left (is_in_window r number) _ i
 
 -- Both, of a segment that stands somewhere.
 
+-- on guard one that is too old is so by number, too
+aged_order : (beyond within above new before aged old : Bool) → AckOrder beyond within above new before → (new ≡ true → aged ≡ false) → (new ≡ false → before ≡ false → old ≡ aged)
+    → AckOrder (beyond || aged) (within && not aged) above new (before || old)
+aged_order true within above true before aged old o y s = let bad : true ≡ false = o.ahead in cc
+aged_order false false above true before aged old o y s = let bad : false ≡ true = o.sent in cc
+aged_order false true above true before true old o y s = let bad : true ≡ false = y refl in cc
+aged_order false true above true before false old o y s = record { ahead = refl; sent = refl; fresh = o.fresh }
+aged_order false within above false true aged old o y s = let bad : false ≡ true = o.ahead in cc
+aged_order true true above false true aged old o y s = let bad : true ≡ false = o.sent in cc
+aged_order true false above false true aged old o y s = record { ahead = refl; sent = refl; fresh = refl }
+aged_order true within above false false aged old o y s = let bad : true ≡ false = o.ahead in cc
+aged_order false false above false false aged old o y s = let bad : false ≡ true = o.sent in cc
+aged_order false true true false false aged old o y s = let bad : true ≡ false = o.fresh in cc
+aged_order false true false false false aged old o y s = record { ahead = sym (s refl refl); sent = ap not (sym (s refl refl)); fresh = and_false (not aged) }
+
+-- so many positions behind SND.UNA
+behind_by : (own una ack first number : ℕ) → first ≡ wire own una → number ≡ wire own ack → ack ≤ una → una < ack + 2 ^ 31 → past first number ≡ una - ack
+behind_by own una ack first number f l old near = omega (arith, f, l, old, near)
+
+too_old_as_aged : (own una ack widest first number : ℕ) (on : Bool) → first ≡ wire own una → number ≡ wire own ack → ack ≤ una → una < ack + 2 ^ 31 → (on && nat_lt widest (past first number)) ≡ (on && nat_lt (ack + widest) una)
+too_old_as_aged own una ack widest first number on f l old near =
+    let distance = behind_by own una ack first number f l old near in
+    ap (λ b. on && b) (elim (leb_tells (suc (ack + widest)) una) [
+      | inl t ↦ lt-ltb widest (past first number) (omega (arith, distance, t.1)) ∙ sym t.0
+      | inr t ↦ lt-leb (suc widest) (past first number) (omega (arith, distance, old, t.1)) ∙ sym t.0
+    ])
+
 pub ack_stands : (at : Places) (v : View) (s : Segment) → IsSound v → StandsAt at v s → s.flags.ack ≡ true
-    → AckOrder (nat_lt (at.una + outstanding v.sending) at.ack) (nat_le at.ack (at.una + outstanding v.sending)) (nat_lt at.una at.ack) (is_new_ack v.sending s.acknowledgement) (is_before v.sending.nxt s.acknowledgement)
-ack_stands at v s sound stands ack = ack_tells at.own at.una at.ack s.acknowledgement v.sending stands.una_number (stands.ack_number ack) sound.nxt (stands.ack_behind ack) (stands.ack_ahead ack)
+    → AckOrder (is_out_of_reach at v) (is_in_reach at v) (nat_lt at.una at.ack) (is_new_ack v.sending s.acknowledgement) (is_off v s.acknowledgement)
+ack_stands at v s sound stands ack =
+    let out = outstanding v.sending in
+    let new = is_new_ack v.sending s.acknowledgement in
+    let before = is_before v.sending.nxt s.acknowledgement in
+    let order = ack_tells at.own at.una at.ack s.acknowledgement v.sending stands.una_number (stands.ack_number ack) sound.nxt (stands.ack_behind ack) (stands.ack_ahead ack) in
+    aged_order (nat_lt (at.una + out) at.ack) (nat_le at.ack (at.una + out)) (nat_lt at.una at.ack) new before (is_aged at v) (is_too_old v s.acknowledgement) order
+    (λ is.
+    let above : at.una < at.ack = ltb-true at.una at.ack (and_right (nat_le at.ack (at.una + out)) (nat_lt at.una at.ack) (order.fresh ∙ is)) in
+    ap (λ b. v.guard.on && b) (lt-leb (suc (at.ack + v.sending.max_window)) at.una (omega (arith, above))) ∙ and_false v.guard.on)
+    (λ old sent.
+    let low : at.ack ≤ at.una = not_above at.una at.ack (nat_le at.ack (at.una + out)) (order.fresh ∙ old) (order.sent ∙ (ap (λ b. b || not before) old ∙ ap not sent)) in
+    too_old_as_aged at.own at.una at.ack v.sending.max_window v.sending.una s.acknowledgement v.guard.on stands.una_number (stands.ack_number ack) low (omega (arith, stands.ack_behind ack)))
+  where
+    not_above : (una ack : ℕ) (within : Bool) → (within && nat_lt una ack) ≡ false → within ≡ true → ack ≤ una
+    not_above una ack within none is = elim (leb_tells (suc una) ack) [
+      | inl t ↦ let bad : true ≡ false = sym (ap (λ b. b && nat_lt una ack) is ∙ t.0) ∙ none in cc
+      | inr t ↦ omega (arith, t.1)
+    ]
 
 pub number_stands : (at : Places) (v : View) (s : Segment) → StandsAt at v s
     → NumberOrder (nat_lt at.next at.first) (nat_lt at.first at.edge) (at.first == at.next) (is_in_window v.receiving s.number) (s.number == v.receiving.rnext)

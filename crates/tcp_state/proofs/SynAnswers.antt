@@ -19,10 +19,12 @@ use Rattle.tcp_halves.specs.Stream.{outstanding, is_new_ack}
 use Rattle.tcp_state.specs.View.{View, IsSound, is_opening, is_syn_sent, is_syn_received, is_closed, is_over, is_write_closed, after_reset}
 use Rattle.tcp_state.specs.Tail.{tail_by}
 use Rattle.tcp_state.specs.Resend.{mark_past}
-use Rattle.tcp_state.specs.Timing.{probes}
+use Rattle.tcp_state.specs.Guard.{guard_after}
+use Rattle.tcp_state.specs.Timing.{probes, clocked}
 use Rattle.tcp_state.specs.Alive.{heard_now}
+use Rattle.tcp_state.proofs.Guarded.{sent_not_received, kept_mark, guarded_quiet, active_asks_none}
 use Rattle.tcp_state.proofs.Selects.{silent_opening}
-use Rattle.tcp_state.specs.Arrival.{reset_error, after_rst_in_syn_sent, after_rst, is_acting_reset, ends_by_reset, ends_by_syn, ends_opening, is_acceptable_to, is_simultaneous_syn, after_simultaneous_syn, after_syn_ack, after_segment, is_receiving, is_read, octets_outstanding, brings_more, is_lost, after_lost, after_heard, before, is_moved, resend_after, timed_by, after_segment_at, is_rejected, fate, counts_duplicates, is_counted_duplicate, resend_left}
+use Rattle.tcp_state.specs.Arrival.{reset_error, after_rst_in_syn_sent, after_rst, is_acting_reset, ends_by_reset, ends_by_syn, ends_opening, is_acceptable_to, is_simultaneous_syn, after_simultaneous_syn, after_syn_ack, after_segment, is_receiving, is_read, octets_outstanding, brings_more, is_lost, after_lost, after_heard, before, is_moved, timed_by, after_segment_at, is_rejected, fate, counts_duplicates, is_counted_duplicate, resend_left, since_after, congestion_left}
 use Rattle.tcp_state.specs.Due.{first_due, ack_due}
 use Rattle.tcp_state.specs.Edges.{after_first}
 use Rattle.tcp_state.specs.Simultaneous.{AnswersSyn}
@@ -47,7 +49,7 @@ answered v s lives waits no_rst syn =
     (λ past_opening. clash (is_syn_sent v.state) waits past_opening)))
 
 -- it is due where it has not gone out, and else goes out again
-goes_at_once : (out : ℕ) → ((out == 0) || is_some (mark_past 0 out)) ≡ true
+pub goes_at_once : (out : ℕ) → ((out == 0) || is_some (mark_past 0 out)) ≡ true
 goes_at_once out = elim (eqb_tells out 0) [
   | inl none ↦ or_left (out == 0) (is_some (mark_past 0 out)) none.0
   | inr some ↦ or_right (out == 0) (is_some (mark_past 0 out)) (ap (λ b. is_some {T = ℕ} (if b then Some 0 else None)) (lt-ltb 0 out (omega (arith, some.1))))
@@ -71,8 +73,8 @@ answers v s now sound opens =
     let out = outstanding v.sending in
     let o = opening v sound opens in
     let due : first_due w ≡ Some Syn =
-    ap (λ b. if b then Some Rst else (if (out == 0) || is_some (resend_after (before v s) u now).mark then Some Syn else ack_due w)) o.quiet
-    ∙ (ap (λ m. if (out == 0) || is_some m then Some Syn else ack_due w) (marks_kept (before v s) u now (inr (ap is_opening opens)) (repeats_none v s (ap is_opening opens)) (silent_opening v s (ap is_opening opens))) ∙ ap (λ b. if b then Some Syn else ack_due w) (goes_at_once out)) in
+    ap (λ b. if b then Some Rst else (if (out == 0) || is_some w.resend.mark then Some Syn else ack_due w)) o.quiet
+    ∙ (ap (λ m. if (out == 0) || is_some m then Some Syn else ack_due w) (kept_mark v s u now (inl (sent_not_received v.state o.waits)) ∙ marks_kept (before v s) u now (inr (ap is_opening opens)) (repeats_none v s (ap is_opening opens)) (silent_opening v s (ap is_opening opens))) ∙ ap (λ b. if b then Some Syn else ack_due w) (goes_at_once out)) in
     let few : out ≤ 1 = one_out v.sending.size v.state (length v.sending.held) out o.waits sound.held sound.flight in
     record {
       state = refl;
@@ -139,23 +141,25 @@ reset_leaves v s a rst acts kept =
     (λ elsewhere. clash (is_acting_reset v s) acts elsewhere)))
     (λ no_rst. clash s.flags.rst rst no_rst))
 
-refused : (v : View) (s : Segment) (now : Moment) → IsSound v → v.state ≡ SynReceived → v.owes_reset ≡ false → IsRefused (timed_by (before v s) (after_reset v (Some ECONNREFUSED)) now)
-refused v s now sound is quiet =
+refused : (v : View) (s : Segment) (now : Moment) → IsSound v → v.state ≡ SynReceived → v.owes_reset ≡ false → v.passive ≡ false → IsRefused (timed_by (before v s) (after_reset v (Some ECONNREFUSED)) now)
+refused v s now sound is quiet active =
     let needed = silent_needed v s (silent_opening v s (ap is_opening is)) in
     subst (λ t. IsRefused (timed_by (record (before v s) { needless = t }) (after_reset v (Some ECONNREFUSED)) now)) (sym needed)
     (let b = record (before v s) { needless = false } in
     let w = after_reset v (Some ECONNREFUSED) in
     let resend = resend_left b w now in
-    let timed = timed_by b w now in
-    record {
+    let x = record w { since = since_after b w now; resend = resend; congestion = congestion_left b w now; alive = heard_now w.alive now } in
+    let guard = guard_after v.guard b.draws_one now in
+    let timed = clocked (is_moved b w) (record x { guard = guard }) now in
+    subst (λ y. IsRefused (clocked (is_moved b w) y now)) (sym (guarded_quiet b x now (active_asks_none v s active) refl)) (record {
       closed = refl;
       send = λ octets. refl;
       recv = λ len. refl;
       held = refl;
       readable = none_listed v.receiving.readable (subst (λ t. length v.receiving.readable ≤ (if is_opening t then 0 else v.receiving.size)) is sound.readable);
-      due = silent (record v { alive = heard_now v.alive now }) timed.resend quiet (marks_kept b w now (inr (ap is_opening is)) (repeats_none v s (ap is_opening is)) (silent_opening v s (ap is_opening is))) (ap (λ b. b && probes (record w { resend = resend })) (probes_kept b w now));
+      due = silent (record v { alive = heard_now v.alive now; guard = guard }) timed.resend quiet (marks_kept b w now (inr (ap is_opening is)) (repeats_none v s (ap is_opening is)) (silent_opening v s (ap is_opening is))) (ap (λ b. b && probes (record w { resend = resend })) (probes_kept b w now));
       timer = ap (λ t. sooner (sooner (next_of t) None) (sooner None (tail_by timed t.retransmission))) (at_rest v resend (is_moved b w) now sound.nxt);
-    })
+    }))
 
 by_no_listener : (acts passive received : Bool) → passive ≡ false → (acts && passive && received) ≡ false
 by_no_listener true true received e = cc
@@ -174,7 +178,7 @@ reset_refuses v s now sound is active rst same none =
     let heard : after_heard v s ≡ after_reset v (Some ECONNREFUSED) = ap (λ b. if b then after_lost v s else after_segment v s) (rst_not_lost v s rst) ∙ leaves in
     let at : after_segment_at v s now ≡ timed_by (before v s) (after_reset v (Some ECONNREFUSED)) now = comes_to v s now a.lives (rst_not_refused v s rst) ∙ ap (λ w. timed_by (before v s) w now) heard in
     let left : v.released ≡ false = unleft v.state v.released is sound.release in (
-      subst IsRefused (sym at) (refused v s now sound is a.quiet),
+      subst IsRefused (sym at) (refused v s now sound is a.quiet active),
       stays_where (is_closed v.state) (is_lost v s) (is_over (after_segment v s)) (is_rejected v s) (ends_opening v s)
           (ap is_over leaves ∙ ap (λ b. b && not v.owes_reset) left)
           (rst_not_refused v s rst)

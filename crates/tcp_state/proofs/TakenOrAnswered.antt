@@ -1,5 +1,5 @@
 -- Why a segment that begins at RCV.NXT or before it, and fits the window, brings something to read, or draws an acknowledgement.
-use Rattle.std.proofs.Common.{◌≡◌, ℕ, suc, ◌+◌, ◌-◌, ◌^◌, ◌<◌, ◌≤◌, ◌==◌, ◌||◌, ◌&&◌, not, nat_le, nat_lt, if◌then◌else◌, Bool, true, false, List, [], ◌∷◌, ◌++◌, length, get_or, map, Some, None, inl, inr, arith, refl, sym, ◌∙◌, ap, subst, length-append}
+use Rattle.std.proofs.Common.{◌≡◌, ℕ, suc, ◌+◌, ◌-◌, ◌%◌, ◌^◌, ◌<◌, ◌≤◌, ◌==◌, ◌||◌, ◌&&◌, not, nat_le, nat_lt, if◌then◌else◌, Bool, true, false, List, [], ◌∷◌, ◌++◌, length, get_or, map, Some, None, inl, inr, arith, refl, sym, ◌∙◌, ap, ap₂, subst, length-append}
 use Rattle.std.specs.List.{slice_get}
 use Rattle.std.specs.Option.{option_or}
 use Rattle.std.proofs.lemmas.Option.{slice_get-get_or}
@@ -13,11 +13,11 @@ use Rattle.tcp_halves.specs.Halves.{Receiving}
 use Rattle.tcp_halves.specs.Stream.{outstanding, buffer_of, is_in_window, octets_gained, after_octets}
 use Rattle.tcp_state.specs.declared.state.State.{State}
 use Rattle.tcp_state.specs.declared.state.State.TheVariants.{Established, FinWait1, FinWait2}
-use Rattle.tcp_state.specs.View.{View, IsSound, is_syn_received, is_closed, is_over}
-use Rattle.tcp_state.specs.Arrival.{is_acceptable_to, is_receiving, is_read, brings_more, is_lost, ends_by_syn, after_segment_at}
+use Rattle.tcp_state.specs.View.{View, IsSound, is_opening, is_syn_received, is_closed, is_over}
+use Rattle.tcp_state.specs.Arrival.{is_acceptable_to, is_receiving, is_read, brings_more, is_lost, ends_by_syn, is_opening_syn, holds_back, is_silenced, after_segment_at}
 use Rattle.tcp_state.specs.Edges.{Hears, is_last_ack, is_reset_by, ends_by, ends_by_ack, is_removed, fate_by}
 use Rattle.tcp_state.specs.Positions.{ReceivesAt, IsNear, known_at, places_after}
-use Rattle.tcp_state.specs.Duties.{acknowledges, Places, StandsAt, is_unacceptable, is_challenged, is_another_syn, is_ahead, is_used, may_bring, brings_text, hurries, draws}
+use Rattle.tcp_state.specs.Duties.{acknowledges, Places, StandsAt, is_unacceptable, is_challenged, is_another_syn, is_astray, is_aged, is_out_of_reach, is_in_reach, is_used, may_bring, brings_text, hurries, draws}
 use Rattle.tcp_state.specs.Progress.{IsOrdinary}
 use Rattle.tcp_halves.proofs.Choices.{by, clash, and_left, and_right, and_false, both, or_left, or_right, or_else, of_false}
 use Rattle.tcp_state.proofs.Positions.{window_at, in_window, accepted_filled}
@@ -88,24 +88,27 @@ first_gained initial next edge first r octets at is room begins near open_yet ne
         let bad : Some octet ≡ None = sym known ∙ none in cc
     gained (x ∷ xs) e = let long : length (octets_gained r number octets) ≡ length (x ∷ xs) = ap length e in omega (arith, long)
 
-read : (at : Places) (v : View) (s : Segment) → IsSound v → StandsAt at v s → is_receiving v.state ≡ true → IsOrdinary s → at.ack ≤ at.una + outstanding v.sending → is_acceptable_to v s ≡ true → is_used at v s ≡ true
-read at v s sound stands receives plain sent acceptable =
-    let within = nat_le at.ack (at.una + outstanding v.sending) in
+says : (v : View) (s : Segment) → IsOrdinary s → is_acceptable_to v s ≡ true → acknowledges v s ≡ true
+says v s plain acceptable =
     let plain_one = not s.flags.rst && is_acceptable_to v s in
-    let says : acknowledges v s ≡ true = both (plain_one && not s.flags.syn) s.flags.ack
-    (both plain_one (not s.flags.syn) (both (not s.flags.rst) (is_acceptable_to v s) (of_false s.flags.rst plain.no_rst) acceptable) (of_false s.flags.syn plain.no_syn)) plain.ack in
+    both (plain_one && not s.flags.syn) s.flags.ack
+    (both plain_one (not s.flags.syn) (both (not s.flags.rst) (is_acceptable_to v s) (of_false s.flags.rst plain.no_rst) acceptable) (of_false s.flags.syn plain.no_syn)) plain.ack
+
+read : (at : Places) (v : View) (s : Segment) → IsSound v → StandsAt at v s → is_receiving v.state ≡ true → IsOrdinary s → at.ack ≤ at.una + outstanding v.sending → is_aged at v ≡ false → is_acceptable_to v s ≡ true → is_used at v s ≡ true
+read at v s sound stands receives plain sent young acceptable =
+    let within = is_in_reach at v in
     both (acknowledges v s && within) (not (is_syn_received v.state) || nat_lt at.una at.ack)
-    (both (acknowledges v s) within says (le-leb at.ack (at.una + outstanding v.sending) sent))
+    (both (acknowledges v s) within (says v s plain acceptable) (both (nat_le at.ack (at.una + outstanding v.sending)) (not (is_aged at v)) (le-leb at.ack (at.una + outstanding v.sending) sent) (of_false (is_aged at v) young)))
     (or_left (not (is_syn_received v.state)) (nat_lt at.una at.ack) (of_false (is_syn_received v.state) (receiving_lives v.state receives).2))
 
-pub more_read : (at : Places) (v : View) (s : Segment) (now : Moment) → IsSound v → StandsAt at v s → v.released ≡ false → is_receiving v.state ≡ true → IsOrdinary s → at.ack ≤ at.una + outstanding v.sending
+pub more_read : (at : Places) (v : View) (s : Segment) (now : Moment) → IsSound v → StandsAt at v s → v.released ≡ false → is_receiving v.state ≡ true → IsOrdinary s → at.ack ≤ at.una + outstanding v.sending → is_aged at v ≡ false
     → at.first ≤ at.next → at.next + length s.octets ≤ at.edge → at.next < at.first + length s.octets
     → length v.receiving.readable < length (after_segment_at v s now).receiving.readable
-more_read at v s now sound stands kept receives plain sent begins room new =
+more_read at v s now sound stands kept receives plain sent young begins room new =
     let r = v.receiving in
     let gained = octets_gained r s.number s.octets in
     let acceptable = accepted at v s stands plain.no_syn begins room new in
-    let used = read at v s sound stands receives plain sent acceptable in
+    let used = read at v s sound stands receives plain sent young acceptable in
     let all = gains_where_read v s now sound kept receives (read_as_used at v s sound stands ∙ used) in
     let window = window_at at.peer at.next at.edge r stands.receives in
     let places : at.edge ≤ at.next + length r.kept = omega (arith, window, sound.window, sound.buffer.places) in
@@ -154,22 +157,35 @@ old_kept at v s stands old =
     let none : brings_more v s ≡ false = more_as_new at v s stands ∙ (ap (λ b. not (length s.octets == 0) && b) (lt-leb (suc at.next) (at.first + length s.octets) (omega (arith, old))) ∙ and_false (not (length s.octets == 0))) in
     ap (λ b. v.released && is_receiving v.state && is_read v s && b) none ∙ and_false (v.released && is_receiving v.state && is_read v s)
 
+opened : (state : State) → is_receiving state ≡ true → is_opening state ≡ false
+opened Established e = refl
+opened FinWait1 e = refl
+opened FinWait2 e = refl
+opened _ e = cc
+
 drawn : (at : Places) (v : View) (s : Segment) → IsSound v → StandsAt at v s → is_receiving v.state ≡ true → IsOrdinary s → at.ack ≤ at.una + outstanding v.sending → 0 < length s.octets → at.first + length s.octets ≤ at.next → draws at v s ≡ true
 drawn at v s sound stands receives plain sent some old =
     let text = brings_text at v s && (s.flags.fin || hurries at v s) in
     by (draws at v s ≡ true) (is_acceptable_to v s)
-    (λ acceptable.
-    let used = read at v s sound stands receives plain sent acceptable in
+    (λ acceptable. by (draws at v s ≡ true) (is_aged at v)
+    (λ aged.
+    let astray : is_astray at v s ≡ true = both (acknowledges v s && not (is_opening v.state)) (is_out_of_reach at v)
+    (both (acknowledges v s) (not (is_opening v.state)) (says v s plain acceptable) (of_false (is_opening v.state) (opened v.state receives)))
+    (or_right (nat_lt (at.una + outstanding v.sending) at.ack) (is_aged at v) aged) in
+    or_left (is_unacceptable v s || is_challenged at s || is_another_syn v s || is_astray at v s) text
+    (or_right (is_unacceptable v s || is_challenged at s || is_another_syn v s) (is_astray at v s) astray))
+    (λ young.
+    let used = read at v s sound stands receives plain sent young acceptable in
     let apart : (at.first == at.next) ≡ false = elim (eqb_tells at.first at.next) [ inl t ↦ absurd (omega (arith, t.1, some, old)) | inr t ↦ t.0 ] in
     let filled : (length s.octets == 0) ≡ false = elim (eqb_tells (length s.octets) 0) [ inl t ↦ absurd (omega (arith, t.1, some)) | inr t ↦ t.0 ] in
     let hurry : hurries at v s ≡ true = both (not (length s.octets == 0)) (not (at.first == at.next) || not (ranges v.receiving.kept == 0) || v.delays_ack) (of_false (length s.octets == 0) filled)
     (or_left (not (at.first == at.next) || not (ranges v.receiving.kept == 0)) v.delays_ack (or_left (not (at.first == at.next)) (not (ranges v.receiving.kept == 0)) (of_false (at.first == at.next) apart))) in
-    or_right (is_unacceptable v s || is_challenged at s || is_another_syn v s || is_ahead at v s) text
-    (both (brings_text at v s) (s.flags.fin || hurries at v s) (both (is_used at v s) (may_bring v.state) used (brings v.state receives)) (or_right s.flags.fin (hurries at v s) hurry)))
+    or_right (is_unacceptable v s || is_challenged at s || is_another_syn v s || is_astray at v s) text
+    (both (brings_text at v s) (s.flags.fin || hurries at v s) (both (is_used at v s) (may_bring v.state) used (brings v.state receives)) (or_right s.flags.fin (hurries at v s) hurry))))
     (λ refused.
     let unacceptable : is_unacceptable v s ≡ true = both (not s.flags.rst) (not (is_acceptable_to v s)) (of_false s.flags.rst plain.no_rst) (of_false (is_acceptable_to v s) refused) in
-    or_left (is_unacceptable v s || is_challenged at s || is_another_syn v s || is_ahead at v s) text
-    (or_left (is_unacceptable v s || is_challenged at s || is_another_syn v s) (is_ahead at v s)
+    or_left (is_unacceptable v s || is_challenged at s || is_another_syn v s || is_astray at v s) text
+    (or_left (is_unacceptable v s || is_challenged at s || is_another_syn v s) (is_astray at v s)
     (or_left (is_unacceptable v s || is_challenged at s) (is_another_syn v s) (or_left (is_unacceptable v s) (is_challenged at s) unacceptable))))
   where
     brings : (state : State) → is_receiving state ≡ true → may_bring state ≡ true
@@ -179,7 +195,12 @@ drawn at v s sound stands receives plain sent some old =
     brings _ e = cc
 
 pub answered_at_once : (at : Places) (v : View) (s : Segment) (now : Moment) → IsSound v → StandsAt at v s → is_receiving v.state ≡ true → IsOrdinary s → at.ack ≤ at.una + outstanding v.sending
-    → 0 < length s.octets → at.first + length s.octets ≤ at.next → (after_segment_at v s now).owes_ack ≡ true
-answered_at_once at v s now sound stands receives plain sent some old =
-    owed_as_drawn at v s now sound (receiving_lives v.state receives).1 stands (goes_on v s now receives plain.no_rst (old_kept at v s stands old))
-    ∙ or_right v.owes_ack (draws at v s) (drawn at v s sound stands receives plain sent some old)
+    → 0 < length s.octets → at.first + length s.octets ≤ at.next → holds_back v s now ≡ false → (after_segment_at v s now).owes_ack ≡ true
+answered_at_once at v s now sound stands receives plain sent some old free =
+    let lives = receiving_lives v.state receives in
+    let again : is_opening_syn v s ≡ false =
+    ap (λ b. v.passive && is_syn_received v.state && b && not s.flags.ack && not s.flags.rst && not (is_acceptable_to v s) && ((s.number + 1) % 2 ^ 32 == v.receiving.rnext)) plain.no_syn
+    ∙ ap (λ b. b && not s.flags.ack && not s.flags.rst && not (is_acceptable_to v s) && ((s.number + 1) % 2 ^ 32 == v.receiving.rnext)) (and_false (v.passive && is_syn_received v.state)) in
+    let loud : is_silenced v s now ≡ false = ap₂ (λ a b. a || b) free (ap (λ b. v.guard.on && b) again ∙ and_false v.guard.on) in
+    owed_as_drawn at v s now sound lives.1 stands (goes_on v s now receives plain.no_rst (old_kept at v s stands old))
+    ∙ ap₂ (λ a b. a && not b) (or_right v.owes_ack (draws at v s) (drawn at v s sound stands receives plain sent some old)) loud

@@ -17,9 +17,10 @@ use Rattle.tcp_state.specs.Due.{first_due}
 use Rattle.tcp_state.specs.Edges.{after_first}
 use Rattle.tcp_state.specs.Simultaneous.{AnswersSyn}
 use Rattle.tcp_state.specs.Opening.{OpenedBy, Confirmed}
+use Rattle.tcp_state.proofs.Guarded.{sent_owes}
 use Rattle.tcp_state.proofs.Clocked.{comes_to}
 use Rattle.tcp_halves.proofs.Choices.{either, clash, both}
-use Rattle.tcp_state.proofs.Segments.{reads}
+use Rattle.tcp_state.proofs.Segments.{opened_by_syn_ack, reads}
 use Rattle.tcp_state.proofs.Emissions.{syn_sends}
 use Rattle.tcp_state.proofs.SynAnswers.{then_sent}
 use Rattle.tcp_state.proofs.Unreachable.{opening}
@@ -75,10 +76,10 @@ unrejected false true true more e = refl
 unrejected false false true more e = refl
 unrejected rst ack false more e = cc
 
-opens_by : (v : View) (s : Segment) (now : Moment) → is_right_syn_ack v s ≡ true → OpenedBy s v (timed_by (before v s) (after_syn_ack v s) now)
-opens_by v s now right =
+opens_by : (v : View) (s : Segment) (now : Moment) → is_syn_sent v.state ≡ true → is_right_syn_ack v s ≡ true → OpenedBy s v (timed_by (before v s) (after_syn_ack v s) now)
+opens_by v s now waits right =
     either View (λ w. OpenedBy s v (timed_by (before v s) w now)) (is_right_syn_ack v s) _ v
-    (λ is. record { state = refl; una = refl; nxt = refl; expects = refl; window = refl; owes = refl })
+    (λ is. record { state = refl; una = refl; nxt = refl; expects = refl; window = refl; owes = sent_owes v s (opened_by_syn_ack v s) now waits })
     (λ other. clash (is_right_syn_ack v s) right other)
 
 pub syn_ack_opens : (v : View) (s : Segment) (now : Moment) → IsSound v → v.state ≡ SynSent → v.sending.nxt ≢ v.sending.una → s.flags.rst ≡ false → s.flags.syn ≡ true → s.flags.ack ≡ true
@@ -92,7 +93,7 @@ syn_ack_opens v s now sound opens sent no_rst syn ack same =
     let taken : is_rejected v s ≡ false = unrejected s.flags.rst s.flags.ack (is_new_ack v.sending s.acknowledgement) _ new in
     let heard : after_heard v s ≡ after_syn_ack v s = ap (λ b. if b then after_lost v s else after_segment v s) kept ∙ acknowledged v s lives o.waits no_rst ack in
     let at : after_segment_at v s now ≡ timed_by (before v s) (after_syn_ack v s) now = comes_to v s now lives taken ∙ ap (λ w. timed_by (before v s) w now) heard in
-    subst (OpenedBy s v) (sym at) (opens_by v s now right)
+    subst (OpenedBy s v) (sym at) (opens_by v s now o.waits right)
 
 -- The acknowledgement.
 

@@ -22,8 +22,8 @@ use Rattle.tcp_halves.specs.Windows.{sendable, is_worth_sending, updates_window}
 use Rattle.tcp_state.specs.View.{View, IsSound, is_opening, is_closed, is_fin_wait_2, awaits_fin_ack, is_write_closed, after_stop, opened_actively}
 use Rattle.tcp_state.specs.Timing.{KeepsTime, probes, retransmits, awaits_second, awaits_more, running, waiting_since, awaits_first, clocked, after_expiry, delayed_ack_expired, after_timers}
 use Rattle.tcp_state.specs.Calls.{told_nodelay, beyond_shutdown, latest}
-use Rattle.tcp_state.specs.Alive.{heard_now, after_silence}
-use Rattle.tcp_state.specs.Arrival.{opened_passively, is_receiving, beyond_end, after_ack, after_window, after_text, after_fin, after_heard, is_moved, since_after, before, resend_left, congestion_left}
+use Rattle.tcp_state.specs.Alive.{after_silence}
+use Rattle.tcp_state.specs.Arrival.{opened_passively, is_receiving, beyond_end, after_ack, after_window, after_text, after_fin, after_heard, is_moved, before, noted_by}
 use Rattle.tcp_state.specs.Due.{first_due, after_going_out}
 use Rattle.tcp_state.specs.Edges.{Event, after_first, after_event}
 use Rattle.tcp_state.proofs.Clocked.{timers_keep, emission_keeps}
@@ -202,7 +202,7 @@ stays_timed v e sound keeps = by_event (λ e w. KeepsTime w) v (record {
   asks = λ e alive. asked_timed v alive keeps;
   silent = λ now. silent_timed v now keeps;
   heard = λ s now lives. let b = before v s in let w = after_heard v s in
-      clocked_keeps (is_moved b w) (record w { since = since_after b w now; resend = resend_left b w now; congestion = congestion_left b w now; alive = heard_now w.alive now }) now (heard_quiet v s lives);
+      clocked_keeps (is_moved b w) (noted_by b w now) now (heard_quiet v s lives);
   over = λ now ends. stop_keeps v sound.nxt;
   given_up = λ now waits expired. ended v (Some ETIMEDOUT) v.released v.owes_reset v.since sound.nxt;
   acts = λ now. clocked_keeps false (after_timers (after_silence v now) now) now (timers_quiet (after_silence v now) now (silent_sound v now sound) (silent_timed v now keeps));

@@ -9,13 +9,12 @@ use Rattle.tcp_state.specs.declared.emission.Due.{Due}
 use Rattle.tcp_state.specs.declared.emission.Due.TheVariants.{Rst, Syn, Text, Probe, Ack, KeepAlive}
 use Rattle.tcp_state.specs.declared.state.State.{State}
 use Rattle.tcp_state.specs.declared.state.State.TheVariants.{Closed}
-use Rattle.tcp_halves.specs.Numbers.{is_before}
 use Rattle.tcp_halves.specs.Stream.{outstanding, is_new_ack}
 use Rattle.tcp_halves.specs.Windows.{sendable, is_worth_sending, has_grown}
 use Rattle.tcp_state.specs.View.{View, IsSound, is_opening, is_syn_sent, is_syn_received, is_closed, is_over, awaits_fin_ack, is_write_finished, takes_flag_number}
 use Rattle.tcp_state.specs.Timing.{probes}
 use Rattle.tcp_state.specs.Alive.{may_rest, rests}
-use Rattle.tcp_state.specs.Arrival.{owing_ack, after_establishment, after_ack, is_read_on, after_acknowledging_segment, after_acceptable_segment, ends_opening, is_acceptable_to, is_right_syn_ack, after_syn_ack, is_simultaneous_syn, after_simultaneous_syn, after_segment, is_lost, after_lost, after_heard, acknowledges_unsent, is_rejected, before, timed_by, after_segment_at, fate}
+use Rattle.tcp_state.specs.Arrival.{owing_ack, after_establishment, after_ack, is_off, is_read_on, after_acknowledging_segment, after_acceptable_segment, ends_opening, is_acceptable_to, is_right_syn_ack, after_syn_ack, is_simultaneous_syn, after_simultaneous_syn, after_segment, is_lost, after_lost, after_heard, acknowledges_unsent, is_rejected, before, timed_by, after_segment_at, fate}
 use Rattle.tcp_state.specs.New.{sends_fin, waits_no_longer}
 use Rattle.tcp_state.specs.Due.{first_due, again_from, new_due, ack_due, new_octets, fin_alone}
 use Rattle.tcp_halves.proofs.Choices.{either, clash, and_left, and_right, and_false, or_right, or_else, not_true}
@@ -77,7 +76,7 @@ unsent_leaves v s u =
     (λ syn. clash s.flags.syn syn r.2)
     (λ no_syn. either View P s.flags.ack (after_acknowledging_segment v s) v
     (λ ack. either View P (is_read_on v s.acknowledgement) _ (after_ack v s.acknowledgement)
-    (λ on. clash new (sym (ap (λ b. if b then new else (new || not (is_before v.sending.nxt s.acknowledgement))) r.0) ∙ on) u.old)
+    (λ on. clash new (sym (ap (λ b. if b then new else (new || not (is_off v s.acknowledgement))) r.0) ∙ on) u.old)
     (λ off. either View P (is_syn_received v.state) _ _
     (λ received. either View P new (after_establishment v) v (λ is_new. clash new is_new u.old) (λ old. refl))
     (λ not_received. clash (is_syn_received v.state) r.0 not_received)))

@@ -1,14 +1,14 @@
 -- Which segments are read beyond their acknowledgement, and which bring octets that are new, by positions.
-use Rattle.std.proofs.Common.{◌≡◌, ℕ, suc, ◌+◌, ◌%◌, ◌^◌, ◌<◌, ◌≤◌, ◌==◌, ◌||◌, ◌&&◌, not, nat_lt, nat_le, if◌then◌else◌, Bool, true, false, length, inl, inr, arith, refl, sym, ◌∙◌, ap}
+use Rattle.std.proofs.Common.{◌≡◌, ℕ, suc, ◌+◌, ◌%◌, ◌^◌, ◌<◌, ◌≤◌, ◌==◌, ◌||◌, ◌&&◌, not, nat_lt, if◌then◌else◌, Bool, true, false, length, inl, inr, arith, refl, sym, ◌∙◌, ap}
 use Rattle.std.proofs.lemmas.Bool.{lt-ltb, lt-leb}
 use Rattle.std.proofs.lemmas.Bool.Decides.{leb_tells}
 use Rattle.tcp_segment.specs.Wire.{wire, past}
 use Rattle.tcp_segment.specs.Segment.{Segment}
 use Rattle.tcp_halves.specs.Numbers.{is_before}
-use Rattle.tcp_halves.specs.Stream.{outstanding, is_new_ack}
+use Rattle.tcp_halves.specs.Stream.{is_new_ack}
 use Rattle.tcp_state.specs.View.{View, IsSound, is_syn_received}
-use Rattle.tcp_state.specs.Arrival.{is_read_on, is_read, brings_more}
-use Rattle.tcp_state.specs.Duties.{Places, StandsAt, acknowledges, is_used, brings_new}
+use Rattle.tcp_state.specs.Arrival.{is_off, is_read_on, is_read, brings_more}
+use Rattle.tcp_state.specs.Duties.{Places, StandsAt, acknowledges, is_out_of_reach, is_in_reach, is_used, brings_new}
 use Rattle.tcp_halves.proofs.Choices.{by, and_right}
 use Rattle.tcp_state.proofs.Standing.{AckOrder, ack_stands}
 
@@ -24,12 +24,12 @@ pub read_as_used : (at : Places) (v : View) (s : Segment) → IsSound v → Stan
 read_as_used at v s sound stands = by (is_read v s ≡ is_used at v s) (acknowledges v s)
     (λ says.
     let order = ack_stands at v s sound stands (and_right _ s.flags.ack says) in
-    let within = nat_le at.ack (at.una + outstanding v.sending) in
+    let within = is_in_reach at v in
     let right = not (is_syn_received v.state) || nat_lt at.una at.ack in
     ap (λ b. b && is_read_on v s.acknowledgement) says
-    ∙ (on_as_used (nat_lt (at.una + outstanding v.sending) at.ack) within (is_syn_received v.state) (nat_lt at.una at.ack) (is_new_ack v.sending s.acknowledgement) (is_before v.sending.nxt s.acknowledgement) order
+    ∙ (on_as_used (is_out_of_reach at v) within (is_syn_received v.state) (nat_lt at.una at.ack) (is_new_ack v.sending s.acknowledgement) (is_off v s.acknowledgement) order
     ∙ sym (ap (λ b. b && within && right) says)))
-    (λ none. ap (λ b. b && is_read_on v s.acknowledgement) none ∙ sym (ap (λ b. b && nat_le at.ack (at.una + outstanding v.sending) && (not (is_syn_received v.state) || nat_lt at.una at.ack)) none))
+    (λ none. ap (λ b. b && is_read_on v s.acknowledgement) none ∙ sym (ap (λ b. b && is_in_reach at v && (not (is_syn_received v.state) || nat_lt at.una at.ack)) none))
 
 -- the end of the octets against RCV.NXT
 past_end : (peer next first len : ℕ) → next < first + 2 ^ 31 → first + len < next + 2 ^ 31 → next < first + len → 2 ^ 31 ≤ past (wire peer next) ((wire peer first + len) % 2 ^ 32)

@@ -32,6 +32,7 @@ use Rattle.tcp_state.specs.declared.arrival.Before.{Before}
 use Rattle.tcp_state.specs.Calls.{aborted}
 use Rattle.tcp_state.specs.Alive.{heard_now}
 use Rattle.tcp_state.specs.Reporting.{settled, noted}
+use Rattle.tcp_state.specs.Guard.{is_spent, guard_after}
 use Rattle.tcp_state.specs.Selective.{selects, with_blocks, is_usual, loss_end}
 
 abbrev pub owing_ack : View → View
@@ -145,17 +146,25 @@ abbrev pub after_new_ack : View → ℕ → View
 after_new_ack v ack = let sending = after_acknowledged v.sending ack in
     record v { sending = sending; resend = mark_moved v.resend (past ack v.sending.una) (outstanding sending) }
 
+-- On guard an acknowledgement may be as old as the largest window that the peer ever told is wide, and no older (RFC 5961 section 5.2).
+abbrev pub is_too_old : View → ℕ → Bool
+is_too_old v ack = v.guard.on && nat_lt v.sending.max_window (past v.sending.una ack)
+
+-- it is of what was not sent, or too old
+abbrev pub is_off : View → ℕ → Bool
+is_off v ack = is_before v.sending.nxt ack || is_too_old v ack
+
 -- the acknowledgement field (section 3.10.7.4, fifth): what it makes of the connection ..
 abbrev pub after_ack : View → ℕ → View
 after_ack v ack =
     if is_syn_received v.state then (if is_new_ack v.sending ack then after_establishment v else v)
     else if is_new_ack v.sending ack then (if is_of_fin v ack then fin_acknowledged (after_new_ack v ack) else after_new_ack v ack)
-    else if is_before v.sending.nxt ack then owing_ack v
+    else if is_off v ack then owing_ack v
     else v
 
 -- .. and whether the rest of the segment is read
 abbrev pub is_read_on : View → ℕ → Bool
-is_read_on v ack = if is_syn_received v.state then is_new_ack v.sending ack else is_new_ack v.sending ack || not (is_before v.sending.nxt ack)
+is_read_on v ack = if is_syn_received v.state then is_new_ack v.sending ack else is_new_ack v.sending ack || not (is_off v ack)
 
 abbrev pub after_window : View → Segment → View
 after_window v s = record v { sending = after_window_update v.sending s.number s.acknowledgement (window_in v.sending s.window) }
@@ -305,6 +314,31 @@ is_since_loss v (block ∷ rest) = is_before v.sending.una block.right.0 || nat_
 unfoldable pub tells_needless : View → Segment → Bool
 tells_needless v s = let blocks = blocks_told v s in came_twice s.acknowledgement blocks && is_since_loss v blocks && (v.resend.tail == 0) && not (probes v)
 
+-- A segment that isn't used, and draws an acknowledgement: a reset off RCV.NXT in the window; one that is unacceptable; an acceptable SYN; or an acknowledgement of what was not sent, or too old (section 3.10.7.4, first to
+-- fifth, RFC 5961 section 7).
+abbrev pub is_unused : View → Segment → Bool
+is_unused v s =
+    if s.flags.rst then not (is_acting_reset v s) && is_in_window v.receiving s.number
+    else if not (is_acceptable_to v s) then true
+    else if s.flags.syn then not (ends_by_syn v s)
+    else s.flags.ack && not (is_syn_received v.state) && not (is_read_on v s.acknowledgement)
+
+-- on guard it draws one that isn't owed already
+abbrev pub draws_one : View → Segment → Bool
+draws_one v s = v.guard.on && not v.owes_ack && not (is_syn_sent v.state) && is_unused v s
+
+-- the SYN that opened it at a listener comes again
+abbrev pub is_opening_syn : View → Segment → Bool
+is_opening_syn v s =
+    v.passive && is_syn_received v.state && s.flags.syn && not s.flags.ack && not s.flags.rst && not (is_acceptable_to v s) && ((s.number + 1) % 2 ^ 32 == v.receiving.rnext)
+
+-- on guard it draws none, since ten went out in a second; or our SYN again in place of one
+abbrev pub holds_back : View → Segment → Moment → Bool
+holds_back v s now = draws_one v s && is_spent v.guard now
+
+abbrev pub is_silenced : View → Segment → Moment → Bool
+is_silenced v s now = holds_back v s now || (v.guard.on && is_opening_syn v s)
+
 -- what the clock and the congestion window have to know of a connection before a segment and of the segment
 abbrev pub before : View → Segment → Before
 before v s = record {
@@ -319,6 +353,8 @@ before v s = record {
   held = length v.sending.held;
   tail = v.resend.tail;
   needless = tells_needless v s;
+  draws_one = draws_one v s;
+  asks_again = v.guard.on && is_opening_syn v s;
 }
 
 abbrev pub since_after : Before → View → Moment → Moment
@@ -438,9 +474,28 @@ resend_left b w now = excused_by b.needless (resend_after b w now)
 abbrev pub congestion_left : Before → View → Moment → Window
 congestion_left b w now = given_back (gives_back b.needless (resend_left b w now)) (congestion_after b w)
 
--- what the clock makes of the connection once a segment was heard
+-- Of the acknowledgements that segments draw on guard which aren't used, ten go out in a second, and those behind them are held back (RFC 5961 section 7) ..
+abbrev pub is_held_back : Before → View → Moment → Bool
+is_held_back b w now = b.draws_one && is_spent w.guard now
+
+-- .. and the SYN that opened it draws the SYN-ACK again in place of one
+abbrev pub answers_again : Before → View → Moment → Bool
+answers_again b w now = b.asks_again && not (is_held_back b w now)
+
+abbrev pub guarded : Before → View → Moment → View
+guarded b w now = record w {
+  owes_ack = if is_held_back b w now || b.asks_again then false else w.owes_ack;
+  resend = record w.resend { mark = if answers_again b w now then mark_past 0 (outstanding w.sending) else w.resend.mark };
+  guard = guard_after w.guard b.draws_one now;
+}
+
+-- what a segment that was heard is to all this
+abbrev pub noted_by : Before → View → Moment → View
+noted_by b w now = guarded b (record w { since = since_after b w now; resend = resend_left b w now; congestion = congestion_left b w now; alive = heard_now w.alive now }) now
+
+-- what the clock makes of the connection then
 abbrev pub timed_by : Before → View → Moment → View
-timed_by b w now = clocked (is_moved b w) (record w { since = since_after b w now; resend = resend_left b w now; congestion = congestion_left b w now; alive = heard_now w.alive now }) now
+timed_by b w now = clocked (is_moved b w) (noted_by b w now) now
 
 -- a segment that is rejected, or comes to what is CLOSED, changes nothing
 abbrev pub after_segment_at : View → Segment → Moment → View

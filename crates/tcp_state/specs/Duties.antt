@@ -61,13 +61,24 @@ is_challenged at s = s.flags.rst && nat_lt at.next at.first && nat_lt at.first a
 abbrev pub is_another_syn : View → Segment → Bool
 is_another_syn v s = not s.flags.rst && is_acceptable_to v s && s.flags.syn && not (v.passive && is_syn_received v.state)
 
--- an acknowledgement of what was not sent, once the connection is open (fifth)
-abbrev pub is_ahead : Places → View → Segment → Bool
-is_ahead at v s = acknowledges v s && not (is_opening v.state) && nat_lt (at.una + outstanding v.sending) at.ack
+-- on guard, further behind SND.UNA than the largest window that the peer ever told is wide (RFC 5961 section 5.2)
+abbrev pub is_aged : Places → View → Bool
+is_aged at v = v.guard.on && nat_lt (at.ack + v.sending.max_window) at.una
 
--- the rest of a segment is used: its acknowledgement is of what was sent, and in SYN-RECEIVED of our SYN
+-- of what was not sent, or too old; or of neither
+abbrev pub is_out_of_reach : Places → View → Bool
+is_out_of_reach at v = nat_lt (at.una + outstanding v.sending) at.ack || is_aged at v
+
+abbrev pub is_in_reach : Places → View → Bool
+is_in_reach at v = nat_le at.ack (at.una + outstanding v.sending) && not (is_aged at v)
+
+-- an acknowledgement out of reach, once the connection is open (fifth)
+abbrev pub is_astray : Places → View → Segment → Bool
+is_astray at v s = acknowledges v s && not (is_opening v.state) && is_out_of_reach at v
+
+-- the rest of a segment is used: its acknowledgement is in reach, and in SYN-RECEIVED of our SYN
 abbrev pub is_used : Places → View → Segment → Bool
-is_used at v s = acknowledges v s && nat_le at.ack (at.una + outstanding v.sending) && (not (is_syn_received v.state) || nat_lt at.una at.ack)
+is_used at v s = acknowledges v s && is_in_reach at v && (not (is_syn_received v.state) || nat_lt at.una at.ack)
 
 -- the states in which octets and a FIN may come: the peer's side is not closed, as far as we know, or the acknowledgement of our SYN brings them
 abbrev pub may_bring : State → Bool
@@ -88,7 +99,7 @@ hurries at v s = not (length s.octets == 0) && (not (at.first == at.next) || not
 -- all that draws one at once
 abbrev pub draws : Places → View → Segment → Bool
 draws at v s =
-    is_unacceptable v s || is_challenged at s || is_another_syn v s || is_ahead at v s
+    is_unacceptable v s || is_challenged at s || is_another_syn v s || is_astray at v s
     || (brings_text at v s && (s.flags.fin || hurries at v s))
 
 -- What comes after the caller closed a connection (section 3.6.1).

@@ -26,4 +26,5 @@ view_of c = record {
   minshall = c.minshall;
   alive = c.alive;
   reporting = c.reporting;
+  guard = c.guard;
 }

@@ -5,6 +5,7 @@ pub use Rattle.tcp_halves.specs.Windows
 pub use Rattle.tcp_halves.specs.Blocks
 pub mod Resend
 pub mod ResendInside
+pub mod Guard
 pub mod View
 pub mod Alive
 pub mod Reporting
@@ -22,6 +23,7 @@ pub mod Due
 pub mod Most
 pub mod Unreachable
 pub mod Edges
+pub mod Drawn
 pub mod Positions
 pub mod Inside
 pub mod Simultaneous

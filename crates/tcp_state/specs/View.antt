@@ -9,6 +9,8 @@ use Rattle.tcp_state.specs.declared.ending.TheConstants.{TIME_WAIT, FIN_WAIT_2}
 use Rattle.clock.specs.declared.moment.Moment.{Moment}
 use Rattle.tcp_state.specs.declared.alive.KeepAlive.{KeepAlive}
 use Rattle.tcp_state.specs.declared.reporting.Reporting.{Reporting}
+use Rattle.tcp_state.specs.declared.guard.Guard.{Guard}
+use Rattle.tcp_state.specs.Guard.{first_guard}
 use Rattle.clock.specs.Moments.{after, has_come}
 use Rattle.tcp_state.specs.declared.calls.Refusal.{Refusal}
 use Rattle.retransmit.specs.declared.timers.Timers.{Timers}
@@ -62,6 +64,8 @@ pub record View : Type 0 where
   pub alive : KeepAlive
   -- what is reported of octets that are kept ahead of a gap (RFC 2018)
   pub reporting : Reporting
+  -- what guards it against segments that aren't used
+  pub guard : Guard
 
 -- SYN-SENT or SYN-RECEIVED
 abbrev pub is_opening : State → Bool
@@ -193,6 +197,7 @@ opened_actively room local peer isn now = record {
   minshall = room.manner.minshall;
   alive = record { every = None; since = record { 0 = 0 }; wait = 0; unanswered = 0; owed = false };
   reporting = offered room.manner.control;
+  guard = first_guard room.manner.guards;
 }
 
 -- a SYN, or the FIN of a closed side behind all octets, may be outstanding

@@ -51,6 +51,10 @@ pub(crate) struct Before {
     tail: u32,
     /// Whether it tells that octets went out again which needn't have.
     needless: bool,
+    /// Whether it isn't used, on guard, and draws an acknowledgement that isn't owed already.
+    pub(crate) draws_one: bool,
+    /// Whether it is, on guard, the SYN that opened the connection at a listener, and comes again.
+    pub(crate) asks_again: bool,
 }
 
 impl Connection {
@@ -88,6 +92,8 @@ impl Connection {
             held: self.sender.held_len() as u32,
             tail: self.resend.tail(),
             needless,
+            draws_one: self.draws_one(segment),
+            asks_again: self.guard.on && self.is_opening_syn(segment),
         }
     }
 
@@ -160,6 +166,7 @@ impl Connection {
             self.since = now;
         }
         self.note_peer(now);
+        self.note_guard(before, now);
         self.update_timers(moved, now);
     }
 
@@ -366,7 +373,7 @@ impl Connection {
     }
 
     /// Whether a segment is acceptable (RFC 9293 section 3.10.7.4, first).
-    fn is_acceptable(&self, segment: &TcpView<'_>) -> bool
+    pub(crate) fn is_acceptable(&self, segment: &TcpView<'_>) -> bool
         ensures { result ≡ is_acceptable_to self.now segment.now }
     {
         let (number, span) = (segment.number(), segment.span());
@@ -396,14 +403,14 @@ impl Connection {
     }
 
     /// Whether what follows an acknowledgement is read: past SYN-RECEIVED where it is of what was sent.
-    fn is_read_on(&self, acknowledgement: Seq) -> bool
+    pub(crate) fn is_read_on(&self, acknowledgement: Seq) -> bool
         ensures { result ≡ is_read_on self.now acknowledgement.0 }
     {
         let is_new = self.sender.is_new(acknowledgement);
         if self.state == State::SynReceived {
             return is_new;
         }
-        is_new || !self.sender.nxt().is_before(acknowledgement)
+        is_new || !self.is_off(acknowledgement)
     }
 
     /// Whether the last octet of a segment stands at RCV.NXT or past it.
@@ -464,7 +471,7 @@ impl Connection {
     }
 
     /// Whether an RST acts past SYN-SENT: it is acceptable, and its number is RCV.NXT.
-    fn is_acting_reset(&self, segment: &TcpView<'_>) -> bool
+    pub(crate) fn is_acting_reset(&self, segment: &TcpView<'_>) -> bool
         ensures { result ≡ is_acting_reset self.now segment.now }
     {
         self.is_acceptable(segment) && segment.number() == self.receiver.rnext()

@@ -6,6 +6,7 @@ ghost use Rattle.tcp_state.specs.Arrival.{opened_passively};
 
 use crate::alive::KeepAlive;
 use crate::calls::Refusal;
+use crate::guard::Guard;
 use crate::reporting::Reporting;
 use crate::resend::Resend;
 use crate::state::State;
@@ -77,6 +78,8 @@ pub struct Connection {
     pub(crate) alive: KeepAlive,
     /// What acknowledgements report of octets that are kept ahead of a gap.
     pub(crate) reporting: Reporting,
+    /// What guards it against segments that aren't used.
+    pub(crate) guard: Guard,
 }
 
 impl Model for Connection {
@@ -127,6 +130,7 @@ impl Connection {
             minshall: manner.minshall,
             alive: KeepAlive::asked(None, Moment(0)),
             reporting: Reporting::offered(manner.control),
+            guard: Guard::new(manner.guards),
         }
     }
 

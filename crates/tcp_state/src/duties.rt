@@ -14,7 +14,7 @@ ghost use Rattle.tcp_state.specs.Calls.{send_answer, recv_answer, shutdown_refus
 ghost use Rattle.tcp_state.specs.Edges.{Event, after_event, fate_by};
 ghost use Rattle.tcp_state.specs.declared.emission.Due.{Due};
 ghost use Rattle.tcp_state.specs.Due.{first_due};
-ghost use Rattle.tcp_state.specs.Arrival.{after_segment_at, fate};
+ghost use Rattle.tcp_state.specs.Arrival.{after_segment_at, fate, is_silenced};
 ghost use Rattle.tcp_state.specs.Duties.{acknowledges, NamesNone, HoldsFrom, Places, StandsAt, brings_text, draws, is_used, comes_too_late, acknowledges_end, ends_stream, state_beyond, IsShut, TakesBehind, ReadsFirst};
 
 /// Past SYN-SENT an acknowledgement of what is outstanding moves SND.UNA to its number and frees exactly the octets before it, with our SYN before the first of them and our FIN behind the last, and SND.NXT stays (RFC 9293
@@ -30,10 +30,13 @@ pub fn acknowledgements_free_what_they_name()
 
 /// Past SYN-SENT these segments, and no others, make an acknowledgement owed at once, where they don't end the connection (RFC 9293 sections 3.8.6.3 and 3.10.7.4, RFC 1122 section 4.2.3.2): one that is not
 /// acceptable and no reset; a reset in the window behind RCV.NXT; an acceptable SYN; an acknowledgement of what was not sent; a FIN; and octets that don't stand next, come while some are kept ahead of a gap, or are
-/// those of a second segment. So an acknowledgement alone draws none. Octets, and nothing else, make one wait.
+/// those of a second segment. So an acknowledgement alone draws none. Octets, and nothing else, make one wait. On guard one that is too old draws one, too, and ten at most in a second go out
+/// for segments that aren't used (RFC 5961 sections 5.2 and 7).
 pub fn what_draws_an_acknowledgement()
-    ensures owed { (at : Places) (v : View) (s : Segment) (now : Moment) → IsSound v → is_syn_sent v.state ≡ false → StandsAt at v s → is_closed (after_segment_at v s now).state ≡ false
+    ensures owed { (at : Places) (v : View) (s : Segment) (now : Moment) → IsSound v → v.guard.on ≡ false → is_syn_sent v.state ≡ false → StandsAt at v s → is_closed (after_segment_at v s now).state ≡ false
         → (after_segment_at v s now).owes_ack ≡ (v.owes_ack || draws at v s) }
+    ensures guarded { (at : Places) (v : View) (s : Segment) (now : Moment) → IsSound v → is_syn_sent v.state ≡ false → StandsAt at v s → is_closed (after_segment_at v s now).state ≡ false
+        → (after_segment_at v s now).owes_ack ≡ ((v.owes_ack || draws at v s) && not (is_silenced v s now)) }
     ensures delayed { (at : Places) (v : View) (s : Segment) (now : Moment) → IsSound v → is_syn_sent v.state ≡ false → StandsAt at v s → is_closed (after_segment_at v s now).state ≡ false
         → (after_segment_at v s now).delays_ack ≡ (v.delays_ack || (brings_text at v s && not (length s.octets == 0))) }
 {}

@@ -173,14 +173,17 @@ pub fn released_takes_no_octets()
 {}
 
 /// Which segments are acceptable, by positions (RFC 9293 section 3.10.7.4, first): of those that take numbers the ones that meet the window advertised, from RCV.NXT
-/// up to its edge; of the others those at RCV.NXT and those in the window. What is not acceptable changes at most that an acknowledgement is owed, so that none is delayed, the wait of TIME-WAIT, and when the peer was last heard.
+/// up to its edge; of the others those at RCV.NXT and those in the window. What is not acceptable changes at most that an acknowledgement is owed, so that none is delayed, the wait of TIME-WAIT, and when the peer was last heard;
+/// and on guard what is kept for that, and that our SYN goes out again.
 pub fn acceptable_segments_meet_the_window()
     ensures filled { (initial next edge first : ℕ) (v : View) (s : Segment) → ReceivesAt initial next edge v.receiving → s.number ≡ wire initial first → IsNear next first (span_of s)
         → 0 < span_of s → (is_acceptable_to v s ≡ true) ↔ MeetsWindow next edge first (span_of s) }
     ensures empty { (initial next edge first : ℕ) (v : View) (s : Segment) → ReceivesAt initial next edge v.receiving → s.number ≡ wire initial first → IsNear next first 0
         → span_of s ≡ 0 → (is_acceptable_to v s ≡ true) ↔ ((first ≡ next) ⊎ ((next ≤ first) × (first < edge))) }
     ensures others { (v : View) (s : Segment) (now : Moment) → KeepsTime v → is_syn_sent v.state ≡ false → is_acceptable_to v s ≡ false
-        → after_segment_at v s now ≡ record v { owes_ack = (after_segment_at v s now).owes_ack; since = (after_segment_at v s now).since; timers = record v.timers { delayed_ack = (after_segment_at v s now).timers.delayed_ack }; alive = (after_segment_at v s now).alive } }
+        → (let w = after_segment_at v s now in
+        (w ≡ record v { owes_ack = w.owes_ack; since = w.since; resend = record v.resend { mark = w.resend.mark }; timers = record v.timers { delayed_ack = w.timers.delayed_ack }; alive = w.alive; guard = w.guard })
+        × (v.guard.on ≡ false → w.resend.mark ≡ v.resend.mark)) }
 {}
 
 /// What the octets of a segment make known, by positions (RFC 9293 section 3.10.7.4, seventh): of each position from RCV.NXT on the segment's octet, where it has one that lies before the
@@ -209,8 +212,8 @@ pub fn octets_in_the_window_are_taken()
 {}
 
 /// A reset acts only in SYN-SENT where it acknowledges all that was sent, and later only at RCV.NXT exactly, where one without octets always acts; any
-/// other changes at most that an acknowledgement is owed, so that none is delayed, and when the peer was last heard (RFC 9293 sections
-/// 3.10.7.3, second, and 3.10.7.4, second).
+/// other changes at most that an acknowledgement is owed, so that none is delayed, when the peer was last heard, and what is kept to guard against
+/// such ones (RFC 9293 sections 3.10.7.3, second, and 3.10.7.4, second).
 pub fn resets_act_at_the_next_number()
     ensures opening { (v : View) (s : Segment) (now : Moment) → IsSound v → s.acknowledgement < 2 ^ 32 → is_syn_sent v.state ≡ true → s.flags.rst ≡ true → ends_by v (Event.Hears s now) ≡ true
         → (s.flags.ack ≡ true) × (s.acknowledgement ≡ v.sending.nxt) }
@@ -219,7 +222,7 @@ pub fn resets_act_at_the_next_number()
     ensures acts { (v : View) (s : Segment) (now : Moment) → IsSound v → is_syn_sent v.state ≡ false → is_closed v.state ≡ false → s.flags.rst ≡ true
         → s.number ≡ v.receiving.rnext → span_of s ≡ 0 → ends_by v (Event.Hears s now) ≡ true }
     ensures others { (v : View) (s : Segment) (now : Moment) → KeepsTime v → is_syn_sent v.state ≡ false → s.flags.rst ≡ true → (s.number == v.receiving.rnext) ≡ false
-        → after_segment_at v s now ≡ record v { owes_ack = (after_segment_at v s now).owes_ack; timers = record v.timers { delayed_ack = (after_segment_at v s now).timers.delayed_ack }; alive = (after_segment_at v s now).alive } }
+        → (let w = after_segment_at v s now in w ≡ record v { owes_ack = w.owes_ack; timers = record v.timers { delayed_ack = w.timers.delayed_ack }; alive = w.alive; guard = w.guard }) }
 {}
 
 /// A window is believed exactly from a segment that is no older than the one that updated it last, by the position of its first number and then by that of its

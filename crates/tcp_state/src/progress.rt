@@ -14,10 +14,10 @@ ghost use Rattle.tcp_state.specs.View.{View, IsSound, opened_actively, is_openin
 ghost use Rattle.tcp_state.specs.Alive.{IsPatient};
 ghost use Rattle.tcp_state.specs.Timing.{KeepsTime};
 ghost use Rattle.tcp_state.specs.Congestion.{KeepsCongestion};
-ghost use Rattle.tcp_state.specs.Arrival.{opened_passively, is_receiving, beyond_fin};
+ghost use Rattle.tcp_state.specs.Arrival.{opened_passively, is_receiving, beyond_fin, holds_back};
 ghost use Rattle.tcp_state.specs.Due.{MayGoOut, first_due};
 ghost use Rattle.tcp_state.specs.Said.{segment_of};
-ghost use Rattle.tcp_state.specs.Duties.{acknowledges, Places, StandsAt};
+ghost use Rattle.tcp_state.specs.Duties.{acknowledges, Places, StandsAt, is_aged};
 ghost use Rattle.tcp_state.specs.Edges.{Event, after_event};
 ghost use Rattle.tcp_state.specs.Progress.{AllCome, IsOrdinary, BringsOldest, IsAckAlone, IsSized, LeavesAWindow};
 
@@ -62,13 +62,13 @@ pub fn ticks_end_nothing_at_rest()
 {}
 
 /// A connection that receives hears a segment that begins at RCV.NXT or before it, acknowledges nothing that was not sent, and has no more octets than the window (RFC 9293 sections 3.8.6.3 and 3.10.7.4): where one of its octets
-/// is new, more can be read afterwards; where all of them came before, an acknowledgement is owed at once.
+/// is new, more can be read afterwards, unless what it acknowledges is too old on guard; where all of them came before, an acknowledgement is owed at once, unless it is held back on guard.
 pub fn what_comes_is_taken_or_acknowledged()
-    ensures taken { (at : Places) (v : View) (s : Segment) (now : Moment) → IsSound v → StandsAt at v s → v.released ≡ false → is_receiving v.state ≡ true → IsOrdinary s → at.ack ≤ at.una + outstanding v.sending
+    ensures taken { (at : Places) (v : View) (s : Segment) (now : Moment) → IsSound v → StandsAt at v s → v.released ≡ false → is_receiving v.state ≡ true → IsOrdinary s → at.ack ≤ at.una + outstanding v.sending → is_aged at v ≡ false
         → at.first ≤ at.next → at.next + length s.octets ≤ at.edge → at.next < at.first + length s.octets
         → length v.receiving.readable < length (after_event v (Event.Hears s now)).receiving.readable }
     ensures acknowledged { (at : Places) (v : View) (s : Segment) (now : Moment) → IsSound v → StandsAt at v s → is_receiving v.state ≡ true → IsOrdinary s → at.ack ≤ at.una + outstanding v.sending
-        → 0 < length s.octets → at.first + length s.octets ≤ at.next → (after_event v (Event.Hears s now)).owes_ack ≡ true }
+        → 0 < length s.octets → at.first + length s.octets ≤ at.next → holds_back v s now ≡ false → (after_event v (Event.Hears s now)).owes_ack ≡ true }
 {}
 
 /// Where a connection is open and nothing of its own stream waits to be acknowledged, neither octets nor its FIN, an acknowledgement that is owed is due first, alone, at SND.NXT (RFC 9293 sections 3.8.6.3 and 3.10.7.4).

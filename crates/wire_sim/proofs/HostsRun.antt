@@ -325,7 +325,7 @@ nearer : (before after : Moment) (h : SocketsView) → before.0 ≤ after.0 → 
 nearer before after h on_clock near = record { kept = omega (arith, near.kept, on_clock); each = each h.entries near.each }
   where
     by_role : (r : Role) → IsNearIn before r → IsNearIn after r
-    by_role (Connected c l) near = record { since = omega (arith, near.since, on_clock); unheard = λ since is. omega (arith, near.unheard since is, on_clock); timers = λ kind end set. omega (arith, near.timers kind end set, on_clock); asked = omega (arith, near.asked, on_clock) }
+    by_role (Connected c l) near = record { since = omega (arith, near.since, on_clock); unheard = λ since is. omega (arith, near.unheard since is, on_clock); timers = λ kind end set. omega (arith, near.timers kind end set, on_clock); asked = omega (arith, near.asked, on_clock); drawn = omega (arith, near.drawn, on_clock) }
     by_role (Idle buffers bound) near = tt
     by_role (RoleListener local backlog) near = tt
     by_role (RoleDatagrams bound queues) near = tt

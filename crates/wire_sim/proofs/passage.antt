@@ -11,3 +11,4 @@ pub mod FramesPass
 pub mod FramesMet
 pub mod FramesAreSent
 pub mod NeighboursAreOthers
+pub mod LetIn

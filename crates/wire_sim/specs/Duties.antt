@@ -29,6 +29,7 @@ use Rattle.sockets.specs.SocketsView.{SocketsView}
 use Rattle.sockets.specs.Steps.{connected}
 use Rattle.sockets.specs.Strays.{IsResetOf}
 use Rattle.host.specs.Carried.{carried}
+use Rattle.host.specs.Heard.{shuts_out}
 use Rattle.host.specs.HostView.{HostView}
 use Rattle.sides.specs.declared.side.Side.{Side}
 use Rattle.sides.specs.Sides.{other_side}
@@ -43,7 +44,7 @@ use Rattle.wire_sim.specs.Passage.{mac_at, addr_at}
 use Rattle.wire_sim.specs.Runs.{IsReached, IsStep, RunsTo}
 use Rattle.wire_sim.specs.WorldView.{WorldView, host_of, table_of, clock_of}
 
--- A frame with this segment goes out of a side's host and comes to the other side's, for which it is. There are four worlds, one before and one after each of the two events; any events lie between
+-- A frame with this segment goes out of a side's host and comes to the other side's, for which it is, and whose guards, where it has them, let it in. There are four worlds, one before and one after each of the two events; any events lie between
 -- the second and the third. Where it opens a connection, that has this initial number.
 pub record Travels (limit : ℕ) (side : Side) (s : Segment) (before sent found after : WorldView) (answer : Answer) (isn : Seq) : Type 0 where
   pub reached : IsReached limit before
@@ -55,6 +56,7 @@ pub record Travels (limit : ℕ) (side : Side) (s : Segment) (before sent found 
   pub outcomes : List (Result Answer Unfair)
   pub between : RunsTo events outcomes sent found
   pub comes : IsStep (event.Deliver (other_side side) index isn) answer found after
+  pub lets : shuts_out (host_of found.network (other_side side)) (addr_at before.network side) ≡ false
 
 -- under this id a side's table has this connection, which waits at that listener, or at none
 abbrev pub Has : WorldView → Side → SocketId → Option SocketId → View → Type 0

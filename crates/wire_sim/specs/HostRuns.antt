@@ -25,7 +25,6 @@ use Rattle.sockets.specs.Sound.{NoneIsOver}
 use Rattle.sockets.specs.SocketsView.{SocketsView, role_of}
 use Rattle.sockets.specs.Ticks.{least_deadline}
 use Rattle.sockets.specs.Timing.{EachKeepsTime, AreNear, NoneAsks}
-use Rattle.host.specs.Arrival.{heard_by}
 use Rattle.host.specs.Causes.{IsAbout}
 use Rattle.host.specs.Runs as hosts
 use Rattle.host.specs.Runs.{Event as HostEvent, Delivers}
@@ -96,7 +95,7 @@ EverySocketTellsOn = (limit : ℕ) (events : List Event) (outcomes : List (Resul
 pub record WasHeard (w : WorldView) (side : Side) (meaning : Meaning) : Type 0 where
   pub octets : List ℕ
   pub delivered : WasDelivered w side octets
-  pub meant : heard_by (host_of w.network side) octets ≡ Ok meaning
+  pub meant : (let h = host_of w.network side in heard h.interface.mac h.interface.addr octets) ≡ Ok meaning
 
 -- An ICMP message that is for this address is an echo reply, and its request was delivered to the side's host from there; or an error, and the datagram
 -- that it is about was.

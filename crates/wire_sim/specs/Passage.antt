@@ -1,6 +1,6 @@
 -- The way of a frame from the host that sends it to whoever receives it: it says where it arrives what it was sent to say. Nothing in it is lost on the
 -- way or taken for malformed.
-use Rattle.std.specs.Prelude.{◌≡◌, ◌≢◌, ◌⊎◌, ◌↔◌, ℕ, Bool, true, false, List, find, slice_get, Some, Result, Ok, Err}
+use Rattle.std.specs.Prelude.{◌≡◌, ◌≢◌, ◌⊎◌, ◌↔◌, ◌&&◌, not, ℕ, Bool, true, false, List, find, slice_get, Some, Result, Ok, Err}
 use Rattle.ether.specs.declared.mac.Mac.{Mac}
 use Rattle.ipv4.specs.declared.addr.Addr.{Addr}
 use Rattle.clock.specs.declared.moment.Moment.{Moment}
@@ -17,6 +17,7 @@ use Rattle.sockets.specs.declared.entry.Entry.{Entry}
 use Rattle.sockets.specs.Arrival.{Becomes, arrival_at_connection, local_end, peer_end}
 use Rattle.sockets.specs.Entries.{fate_of, is_between}
 use Rattle.sockets.specs.SocketsView.{SocketsView, later_moment}
+use Rattle.host.specs.Heard.{guarded_by, is_barred, shuts_out}
 use Rattle.host.specs.Arrival.{MeetsHeard}
 use Rattle.host.specs.Carried.{Carried, carried}
 use Rattle.host.specs.HostView.{HostView}
@@ -63,18 +64,23 @@ MeetsMeaning m h now isn reply.Taken new = MeetsHeard m h (later_moment h.socket
 MeetsMeaning m h now isn (reply.Dropped cause) new = MeetsHeard m h (later_moment h.sockets now) isn (Err cause) new
 MeetsMeaning m h now isn _ new = ⊥
 
--- A frame is dropped as one for another interface, or else for another address, exactly where it is for one; and for nothing else but that there is no room for
--- what it says.
+-- A host's guards, where it has them, let this in.
+abbrev pub is_let_in : HostView → Meaning → Bool
+is_let_in h says = not (h.sockets.manner.guards && is_barred h.interface (Ok says))
+
+-- A frame is dropped as one for another interface, or else for another address, exactly where it is for one, or the host's guards bar it; and for nothing else but
+-- that there is no room for what it says.
 pub record IsAnswered (is_ours is_for_us : Bool) (answer : Answer) : Type 0 where
   pub mac : (answer ≡ reply.Dropped OtherMac) ↔ (is_ours ≡ false)
   pub address : (answer ≡ reply.Dropped OtherAddress) ↔ ((is_ours ≡ true) × (is_for_us ≡ false))
   pub others : answer ≢ reply.Dropped OtherMac → answer ≢ reply.Dropped OtherAddress → (answer ≡ reply.Taken) ⊎ (answer ≡ reply.Dropped NoRoom)
 
--- What was sent so comes to a side, between two worlds: it is from the other side's address, and the layer that it is for meets just what it says.
+-- What was sent so comes to a side, between two worlds: it is from the other side's address, and the layer that it is for meets just what it says, if the guards
+-- let it in.
 pub record IsMet (w v : WorldView) (side : Side) (isn : ℕ) (what : Sent) (answer : Answer) : Type 0 where
   pub from : what.from ≡ addr_at w.network (other_side side)
-  pub met : MeetsMeaning (heard_as what (mac_at w.network side) (addr_at w.network side)) (host_of w.network side) (clock_of w.network side) isn answer (host_of v.network side)
-  pub answered : IsAnswered (is_sent_to what (mac_at w.network side)) (is_sent_for what.to (addr_at w.network side)) answer
+  pub met : (let h = host_of w.network side in MeetsMeaning (guarded_by h.sockets.manner.guards h.interface (heard_as what h.interface.mac h.interface.addr)) h (clock_of w.network side) isn answer (host_of v.network side))
+  pub answered : IsAnswered (is_sent_to what (mac_at w.network side)) (is_sent_for what.to (addr_at w.network side) && is_let_in (host_of w.network side) what.says) answer
 
 -- Each frame in the network went out so.
 abbrev pub EveryFrameIsHeardAsSent : Type 0
@@ -93,7 +99,7 @@ ConnectionTakes h moment source s answer new = (e : Entry) → find (is_between 
     → (answer ≡ reply.Taken) × (arrival_at_connection h moment source s e (fate_of s e.role) ≡ Becomes new)
 
 -- A frame with a segment comes to a side: the segment is the very one that the other side's host had to send as the frame went out, and where it is for the host that
--- it comes to, its connection takes it.
+-- it comes to, whose guards let the other's address in, its connection takes it.
 pub record SegmentArrives (limit : ℕ) (w v : WorldView) (run : IsReached limit w) (side : Side) (index isn : ℕ) (f : Frame) (note : Note) (answer : Answer) : Type 0 where
   pub out : WentOut limit w run index f
   pub c : Carried
@@ -101,7 +107,7 @@ pub record SegmentArrives (limit : ℕ) (w v : WorldView) (run : IsReached limit
   pub what : out.what ≡ segment_from (addr_at w.network (other_side side)) c
   pub pair : note.pair ≡ pair_between (addr_at w.network (other_side side)) c.to c.segment
   pub met : IsMet w v side isn out.what answer
-  pub taken : c.mac ≡ mac_at w.network side → c.to ≡ addr_at w.network side
+  pub taken : c.mac ≡ mac_at w.network side → c.to ≡ addr_at w.network side → shuts_out (host_of w.network side) (addr_at w.network (other_side side)) ≡ false
       → ConnectionTakes (table_of w.network side) (later_moment (table_of w.network side) (clock_of w.network side)) (addr_at w.network (other_side side)) c.segment answer (table_of v.network side)
 
 -- So each segment that is delivered.

@@ -35,7 +35,8 @@ pub struct Config {
     pub first_segments: u8,
     pub least_timeout: u16,
     pub first_threshold: u32,
-    pub zero: [u8; 4],
+    pub guards: u8,
+    pub zero: [u8; 3],
 }
 
 extern "C" {

@@ -100,6 +100,7 @@ pub struct Config<'a> {
     first_segments: u8,
     least_timeout: u16,
     first_threshold: u32,
+    guards: bool,
 }
 
 impl<'a> Config<'a> {
@@ -115,6 +116,7 @@ impl<'a> Config<'a> {
             first_segments: 0,
             least_timeout: 0,
             first_threshold: 0,
+            guards: false,
         }
     }
 
@@ -132,6 +134,14 @@ impl<'a> Config<'a> {
     /// How its connections repair losses: a host that meets a real network wants `Recovery::Selective`, else it is `Recovery::Plain`.
     pub fn with_recovery(self, recovery: Recovery) -> Config<'a> {
         Config { recovery, ..self }
+    }
+
+    /// Where this is on, the host is on its guard: it drops what comes from the address of a network on its link, or of all its hosts, and ARP packets of such an
+    /// address, of a group's MAC and of its own (RFC 1122 section 3.2.1.3); it takes no octets with an acknowledgement older than the largest window of the
+    /// peer is wide, answers at most ten segments a second of a connection that it doesn't use (RFC 5961), and a SYN that comes again by the SYN-ACK again. A
+    /// host that meets a real network wants it on.
+    pub fn with_guards(self, guards: bool) -> Config<'a> {
+        Config { guards, ..self }
     }
 
     /// How many octets the slow start threshold of a connection has at first (RFC 5681 section 3.1): 65,535 at least and 2^30 at most, and another number
@@ -196,7 +206,8 @@ impl Host {
             first_segments: config.first_segments,
             least_timeout: config.least_timeout,
             first_threshold: config.first_threshold,
-            zero: [0; 4],
+            guards: u8::from(config.guards),
+            zero: [0; 3],
         };
         let mut host = Host(c::Host { at: null_mut() });
         Error::check(unsafe { c::host_new_from(&mut host.0, &given, given.size, given.routes, given.count) })?;

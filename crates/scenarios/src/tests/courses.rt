@@ -122,6 +122,7 @@ fn opened(rt: &impl Abort, alloc: Global, first: u32, opening: Opening) -> End {
             ..Control::PLAIN
         },
         least_timeout: 1_000,
+        guards: false,
     };
     let buffers = Buffers::new(alloc, CAPACITY, manner).expect(rt, "memory for two buffers");
     let isn = Seq(first.wrapping_sub(1));

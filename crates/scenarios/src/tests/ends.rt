@@ -249,6 +249,7 @@ fn plays(rt: &impl Abort, alloc: Global, scenario: &Scenario, minshall: bool) {
         minshall,
         control: Control::PLAIN,
         least_timeout: 1_000,
+        guards: false,
     };
     let ours = Buffers::new(alloc, CAPACITY, manner).expect(rt, "memory for two buffers");
     let theirs = Buffers::new(alloc, CAPACITY, manner).expect(rt, "memory for two buffers");

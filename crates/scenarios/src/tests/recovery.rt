@@ -211,6 +211,7 @@ fn opened(
         minshall: false,
         control,
         least_timeout,
+        guards: false,
     };
     let buffers = Buffers::new(alloc, CAPACITY, manner).expect(rt, "memory for two buffers");
     let connection = Connection::active(buffers, CALLER, LISTENER, Seq(u32::MAX), Moment(0));

@@ -192,6 +192,7 @@ fn opened(
             ..Control::PLAIN
         },
         least_timeout: 1_000,
+        guards: false,
     };
     let buffers = Buffers::new(alloc, CAPACITY, manner).expect(rt, "memory for two buffers");
     let mut end = End::new(Connection::active(buffers, CALLER, LISTENER, Seq(0), Moment(0)));

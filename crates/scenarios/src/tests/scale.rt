@@ -141,6 +141,7 @@ fn answered(rt: &impl Abort, alloc: Global, answer: &[u8]) -> End {
         minshall: false,
         control: Control::PLAIN,
         least_timeout: 1_000,
+        guards: false,
     };
     let buffers = Buffers::new(alloc, LARGEST_CAPACITY, manner).expect(
         rt,

@@ -2,7 +2,7 @@
 
 use super::octets::{REPLIED_BACK, REPLY};
 use super::{
-    calls, datagrams, drops, endpoints, fragments, gateways, hops, messages, queues, scale,
+    calls, datagrams, drops, endpoints, fragments, gateways, guards, hops, messages, queues, scale,
     segments,
 };
 use clock::Moment;
@@ -142,12 +142,14 @@ pub(super) type Step = (Side, Act);
 /// Where a host's routes lead.
 type Ways = &'static [(Addr, u8, Hop)];
 
-/// How the hosts are set up: the ways of A and of B, whether each uses the window scale option, and whether small segments wait for small ones only.
+/// How the hosts are set up: the ways of A and of B, whether each uses the window scale option, whether small segments wait for small ones only, and whether
+/// they are on their guard.
 #[derive(Clone, Copy)]
 pub(super) struct Hosts {
     ways: (Ways, Ways),
     scales: (bool, bool),
     minshall: bool,
+    guards: bool,
 }
 
 /// To the link alone, 10.0.0.0/24.
@@ -158,11 +160,18 @@ pub(super) const FRESH: Hosts = Hosts {
     ways: (LINK, LINK),
     scales: (false, false),
     minshall: false,
+    guards: false,
 };
 
 /// Small segments wait for small ones only.
 pub(super) const PASSING: Hosts = Hosts {
     minshall: true,
+    ..FRESH
+};
+
+/// Both are on their guard.
+pub(super) const GUARDED: Hosts = Hosts {
+    guards: true,
     ..FRESH
 };
 
@@ -207,7 +216,13 @@ pub(super) const NEAR_GATEWAY: Hosts = Hosts {
     ..FRESH
 };
 
-/// The same, where another gateway leads to all else.
+/// The same on guard.
+pub(super) const GUARDED_GATEWAY: Hosts = Hosts {
+    guards: true,
+    ..NEAR_GATEWAY
+};
+
+/// Another gateway leads to all else.
 pub(super) const GATEWAYS: Hosts = Hosts {
     ways: (
         LINK,
@@ -510,13 +525,16 @@ fn plays(rt: &impl Abort, alloc: Global, scenario: &Scenario) {
         ways,
         scales,
         minshall,
+        guards,
     } = scenario.hosts;
     let a = routed(rt, Side::A, ways.0)
         .with_scale(scales.0)
-        .with_minshall(minshall);
+        .with_minshall(minshall)
+        .with_guards(guards);
     let b = routed(rt, Side::B, ways.1)
         .with_scale(scales.1)
-        .with_minshall(minshall);
+        .with_minshall(minshall)
+        .with_guards(guards);
     let (mut a, mut b) = (Station::new(rt, alloc, a), Station::new(rt, alloc, b));
     for (part, steps) in scenario.parts.iter().enumerate() {
         for (step, (side, act)) in steps.iter().enumerate() {
@@ -552,6 +570,8 @@ const OF_HOPS: [&[Scenario]; 3] = [gateways::SCENARIOS, hops::SCENARIOS, queues:
 
 const OF_MESSAGES: [&[Scenario]; 1] = [messages::SCENARIOS];
 
+const OF_GUARDS: [&[Scenario]; 1] = [guards::SCENARIOS];
+
 #[test]
 fn hosts_answer_as_they_should(rt: HostRuntime) {
     for scenarios in &OF_CONNECTIONS {
@@ -567,6 +587,9 @@ fn hosts_answer_as_they_should(rt: HostRuntime) {
         play_all(&rt, rt.alloc(), scenarios);
     }
     for scenarios in &OF_MESSAGES {
+        play_all(&rt, rt.alloc(), scenarios);
+    }
+    for scenarios in &OF_GUARDS {
         play_all(&rt, rt.alloc(), scenarios);
     }
 }

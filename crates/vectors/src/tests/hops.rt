@@ -9,6 +9,7 @@ enum Event {
     Add(Addr, u8, Hop, Result<(), AddFault>),
     Remove(Addr, u8, Result<(), RemoveFault>),
     Pick(Addr, Option<Hop>),
+    IsLinkEnd(Addr, bool),
 }
 
 /// Whether the event answers what it says.
@@ -23,6 +24,7 @@ fn answers(routes: &mut Routes, event: &Event) -> bool {
             Err(_) => false,
         },
         Event::Pick(addr, want) => routes.pick(*addr) == *want,
+        Event::IsLinkEnd(addr, want) => routes.is_link_end(*addr) == *want,
     }
 }
 
@@ -62,6 +64,38 @@ const FULL: [Event; 4] = [
     Event::Remove(LINK, 16, Ok(())),
     Event::Add(ANY, 0, Hop::Direct, Ok(())),
 ];
+
+/// Of 10.1.0.0/22 and 172.16.0.4/30 on the link, 192.0.2.0/31 and 192.0.2.2/32 there, and 198.51.100.0/24 by 10.0.0.9 (RFC 1122 section 3.2.1.3, RFC 3021).
+const ENDS: [Event; 20] = [
+    Event::Add(LINK, 22, Hop::Direct, Ok(())),
+    Event::Add(Addr([172, 16, 0, 4]), 30, Hop::Direct, Ok(())),
+    Event::Add(Addr([192, 0, 2, 0]), 31, Hop::Direct, Ok(())),
+    Event::Add(Addr([192, 0, 2, 2]), 32, Hop::Direct, Ok(())),
+    Event::Add(Addr([198, 51, 100, 0]), 24, BY_NINE, Ok(())),
+    Event::IsLinkEnd(LINK, true),
+    Event::IsLinkEnd(Addr([10, 1, 3, 255]), true),
+    Event::IsLinkEnd(Addr([10, 1, 0, 255]), false),
+    Event::IsLinkEnd(Addr([10, 1, 3, 0]), false),
+    Event::IsLinkEnd(Addr([10, 1, 3, 254]), false),
+    Event::IsLinkEnd(Addr([10, 1, 4, 0]), false),
+    Event::IsLinkEnd(Addr([172, 16, 0, 4]), true),
+    Event::IsLinkEnd(Addr([172, 16, 0, 5]), false),
+    Event::IsLinkEnd(Addr([172, 16, 0, 7]), true),
+    Event::IsLinkEnd(Addr([192, 0, 2, 0]), false),
+    Event::IsLinkEnd(Addr([192, 0, 2, 1]), false),
+    Event::IsLinkEnd(Addr([192, 0, 2, 2]), false),
+    Event::IsLinkEnd(Addr([198, 51, 100, 0]), false),
+    Event::IsLinkEnd(Addr([198, 51, 100, 255]), false),
+    Event::IsLinkEnd(Addr([255, 255, 255, 255]), false),
+];
+
+#[test]
+fn ends_of_networks_on_the_link_are_known(rt: HostRuntime) {
+    let mut routes = Routes::new();
+    for event in &ENDS {
+        assert!(rt; answers(&mut routes, event));
+    }
+}
 
 #[test]
 fn the_longest_prefix_is_picked(rt: HostRuntime) {

@@ -26,7 +26,9 @@ use Rattle.sockets.specs.Unreachable.{after_unreachable}
 use Rattle.reassembly.specs.Fragments.{quote_of}
 use Rattle.udp.specs.Datagram.{UserDatagram}
 use Rattle.sockets.specs.Datagrams.{reception, after_reception}
-use Rattle.host.specs.Arrival.{fragment_outcome, MeetsSegment, arrival_by_route, segment_arrival, MeetsMessage, MeetsHeard, IsDelivered, heard_by, foreseen_of, foreseen}
+use Rattle.host.specs.Arrival.{fragment_outcome, MeetsSegment, arrival_by_route, segment_arrival, MeetsMessage, MeetsHeard, IsDelivered, foreseen_of, foreseen}
+use Rattle.host.specs.Heard.{heard_by}
+use Rattle.host.proofs.Guarded.{meant_by}
 use Rattle.host.specs.HostView.{HostView}
 use Rattle.host.specs.Messages.{Told, Asks, Refuses, Nothing, told_by}
 use Rattle.host.specs.Sound.{IsSoundHost}
@@ -203,7 +205,7 @@ heard-to_table from to out a h h' clock isn f answer own at carries = by_meaning
     by_meaning : (m : Result Meaning DropCause) → heard_by h f.octets.items ≡ m → MeetsHeard m h moment isn answer h' → IsToTable h h' moment isn f.note
     by_meaning (Ok (Arp packet)) is meets = Aside (ap (λ (w : HostView). w.sockets) meets.1)
     by_meaning (Ok (Tcp r)) is meets =
-        let k = carries h.interface.mac r (subst (λ x. heard h.interface.mac x f.octets.items ≡ Ok (Tcp r)) (own ∙ at) is) in
+        let k = carries h.interface.mac r (subst (λ x. heard h.interface.mac x f.octets.items ≡ Ok (Tcp r)) (own ∙ at) (meant_by h f.octets.items (Tcp r) is)) in
         Brings r k.note k.noted (named-pair from to out h.sockets a f.note r at k) (segment-taken h moment isn r.source r.segment answer h' meets)
     by_meaning (Ok (Icmp c)) is meets = by_told (told_by c.message) c meets
     by_meaning (Ok (Other d)) is meets = Aside (ap (λ (w : HostView). w.sockets) meets.1)
@@ -228,10 +230,11 @@ segment-arrives limit hs ts a b h h' other n bag trace moment isn place f r answ
     let local : Endpoint = local_end own s in
     let peer : Endpoint = peer_end r.source s in
     let ours : h.interface.addr ≡ a = sound.own ∙ p.own_addr in
-    let k = carries h.interface.mac r (subst (λ x. heard h.interface.mac x f.octets.items ≡ Ok (Tcp r)) ours is) in
+    let says = meant_by h f.octets.items (Tcp r) is in
+    let k = carries h.interface.mac r (subst (λ x. heard h.interface.mac x f.octets.items ≡ Ok (Tcp r)) ours says) in
     let fresh = not-late n k.note (ap (late_note n (written_at n)) (sym k.noted) ∙ late) in
     let named : k.note.pair ≡ pair_of local peer = named-pair ts hs bag.arrived own a f.note r p.own_addr k in
-    let apart : same_addr own.addr r.source ≡ false = from-another own.addr r.source (subst (λ x. may_send x r.source ≡ true) sound.own (from_others h.interface.mac h.interface.addr f.octets.items r is)) in
+    let apart : same_addr own.addr r.source ≡ false = from-another own.addr r.source (subst (λ x. may_send x r.source ≡ true) sound.own (from_others h.interface.mac h.interface.addr f.octets.items r says)) in
     let may : MayCome limit hs ts own other bag n.openings trace (pair_of local peer) s =
     subst (λ q. MayCome limit hs ts own other bag n.openings trace q s) named (may-come limit hs ts own other n bag trace a f.note r is_limit tallied k fresh.1 fresh.0) in
     let seen : foreseen h f.octets.items ≡ segment_foreseen h r.source s = ap (foreseen_of h) is in

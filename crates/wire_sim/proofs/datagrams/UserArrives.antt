@@ -27,7 +27,9 @@ use Rattle.sockets.specs.Arrival.{Arrival, Becomes, Opens, NoRoom, Answers, arri
 use Rattle.sockets.specs.Datagrams.{reception, after_reception}
 use Rattle.sockets.specs.SocketsView.{SocketsView, later_moment}
 use Rattle.sockets.specs.Unreachable.{after_unreachable}
-use Rattle.host.specs.Arrival.{fragment_outcome, MeetsSegment, arrival_by_route, segment_arrival, MeetsMessage, MeetsHeard, MeetsFragment, IsDelivered, heard_by, after_user_datagram, after_payload, after_outcome}
+use Rattle.host.specs.Arrival.{fragment_outcome, MeetsSegment, arrival_by_route, segment_arrival, MeetsMessage, MeetsHeard, MeetsFragment, IsDelivered, after_user_datagram, after_payload, after_outcome}
+use Rattle.host.specs.Heard.{heard_by}
+use Rattle.host.proofs.Guarded.{meant_by}
 use Rattle.host.specs.HostView.{HostView, with_pool}
 use Rattle.host.specs.Messages.{Told, Asks, Refuses, Nothing, told_by}
 use Rattle.datagram_law.specs.Accepted.{Accepted, AreInTurn, AreFew, CameFrom}
@@ -141,8 +143,9 @@ frame-takes other h h' clock isn octets answer own turn pool keeps = by_meaning 
 
     whole : (r : ReceivedDatagram) → heard_by h octets ≡ Ok (Udp r) → AreFew other → IsWholeOfOne other r.carrier r.carrier.payload
     whole r is few =
-        let told = users_are_carried h.interface.mac h.interface.addr octets r is in
-        no_fragment other r.carrier (keeps.whole h.interface.mac h.interface.addr r is) told.1.0 told.1.1
+        let says = meant_by h octets (Udp r) is in
+        let told = users_are_carried h.interface.mac h.interface.addr octets r says in
+        no_fragment other r.carrier (keeps.whole h.interface.mac h.interface.addr r says) told.1.0 told.1.1
 
     by_told : (t : Told) (c : Control) → MeetsMessage t h moment c answer h' → HostTakes other h h'
     by_told Asks c meets = still (ap (λ (w : HostView). w.sockets) meets.1) (ap (λ (w : HostView). w.pool) meets.1)
@@ -155,11 +158,13 @@ frame-takes other h h' clock isn octets answer own turn pool keeps = by_meaning 
     by_meaning (Ok (Icmp c)) is meets = by_told (told_by c.message) c meets
     by_meaning (Ok (Other d)) is meets = still (ap (λ (w : HostView). w.sockets) meets.1) (ap (λ (w : HostView). w.pool) meets.1)
     by_meaning (Ok (Udp r)) is meets =
-        let from = users_from_others h.interface.mac h.interface.addr octets r is in
-        let told = users_are_carried h.interface.mac h.interface.addr octets r is in
+        let says = meant_by h octets (Udp r) is in
+        let from = users_from_others h.interface.mac h.interface.addr octets r says in
+        let told = users_are_carried h.interface.mac h.interface.addr octets r says in
         user-takes other (reception h.sockets r.datagram) h h' moment r.carrier.source r.datagram (quote_of r.carrier)
         (whole-sent other r.carrier r.carrier.payload r.datagram h.sockets.addr turn (whole r is) (from.1 ∙ own) told.3) pool meets.1
     by_meaning (Ok (UdpFragment d)) is meets =
-        let from = fragments_from_others h.interface.mac h.interface.addr octets d is in
-        fragment-takes other h h' moment d answer turn pool (keeps.fragment h.interface.mac h.interface.addr d is) (from.1 ∙ own) meets
+        let says = meant_by h octets (UdpFragment d) is in
+        let from = fragments_from_others h.interface.mac h.interface.addr octets d says in
+        fragment-takes other h h' moment d answer turn pool (keeps.fragment h.interface.mac h.interface.addr d says) (from.1 ∙ own) meets
     by_meaning (Err cause) is meets = still (ap (λ (w : HostView). w.sockets) meets.1) (ap (λ (w : HostView). w.pool) meets.1)

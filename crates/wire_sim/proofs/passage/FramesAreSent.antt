@@ -1,5 +1,5 @@
 -- Each frame of a world is heard as what it was sent as, and each segment that is delivered is the one that went out.
-use Rattle.std.proofs.Common.{◌≡◌, ◌≢◌, ℕ, ◌&&◌, ◌||◌, Bool, true, false, cond, Option, Some, None, option_map, Result, Ok, Err, refl, sym, ◌∙◌, ap, subst}
+use Rattle.std.proofs.Common.{◌≡◌, ◌≢◌, ℕ, ◌&&◌, ◌||◌, Bool, true, false, cond, Option, Some, None, option_map, Result, Ok, Err, refl, sym, ◌∙◌, ap, subst, if◌then◌else◌}
 use Rattle.std.specs.List.{find, slice_get}
 use Rattle.ether.specs.declared.mac.Mac.{Mac}
 use Rattle.ipv4.specs.declared.addr.Addr.{Addr}
@@ -21,6 +21,7 @@ use Rattle.sockets.specs.declared.entry.Entry.{Entry}
 use Rattle.sockets.specs.Arrival.{Arrival, Becomes, arrival, arrival_at_connection, local_end, peer_end}
 use Rattle.sockets.specs.Entries.{fate_of, is_between}
 use Rattle.sockets.specs.SocketsView.{SocketsView, later_moment}
+use Rattle.host.specs.Heard.{guarded_by, shuts_out}
 use Rattle.host.specs.Arrival.{MeetsSegment, arrival_by_route}
 use Rattle.host.specs.Carried.{Carried, carried}
 use Rattle.host.specs.Emission.{emission_octets}
@@ -171,8 +172,8 @@ segments-arrive limit w v run side index isn f note answer there noted step = re
   what = same_from;
   pair = n.2 ∙ ap (λ (a : Addr). pair_between a c.to c.segment) here;
   met = met;
-  taken = λ for at e found kept.
-      connection-takes (host_of w.network side) (host_of v.network side) (clock_of w.network side) isn.0 from c.segment answer e (heard_there for at) found kept;
+  taken = λ for at lets e found kept.
+      connection-takes (host_of w.network side) (host_of v.network side) (clock_of w.network side) isn.0 from c.segment answer e (heard_there for at lets) found kept;
 }
   where
     o : IsOut limit w run index f
@@ -208,9 +209,12 @@ segments-arrive limit w v run side index isn f note answer there noted step = re
     met : IsMet w v side isn.0 out.what answer
     met = is-met limit w v run side index isn f answer out.what there step here (out.heard tt)
 
-    heard_there : c.mac ≡ mac_at w.network side → c.to ≡ addr_at w.network side → MeetsMeaning (Ok (Tcp (record { source = from; segment = c.segment }))) (host_of w.network side) (clock_of w.network side) isn.0 answer (host_of v.network side)
-    heard_there for at =
-        subst (λ (m : Result Meaning DropCause). MeetsMeaning m (host_of w.network side) (clock_of w.network side) isn.0 answer (host_of v.network side))
-        (ap (λ (x : Sent). heard_as x (mac_at w.network side) (addr_at w.network side)) same_from
-        ∙ is-heard from c (mac_at w.network side) (addr_at w.network side) (may-send limit w v run (event.Deliver side index isn) answer step side) for at)
+    heard_there : c.mac ≡ mac_at w.network side → c.to ≡ addr_at w.network side → shuts_out (host_of w.network side) from ≡ false → MeetsMeaning (Ok (Tcp (record { source = from; segment = c.segment }))) (host_of w.network side) (clock_of w.network side) isn.0 answer (host_of v.network side)
+    heard_there for at lets =
+        let g = host_of w.network side in
+        let says : Meaning = Tcp (record { source = from; segment = c.segment }) in
+        subst (λ (m : Result Meaning DropCause). MeetsMeaning m g (clock_of w.network side) isn.0 answer (host_of v.network side))
+        (ap (λ (x : Sent). guarded_by g.sockets.manner.guards g.interface (heard_as x g.interface.mac g.interface.addr)) same_from
+        ∙ ap (guarded_by g.sockets.manner.guards g.interface) (is-heard from c (mac_at w.network side) (addr_at w.network side) (may-send limit w v run (event.Deliver side index isn) answer step side) for at)
+        ∙ ap (λ b. if b then Err OtherAddress else Ok says) lets)
         met.met

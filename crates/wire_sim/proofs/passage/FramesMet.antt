@@ -1,5 +1,5 @@
 -- A frame that is delivered is met as what it was sent as, and dropped for nothing but what its addresses and the room there say.
-use Rattle.std.proofs.Common.{◌≡◌, ◌≢◌, ◌⊎◌, inl, inr, ℕ, ◌&&◌, Bool, true, false, cond, List, Option, Some, None, Result, Ok, Err, refl, sym, ◌∙◌, ap, subst}
+use Rattle.std.proofs.Common.{◌≡◌, ◌≢◌, ◌⊎◌, inl, inr, ℕ, ◌&&◌, Bool, true, false, cond, List, Option, Some, None, Result, Ok, Err, refl, sym, ◌∙◌, ap, subst, not, if◌then◌else◌}
 use Rattle.std.specs.List.{slice_get}
 use Rattle.ether.specs.declared.mac.Mac.{Mac}
 use Rattle.ipv4.specs.declared.addr.Addr.{Addr}
@@ -19,7 +19,10 @@ use Rattle.sockets.specs.declared.datagrams.Reception.TheVariants as socket
 use Rattle.sockets.specs.Arrival.{Arrival, Becomes, Opens, NoRoom as NoRoomInTable, Answers}
 use Rattle.sockets.specs.Datagrams.{reception}
 use Rattle.sockets.specs.SocketsView.{later_moment}
-use Rattle.host.specs.Arrival.{MeetsFragment, MeetsHeard, MeetsMessage, MeetsSegment, fragment_outcome, heard_by, queue_answer, segment_arrival, user_datagram_answer}
+use Rattle.host.specs.Arrival.{MeetsFragment, MeetsHeard, MeetsMessage, MeetsSegment, fragment_outcome, queue_answer, segment_arrival, user_datagram_answer}
+use Rattle.host.specs.Heard.{heard_by, guarded_by, is_barred}
+use Rattle.interface.specs.InterfaceView.{InterfaceView}
+use Rattle.tcp_halves.proofs.Choices.{and_false}
 use Rattle.host.specs.HostView.{HostView}
 use Rattle.host.specs.Messages.{Told, Asks, Refuses, Nothing, told_by}
 use Rattle.sides.specs.declared.side.Side.{Side}
@@ -28,7 +31,7 @@ use Rattle.wire_sim.specs.declared.event.Answer.{Answer}
 use Rattle.wire_sim.specs.declared.event.Answer.TheVariants as reply
 use Rattle.wire_sim.specs.declared.event.Event.TheVariants as event
 use Rattle.wire_sim.specs.declared.world.bag.Frame.{Frame}
-use Rattle.wire_sim.specs.Passage.{IsAnswered, IsMet, MeetsMeaning, addr_at, mac_at}
+use Rattle.wire_sim.specs.Passage.{IsAnswered, IsMet, is_let_in, MeetsMeaning, addr_at, mac_at}
 use Rattle.wire_sim.specs.Sent.{Sent, heard_as, is_sent_for, is_sent_to}
 use Rattle.wire_sim.specs.Runs.{IsStep, IsReached}
 use Rattle.wire_sim.specs.Steps.{DeliversFrame, MeetsFrame}
@@ -97,6 +100,18 @@ answered true true says h now isn answer new met =
     neither cause (inl taken) e other = let bad : reply.Taken ≡ reply.Dropped cause = sym taken ∙ e in cc
     neither cause (inr dropped) e other = let bad : reply.Dropped NoRoom ≡ reply.Dropped cause = sym dropped ∙ e in other (let same : cause ≡ NoRoom = cc in same)
 
+-- With guards it is as though what they bar were for another address.
+guarded-so : (guards is_ours is_for_us : Bool) (i : InterfaceView) (says : Meaning)
+    → guarded_by guards i (cond is_ours (cond (is_for_us && true) (Ok says) (Err OtherAddress)) (Err OtherMac))
+    ≡ cond is_ours (cond ((is_for_us && not (guards && is_barred i (Ok says))) && true) (Ok says) (Err OtherAddress)) (Err OtherMac)
+guarded-so guards false for i says = ap (λ b. if b then Err OtherAddress else Err OtherMac) (and_false guards)
+guarded-so guards true false i says = ap (λ b. if b then Err OtherAddress else Err OtherAddress) (and_false guards)
+guarded-so guards true true i says = by_test (guards && is_barred i (Ok says))
+  where
+    by_test : (b : Bool) → (if b then Err OtherAddress else Ok says) ≡ cond (not b && true) (Ok says) (Err OtherAddress)
+    by_test true = refl
+    by_test false = refl
+
 -- What a host hears it meets.
 frame-met : (h : HostView) (now : Moment) (isn : ℕ) (octets : List ℕ) (answer : Answer) (new : HostView) → MeetsFrame h now isn octets answer new → MeetsMeaning (heard_by h octets) h now isn answer new
 frame-met h now isn octets reply.Taken new met = met
@@ -115,8 +130,9 @@ pub is-met : (limit : ℕ) (w v : WorldView) (run : IsReached limit w) (side : S
 is-met limit w v run side index isn f answer what there step from said = record {
   from = from;
   met = met;
-  answered = answered ours for what.says h now isn.0 answer new
-      (subst (λ (b : Bool). MeetsMeaning (cond ours (cond (for && b) (Ok what.says) (Err OtherAddress)) (Err OtherMac)) h now isn.0 answer new) may met);
+  answered = answered ours (for && is_let_in h what.says) what.says h now isn.0 answer new
+      (subst (λ (m : Result Meaning DropCause). MeetsMeaning m h now isn.0 answer new)
+      (ap (λ (b : Bool). guarded_by guards h.interface (cond ours (cond (for && b) (Ok what.says) (Err OtherAddress)) (Err OtherMac))) may ∙ guarded-so guards ours for h.interface what.says) met);
 }
   where
     h : HostView
@@ -134,9 +150,12 @@ is-met limit w v run side index isn f answer what there step from said = record 
     for : Bool
     for = is_sent_for what.to (addr_at w.network side)
 
-    met : MeetsMeaning (heard_as what (mac_at w.network side) (addr_at w.network side)) h now isn.0 answer new
+    guards : Bool
+    guards = h.sockets.manner.guards
+
+    met : MeetsMeaning (guarded_by guards h.interface (heard_as what (mac_at w.network side) (addr_at w.network side))) h now isn.0 answer new
     met =
-        subst (λ (m : Result Meaning DropCause). MeetsMeaning m h now isn.0 answer new) (said (mac_at w.network side) (addr_at w.network side))
+        subst (λ (m : Result Meaning DropCause). MeetsMeaning (guarded_by guards h.interface m) h now isn.0 answer new) (said (mac_at w.network side) (addr_at w.network side))
         (frame-met h now isn.0 f.octets.items answer new (delivered w v side isn.0 _ answer f (slice_get w.network.frames index) there step.network))
 
     may : may_send (addr_at w.network side) what.from ≡ true

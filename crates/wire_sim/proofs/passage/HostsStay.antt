@@ -41,7 +41,8 @@ use Rattle.sockets.specs.SocketsView.{later_moment}
 use Rattle.udp.specs.declared.fault.UdpFault.{UdpFault}
 use Rattle.udp.specs.Datagram.{UserDatagram}
 use Rattle.udp.specs.Reading.{datagram_or_fault}
-use Rattle.host.specs.Arrival.{MeetsFragment, MeetsHeard, MeetsMessage, MeetsSegment, after_outcome, after_payload, after_user_datagram, heard_by, segment_arrival}
+use Rattle.host.specs.Arrival.{MeetsFragment, MeetsHeard, MeetsMessage, MeetsSegment, after_outcome, after_payload, after_user_datagram, segment_arrival}
+use Rattle.host.specs.Heard.{heard_by}
 use Rattle.host.specs.ConfigView.{ConfigView}
 use Rattle.host.specs.Emission.{Emission, Replies, Sends, Asks as AsksFor, Nothing as NothingGoes, after_emission, emission, left_by}
 use Rattle.host.specs.HostView.{HostView, with_interface, with_pool, with_sockets}

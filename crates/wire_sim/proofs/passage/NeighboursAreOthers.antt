@@ -16,6 +16,7 @@ use Rattle.frames.proofs.Deciding.{addr-Decides}
 use Rattle.interface.specs.InterfaceView.{InterfaceView}
 use Rattle.interface.specs.Routing.{next_hop}
 use Rattle.interface.specs.Ways.{mac_of}
+use Rattle.host.proofs.Guarded.{meant_by}
 use Rattle.host.specs.ConfigView.{ConfigView}
 use Rattle.host.specs.Emission.{emission_octets}
 use Rattle.host.specs.HostView.{HostView}
@@ -104,7 +105,7 @@ hosts-know limit _ (goes_on w v happens answer run step) side = side-stays (conf
         let b : Brings w.network side happens octets = brings now isn octets is in
         let from : b.frame.sender ≡ other_side side = from-other w v side b.index b.isn b.frame answer b.there (subst (λ (x : Event). IsStep x answer w v) b.is step) in
         subst (λ (s : Side). TellsOf (config_of limit w run s) packet) from
-        (packet-tells limit w run b.index b.frame (mac_at w.network side) (addr_at w.network side) packet b.there (ap (heard (mac_at w.network side) (addr_at w.network side)) b.carries ∙ heard_so))
+        (packet-tells limit w run b.index b.frame (mac_at w.network side) (addr_at w.network side) packet b.there (ap (heard (mac_at w.network side) (addr_at w.network side)) b.carries ∙ meant_by (host_of w.network side) octets (Arp packet) heard_so))
 
 pub neighbours-others : EveryNeighbourIsTheOtherHost
 neighbours-others limit w run side =

@@ -1,5 +1,5 @@
 -- A host of a world that is quiet is one as the law of a round asks: it knows the way to the other host a minute later, and what it tells of fragments is for that host.
-use Rattle.std.proofs.Common.{◌≡◌, ◌||◌, ℕ, ◌<◌, ◌^◌, ◌+◌, false, List, Option, Some, None, option_map, refl, sym, ◌∙◌, ap, subst}
+use Rattle.std.proofs.Common.{◌≡◌, ◌||◌, ℕ, ◌<◌, ◌≤◌, ◌^◌, ◌+◌, false, List, Option, Some, None, option_map, refl, sym, ◌∙◌, ap, subst}
 use Rattle.std.specs.List.{find, AllByRecursion}
 use Rattle.clock.specs.declared.moment.Moment.{Moment}
 use Rattle.ipv4.specs.declared.addr.Addr.{Addr}
@@ -12,6 +12,8 @@ use Rattle.sockets.specs.declared.entry.SocketId.{SocketId}
 use Rattle.sockets.specs.declared.role.Role.{Role}
 use Rattle.sockets.specs.declared.role.Role.TheVariants.{Connected}
 use Rattle.sockets.specs.Entries.{is_socket}
+use Rattle.sockets.specs.Timing.{IsNear, IsNearIn, AreNear}
+use Rattle.host.specs.Heard.{shuts_out}
 use Rattle.host.specs.HostView.{HostView}
 use Rattle.host.specs.Sound.{IsSoundHost}
 use Rattle.round_law.specs.Exchange.{minute_past}
@@ -24,8 +26,10 @@ use Rattle.wire_sim.specs.Passage.{addr_at, mac_at}
 use Rattle.wire_sim.specs.Progress.{IsQuiet}
 use Rattle.wire_sim.specs.Runs.{IsReached}
 use Rattle.wire_sim.specs.WorldView.{WorldView, host_of, clock_of}
+use Rattle.wire_sim.proofs.HostsRun.{tables-near}
 use Rattle.wire_sim.proofs.hops.OpenConnectionsLead.{connections-lead}
 use Rattle.wire_sim.proofs.lists.FoundAfterChange.{All-find}
+use Rattle.wire_sim.proofs.passage.LetIn.{neighbours-let-in}
 use Rattle.wire_sim.proofs.passage.NeighboursAreOthers.{neighbours-others}
 use Rattle.wire_sim.proofs.progress.PoolsAreOthers.{reports-from}
 use Rattle.wire_sim.proofs.runs.ClocksAreKept.{clocks-kept, hosts-kept}
@@ -45,6 +49,8 @@ quiet-host limit w run side id c sound quiet past lives peer = record {
   nothing = quiet.nothing;
   way = known_later h.interface h.sockets.kept c.peer.addr (mac_at w.network other) heard early;
   reports = subst (λ (a : Addr). AllByRecursion (λ (x : Expired). x.key.source ≡ a) (expired (minute_past h.sockets.kept) h.pool)) (sym peer) (reports-from limit w run side (minute_past h.sockets.kept));
+  lets = ap (shuts_out h) (peer ∙ sym known.0) ∙ neighbours-let-in limit w run side (is_pair_of (addr_at w.network other)) quiet.other quiet.heard;
+  drawn = drawn_by_now;
   early = early;
 }
   where
@@ -54,8 +60,19 @@ quiet-host limit w run side id c sound quiet past lives peer = record {
     other : Side
     other = other_side side
 
+    known : IsPairOf w.network other quiet.other
+    known = All-find (IsPairOf w.network other) (is_pair_of (addr_at w.network other)) h.interface.cache.pairs quiet.other (neighbours-others limit w run side) quiet.heard
+
     shown : clock_of w.network side ≡ h.sockets.kept
     shown = clocks-kept limit w run side
+
+    near : AreNear (clock_of w.network side) h.sockets
+    near = tables-near limit w run side
+
+    drawn_by_now : c.guard.latest.0 ≤ h.sockets.kept.0
+    drawn_by_now =
+        let at : IsNear (clock_of w.network side) c = of-socket (IsNearIn (clock_of w.network side)) id (Connected c None) h.sockets.entries (find (is_socket id) h.sockets.entries) near.each refl quiet.socket in
+        subst (λ (m : Moment). c.guard.latest.0 ≤ m.0) shown at.drawn
 
     early : h.sockets.kept.0 < 2 ^ 63
     early = subst (λ (m : Moment). m.0 < 2 ^ 63) shown quiet.early
@@ -69,6 +86,6 @@ quiet-host limit w run side id c sound quiet past lives peer = record {
       leads = leads (ap (λ b. b || is_closed c.state) past ∙ lives);
       pair = quiet.other;
       known = quiet.heard;
-      its_mac = (All-find (IsPairOf w.network other) (is_pair_of (addr_at w.network other)) h.interface.cache.pairs quiet.other (neighbours-others limit w run side) quiet.heard).1;
+      its_mac = known.1;
       lately = subst (λ (m : Moment). m.0 < quiet.other.heard.0 + 1100000) shown quiet.lately;
     }

@@ -1,5 +1,5 @@
 -- Frames go out one behind the other, and are brought in that order.
-use Rattle.std.proofs.Common.{◌≡◌, ◌+◌, ◌-◌, ◌<◌, ◌==◌, ◌⊎◌, inl, inr, ℕ, zero, suc, Bool, true, false, not, if◌then◌else◌, List, [], ◌∷◌, ◌++◌, length, length-append, Option, Some, None, Result, Ok, Err, arith, refl, sym, ◌∙◌, ap, subst}
+use Rattle.std.proofs.Common.{◌≡◌, ◌+◌, ◌-◌, ◌<◌, ◌==◌, ◌⊎◌, inl, inr, ℕ, zero, suc, Bool, true, false, not, if◌then◌else◌, List, [], ◌∷◌, ◌++◌, length, length-append, Option, Some, None, Result, Ok, Err, IsOk, arith, refl, sym, ◌∙◌, ap, subst}
 use Rattle.std.specs.List.{range_with_len, list_any, slice_get}
 use Rattle.std.specs.Option.{option_or}
 use Rattle.std.proofs.lemmas.List.FromFn.{length-range_with_len}
@@ -192,6 +192,16 @@ fair_without_memory side index old new o = ap (λ w. unfair w (event.Deliver sid
         → unfair old (event.Deliver side index isn_of_round) ≡ None
     by_rule (inl broken) = absurd (no_rule_of_memory old.network (written_len old) side (slice_get old.network.frames index) broken)
     by_rule (inr fair) = fair.0
+
+-- .. and where a fair one is taken while there is room, there was none
+pub full_where_refused : (side : Side) (index : ℕ) (r : Result Answer Unfair) (old new : WorldView) (Room : Type 0) → r ≡ Err NoMemory → IsOutcome (event.Deliver side index isn_of_round) r old new
+    → (unfair old (event.Deliver side index isn_of_round) ≡ None → Room → IsOk r) → Room → ⊥
+full_where_refused side index r old new Room is o taken room =
+    let e : Event = event.Deliver side index isn_of_round in
+    let stopped : IsOutcome e (Err NoMemory) old new = subst (λ (x : Result Answer Unfair). IsOutcome e x old new) is o in
+    let fair : unfair old e ≡ None = subst (λ (w : WorldView). unfair w e ≡ None) stopped.0 (fair_without_memory side index old new stopped) in
+    let none : IsOk {T = Answer} {E = Unfair} (Err NoMemory) = subst (λ (x : Result Answer Unfair). IsOk x) is (taken fair room) in
+    cc
 
 -- The emission of a side, as it stands in its loop.
 

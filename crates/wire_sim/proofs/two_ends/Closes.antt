@@ -15,14 +15,15 @@ use Rattle.tcp_state.specs.declared.connection.Fate.TheVariants.{Stays, Removed,
 use Rattle.tcp_state.specs.declared.emission.Due.TheVariants.{Text, Ack}
 use Rattle.tcp_state.specs.declared.state.State.{State}
 use Rattle.tcp_state.specs.declared.state.State.TheVariants.{SynSent, SynReceived, Established, FinWait1, FinWait2, CloseWait, LastAck, TimeWait, Closed}
-use Rattle.tcp_state.specs.Arrival.{octets_outstanding, fate, is_lost, is_rejected, ends_opening, ends_by_reset, ends_by_syn, is_acceptable_to, is_receiving, is_read, is_read_on, is_of_fin, beyond_fin, fin_acknowledged, after_new_ack, after_establishment, brings_more, beyond_end, counts_fin, owing_ack, resend_after, after_segment, after_lost, after_ack, after_window, after_text, after_fin, after_segment_at, before, timed_by, is_counted_duplicate, counts_duplicates}
+use Rattle.tcp_state.specs.Arrival.{octets_outstanding, fate, is_lost, is_rejected, ends_opening, ends_by_reset, ends_by_syn, is_acceptable_to, is_receiving, is_read, is_off, is_read_on, is_of_fin, beyond_fin, fin_acknowledged, after_new_ack, after_establishment, brings_more, beyond_end, counts_fin, owing_ack, resend_after, after_segment, after_lost, after_ack, after_window, after_text, after_fin, after_segment_at, before, timed_by, is_counted_duplicate, counts_duplicates}
 use Rattle.tcp_state.specs.Edges.{Hears, after_event}
 use Rattle.tcp_state.specs.Said.{segment_of}
 use Rattle.tcp_state.specs.View.{View, IsSound, is_opening, is_closed, is_over, is_syn_sent, is_syn_received, awaits_fin_ack}
 use Rattle.tcp_state.specs.Due.{first_due}
 use Rattle.tcp_state.specs.Resend.{Resend, stopped, mark_left}
 use Rattle.tcp_state.proofs.Clocked.{comes_to, unmarked_after, unmoved}
-use Rattle.tcp_state.proofs.Segments.{reads}
+use Rattle.tcp_state.proofs.Guarded.{in_reach, kept_mark, read_owes}
+use Rattle.tcp_state.proofs.Segments.{IsRead, reads}
 use Rattle.wire_sim.specs.Handshakes.{IsOut, IsAtRest, IsEnding, fin_alone}
 use Rattle.wire_sim.proofs.two_ends.Opens.{one_past, one_out, new_one, ack_due_first, ack_at_next, next_acceptable}
 
@@ -37,18 +38,18 @@ not_before n small = grind (arith, small)
 -- a number that is acknowledged, where nothing is outstanding
 record IsOld (v : View) (ack : ℕ) : Type 0 where
   new : is_new_ack v.sending ack ≡ false
-  beyond : is_before v.sending.nxt ack ≡ false
+  beyond : is_off v ack ≡ false
 
 old_ack : (v : View) (n ack : ℕ) → n < 2 ^ 32 → v.sending.una ≡ n → v.sending.nxt ≡ n → ack ≡ n → IsOld v ack
 old_ack v n ack small una nxt is = record {
   new = ap (λ m. nat_lt 0 m && nat_le m (outstanding v.sending)) (ap (λ m. past m v.sending.una) is ∙ (ap (past n) una ∙ same_numbers n small));
-  beyond = ap (λ m. is_before m ack) nxt ∙ (ap (is_before n) is ∙ not_before n small);
+  beyond = let near : past v.sending.una ack ≡ 0 = ap (past v.sending.una) is ∙ (ap (λ m. past m n) una ∙ same_numbers n small) in in_reach v ack (ap (λ m. is_before m ack) nxt ∙ (ap (is_before n) is ∙ not_before n small)) (omega (arith, near));
 }
 
 old_kept : (v : View) (ack : ℕ) → is_syn_received v.state ≡ false → IsOld v ack → after_ack v ack ≡ v
 old_kept v ack past_opening old =
-    ap (λ b. if b then (if is_new_ack v.sending ack then after_establishment v else v) else if is_new_ack v.sending ack then (if is_of_fin v ack then fin_acknowledged (after_new_ack v ack) else after_new_ack v ack) else if is_before v.sending.nxt ack then owing_ack v else v) past_opening
-    ∙ (ap (λ b. if b then (if is_of_fin v ack then fin_acknowledged (after_new_ack v ack) else after_new_ack v ack) else if is_before v.sending.nxt ack then owing_ack v else v) old.new
+    ap (λ b. if b then (if is_new_ack v.sending ack then after_establishment v else v) else if is_new_ack v.sending ack then (if is_of_fin v ack then fin_acknowledged (after_new_ack v ack) else after_new_ack v ack) else if is_off v ack then owing_ack v else v) past_opening
+    ∙ (ap (λ b. if b then (if is_of_fin v ack then fin_acknowledged (after_new_ack v ack) else after_new_ack v ack) else if is_off v ack then owing_ack v else v) old.new
     ∙ ap (λ b. if b then owing_ack v else v) old.beyond)
 
 -- The acknowledgement of our FIN.
@@ -59,8 +60,8 @@ fin_taken v ours ack sound past_opening awaits una held nxt is =
     let small : ours < 2 ^ 32 = subst (λ n. n < 2 ^ 32) una sound.una in
     let one : past ack v.sending.una ≡ 1 = ap (λ n. past n v.sending.una) is ∙ (ap (past (wire ours 1)) una ∙ one_past ours small) in
     let fin : is_of_fin v ack ≡ true = ap (λ b. b && nat_lt (length v.sending.held) (past ack v.sending.una)) awaits ∙ (ap (λ xs. nat_lt (length xs) (past ack v.sending.una)) held ∙ ap (nat_lt 0) one) in
-    ap (λ b. if b then (if is_new_ack v.sending ack then after_establishment v else v) else if is_new_ack v.sending ack then (if is_of_fin v ack then fin_acknowledged (after_new_ack v ack) else after_new_ack v ack) else if is_before v.sending.nxt ack then owing_ack v else v) past_opening
-    ∙ (ap (λ b. if b then (if is_of_fin v ack then fin_acknowledged (after_new_ack v ack) else after_new_ack v ack) else if is_before v.sending.nxt ack then owing_ack v else v) (new_one v ours ack sound una nxt is)
+    ap (λ b. if b then (if is_new_ack v.sending ack then after_establishment v else v) else if is_new_ack v.sending ack then (if is_of_fin v ack then fin_acknowledged (after_new_ack v ack) else after_new_ack v ack) else if is_off v ack then owing_ack v else v) past_opening
+    ∙ (ap (λ b. if b then (if is_of_fin v ack then fin_acknowledged (after_new_ack v ack) else after_new_ack v ack) else if is_off v ack then owing_ack v else v) (new_one v ours ack sound una nxt is)
     ∙ ap (λ b. if b then fin_acknowledged (after_new_ack v ack) else after_new_ack v ack) fin)
 
 -- a FIN that is out takes the one number that is outstanding
@@ -149,10 +150,13 @@ module _ (v : View) (s : Segment) (now : Moment) (h : IsHeard v s) where
       neither true false = refl
       neither false b = refl
 
+  read : IsRead v s
+  read = record { no_rst = h.no_rst; accepted = h.accepted; no_syn = h.no_syn; ack = h.ack; on = h.on }
+
   -- it is looked at for its acknowledgement, its window and its FIN
   is_heard : after_segment v s ≡ after_fin (after_window (after_ack v s.acknowledgement) s) s
   is_heard =
-      reads v s h.lives (not_sent v.state h.past_opening) (record { no_rst = h.no_rst; accepted = h.accepted; no_syn = h.no_syn; ack = h.ack; on = h.on })
+      reads v s h.lives (not_sent v.state h.past_opening) read
       ∙ ap (λ w. after_fin w s) (without_octets (after_window (after_ack v s.acknowledgement) s) s h.none)
 
   heard_at : after_segment_at v s now ≡ timed_by (before v s) (after_fin (after_window (after_ack v s.acknowledgement) s) s) now
@@ -186,8 +190,8 @@ first_fin state ours theirs c v now solid ends sound rests room =
     let past_opening : is_opening v.state ≡ false = ap is_opening rests.in_state in
     let received : is_syn_received v.state ≡ false = ap is_syn_received rests.in_state in
     let on : is_read_on v s.acknowledgement ≡ true =
-    ap (λ b. if b then is_new_ack v.sending s.acknowledgement else is_new_ack v.sending s.acknowledgement || not (is_before v.sending.nxt s.acknowledgement)) received
-    ∙ (ap (λ b. b || not (is_before v.sending.nxt s.acknowledgement)) old.new ∙ ap not old.beyond) in
+    ap (λ b. if b then is_new_ack v.sending s.acknowledgement else is_new_ack v.sending s.acknowledgement || not (is_off v s.acknowledgement)) received
+    ∙ (ap (λ b. b || not (is_off v s.acknowledgement)) old.new ∙ ap not old.beyond) in
     let lives : is_closed v.state ≡ false = ap is_closed rests.in_state in
     let h : IsHeard v s = record { lives = lives; no_rst = refl; no_syn = refl; ack = refl; none = refl; past_opening = past_opening; accepted = accepted; on = on } in
     let x = after_window v s in
@@ -211,7 +215,7 @@ first_fin state ours theirs c v now solid ends sound rests room =
           held = held;
           expects = ap (λ n. wire n 1) rests.expects;
         },
-        ack_due_first w reset (ap is_opening state_is) (ap awaits_fin_ack state_is) mark held refl,
+        ack_due_first w reset (ap is_opening state_is) (ap awaits_fin_ack state_is) (kept_mark v s y now (inr refl) ∙ mark) held (read_owes v s y now (read v s now h)),
       ),
       keeps_open v s (ap (λ (u : View). is_closed u.state) (is_heard v s now h ∙ heard) ∙ ap is_closed state_is) (unrefused v s now h) (unended v s now h),
     )
@@ -234,8 +238,8 @@ last_fin state ours theirs c v now solid ends sound waits out room =
     let sent : v.sending.nxt ≡ wire ours 1 = ending_out v sound past_opening (ap awaits_fin_ack waits.in_state) waits.held out ∙ ap (λ n. wire n 1) waits.fin in
     let new : is_new_ack v.sending s.acknowledgement ≡ true = new_one v ours s.acknowledgement sound waits.fin sent ends.expects in
     let on : is_read_on v s.acknowledgement ≡ true =
-    ap (λ b. if b then is_new_ack v.sending s.acknowledgement else is_new_ack v.sending s.acknowledgement || not (is_before v.sending.nxt s.acknowledgement)) received
-    ∙ ap (λ b. b || not (is_before v.sending.nxt s.acknowledgement)) new in
+    ap (λ b. if b then is_new_ack v.sending s.acknowledgement else is_new_ack v.sending s.acknowledgement || not (is_off v s.acknowledgement)) received
+    ∙ ap (λ b. b || not (is_off v s.acknowledgement)) new in
     let lives : is_closed v.state ≡ false = ap is_closed waits.in_state in
     let h : IsHeard v s = record { lives = lives; no_rst = refl; no_syn = refl; ack = refl; none = refl; past_opening = past_opening; accepted = accepted; on = on } in
     let u = fin_acknowledged (after_new_ack v s.acknowledgement) in
@@ -264,7 +268,7 @@ last_fin state ours theirs c v now solid ends sound waits out room =
           held = held;
           expects = ap (λ n. wire n 1) waits.expects;
         },
-        ack_due_first w reset (ap is_opening state_is) (ap awaits_fin_ack state_is) mark held refl,
+        ack_due_first w reset (ap is_opening state_is) (ap awaits_fin_ack state_is) (kept_mark v s y now (inr refl) ∙ mark) held (read_owes v s y now (read v s now h)),
       ),
       keeps_open v s (ap (λ (u : View). is_closed u.state) (is_heard v s now h ∙ heard) ∙ ap is_closed state_is) (unrefused v s now h) (unended v s now h),
     )
@@ -288,8 +292,8 @@ last_ack ours theirs e v now rests sound waits out =
     let accepted : is_acceptable_to v s ≡ true = next_acceptable v.receiving s.number (number ∙ sym waits.expects) sound.rnext in
     let new : is_new_ack v.sending s.acknowledgement ≡ true = new_one v ours s.acknowledgement sound waits.fin sent rests.expects in
     let on : is_read_on v s.acknowledgement ≡ true =
-    ap (λ b. if b then is_new_ack v.sending s.acknowledgement else is_new_ack v.sending s.acknowledgement || not (is_before v.sending.nxt s.acknowledgement)) received
-    ∙ ap (λ b. b || not (is_before v.sending.nxt s.acknowledgement)) new in
+    ap (λ b. if b then is_new_ack v.sending s.acknowledgement else is_new_ack v.sending s.acknowledgement || not (is_off v s.acknowledgement)) received
+    ∙ ap (λ b. b || not (is_off v s.acknowledgement)) new in
     let lives : is_closed v.state ≡ false = ap is_closed waits.in_state in
     let h : IsHeard v s = record { lives = lives; no_rst = refl; no_syn = refl; ack = refl; none = refl; past_opening = past_opening; accepted = accepted; on = on } in
     let u = fin_acknowledged (after_new_ack v s.acknowledgement) in

@@ -26,6 +26,7 @@ use Rattle.tcp_state.specs.declared.emission.Due.{Due}
 use Rattle.std.specs.Option.{option_or}
 use Rattle.tcp_state.proofs.Selects.{silent_opening}
 use Rattle.tcp_state.proofs.Clocked.{comes_to, marks_kept}
+use Rattle.tcp_state.proofs.Guarded.{kept_mark, sent_not_received, sent_owes}
 use Rattle.tcp_state.proofs.ResetErrors.{refused_in_syn_sent}
 use Rattle.tcp_state.proofs.Segments.{by_segment, by_ack, by_fin, opened_by_syn_ack}
 use Rattle.tcp_state.proofs.ThreeSteps.{ack_confirms}
@@ -163,6 +164,7 @@ opened_by ours theirs f v now answers sound asks out =
     let s = segment_of f Syn in
     let o = opening v sound asks.state in
     let opens : is_opening v.state ≡ true = ap is_opening asks.state in
+    let waits : is_syn_sent v.state ≡ true = ap is_syn_sent asks.state in
     let sent : v.sending.nxt ≡ wire ours 1 = opening_out v sound opens out ∙ ap (λ n. wire n 1) asks.syn in
     let ack : s.flags.ack ≡ true = ap is_syn_received answers.state in
     let acknowledges : s.acknowledgement ≡ wire ours 1 = ap (λ b. if b then f.receiving.rnext else 0) ack ∙ answers.expects in
@@ -178,7 +180,7 @@ opened_by ours theirs f v now answers sound asks out =
     let P : View → Type 0 = λ e. IsOpen ours theirs e × (first_due e ≡ Some Ack) in (
       subst P (sym at) (
         record { state = refl; acknowledged = sent; sent = sent; expects = ap (λ n. wire n 1) answers.syn },
-        ack_due_first w o.quiet refl refl mark (none_held v sound opens) refl,
+        ack_due_first w o.quiet refl refl (kept_mark v s u now (inl (sent_not_received v.state waits)) ∙ mark) (none_held v sound opens) (sent_owes v s u now waits),
       ),
       keeps_place v s o.kept taken stays,
     )

@@ -124,7 +124,7 @@ travelled limit side s w0 w1 w2 w3 answer isn t = record {
   moment = later_moment (table_of w2.network (other_side side)) (clock_of w2.network (other_side side));
   told = came.0;
   answered = came.1;
-  met = carried-met (host_of w0.network side) (host_of w2.network (other_side side)) (clock_of w0.network side) (clock_of w2.network (other_side side)) isn.0 _ came.0 (host_of w3.network (other_side side)) sound kept.ordered t.carries another refl refl came.2;
+  met = carried-met (host_of w0.network side) (host_of w2.network (other_side side)) (clock_of w0.network side) (clock_of w2.network (other_side side)) isn.0 _ came.0 (host_of w3.network (other_side side)) sound kept.ordered t.carries another refl refl t.lets came.2;
 }
   where
     sound : IsSoundHost (host_of w0.network side)

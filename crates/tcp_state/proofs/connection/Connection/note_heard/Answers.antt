@@ -9,7 +9,7 @@ use Rattle.tcp_state.specs.Timing.{clocked}
 use Rattle.tcp_state.specs.Congestion.{Signal, after_signal}
 use Rattle.tcp_state.specs.Alive.{heard_now}
 use Rattle.tcp_state.specs.Resend.{excused_by, gives_back}
-use Rattle.tcp_state.specs.Arrival.{begins_wait, is_moved, resend_heard, resend_told, reported_by, told, reports_more, signal_of, congestion_event_of, resend_signalled, given_back, resend_left, congestion_left, timed_by}
+use Rattle.tcp_state.specs.Arrival.{begins_wait, is_moved, resend_heard, resend_told, reported_by, told, reports_more, signal_of, congestion_event_of, resend_signalled, given_back, resend_left, congestion_left, guarded, timed_by}
 use Rattle.tcp_state.proofs.Clocked.{heard_paced}
 use Rattle.tcp_state.proofs.Congestion.{syn_kept}
 use Rattle.tcp_state.proofs.connection.Connection.note_heard.Goals as goal
@@ -26,11 +26,11 @@ signalled b w more = let resend = excused_by b.needless (resend_signalled w.rese
 abbrev event_at : Before → View → ℕ → ℕ → ℕ → Signal
 event_at b w recover tail reach = signal_of b (record w { resend = record w.resend { recover = recover; tail = tail; reach = reach; reported = reported_by b w } }) (reports_more b w)
 
--- its progress, its signal, the wait that it begins, that the peer was heard, and then the clock
-noted : (b : Before) (v progress reported signal waits hears : View) (moved more starts : Bool) (now : Moment) → progress ≡ record v { resend = resend_heard b v now } → reported ≡ told b progress → more ≡ reports_more b progress → signal ≡ signalled b reported more
-    → waits ≡ record signal { since = if starts then now else signal.since } → hears ≡ record waits { alive = heard_now waits.alive now } → moved ≡ is_moved b v
-    → starts ≡ (b.repeats_fin || begins_wait b.state signal.state || (signal.owes_reset && not b.owes_reset)) → clocked moved hears now ≡ timed_by b v now
-noted b v progress reported signal waits hears moved more starts now progressed told_so more_so signals since heard moves begins =
+-- its progress, its signal, the wait that it begins, that the peer was heard, what guards against it, and then the clock
+noted : (b : Before) (v progress reported signal waits hears guards : View) (moved more starts : Bool) (now : Moment) → progress ≡ record v { resend = resend_heard b v now } → reported ≡ told b progress → more ≡ reports_more b progress → signal ≡ signalled b reported more
+    → waits ≡ record signal { since = if starts then now else signal.since } → hears ≡ record waits { alive = heard_now waits.alive now } → guards ≡ guarded b hears now → moved ≡ is_moved b v
+    → starts ≡ (b.repeats_fin || begins_wait b.state signal.state || (signal.owes_reset && not b.owes_reset)) → clocked moved guards now ≡ timed_by b v now
+noted b v progress reported signal waits hears guards moved more starts now progressed told_so more_so signals since heard guards_so moves begins =
     let w = record v { resend = resend_left b v now; congestion = congestion_left b v now } in
     let back = gives_back b.needless (resend_left b v now) in
     let heard_resend = resend_heard b v now in
@@ -45,7 +45,8 @@ noted b v progress reported signal waits hears moved more starts now progressed 
     ∙ ap (λ resent. record w { congestion = given_back back (after_signal v.congestion (congestion_event_of b v) v.sending.smss resent) }) (syn_kept b v now) in
     let starts_is = begins ∙ ap (λ (x : View). b.repeats_fin || begins_wait b.state x.state || (x.owes_reset && not b.owes_reset)) signal_is in
     let waits_is = since ∙ ap (λ (x : View). record x { since = if starts then now else x.since }) signal_is ∙ ap (λ t. record w { since = if t then now else v.since }) starts_is in
-    ap (λ m. clocked m hears now) moves ∙ ap (λ x. clocked (is_moved b v) x now) (heard ∙ ap (λ (x : View). record x { alive = heard_now x.alive now }) waits_is)
+    ap (λ m. clocked m guards now) moves
+    ∙ ap (λ x. clocked (is_moved b v) x now) (guards_so ∙ ap (λ x. guarded b x now) (heard ∙ ap (λ (x : View). record x { alive = heard_now x.alive now }) waits_is))
 
 pub returns : goal.returns
 returns c =
@@ -60,5 +61,5 @@ returns c =
     let starts = c.starts_wait.ensures
     ∙ ap (λ (x : View). c.args.before.now.repeats_fin || begins_wait c.args.before.now.state x.state || (x.owes_reset && not c.args.before.now.owes_reset)) c.self-2.view_is in
     c.update_timers.ensures
-    ∙ noted c.args.before.now c.args.self.now c.note_progress.new.self c.note_reports-reports_more.new.self signal c.if-starts_wait.self c.note_peer.new.self c.ne-moved.result c.note_reports-reports_more.result c.starts_wait.result c.args.now
-    c.note_progress.ensures c.note_reports-reports_more.ensures.after c.note_reports-reports_more.ensures.more c.note_news.ensures since c.note_peer.ensures moved starts
+    ∙ noted c.args.before.now c.args.self.now c.note_progress.new.self c.note_reports-reports_more.new.self signal c.if-starts_wait.self c.note_peer.new.self c.note_guard.new.self c.ne-moved.result c.note_reports-reports_more.result c.starts_wait.result c.args.now
+    c.note_progress.ensures c.note_reports-reports_more.ensures.after c.note_reports-reports_more.ensures.more c.note_news.ensures since c.note_peer.ensures c.note_guard.ensures moved starts

@@ -1,11 +1,13 @@
-use Rattle.std.proofs.Common.{rules, ◌≡◌, false, refl, sym, ◌∙◌, ap, subst}
+use Rattle.std.proofs.Common.{rules, ◌≡◌, ◌||◌, not, if◌then◌else◌, true, false, refl, sym, ◌∙◌, ap, subst}
 use denote.Enum.Bare.{sameb}
 use Rattle.tcp_state.specs.contracts.state.State.{the_type}
 use Rattle.tcp_state.specs.declared.state.State.{State}
 use Rattle.tcp_state.specs.declared.state.State.TheVariants.{Closed}
+use Rattle.tcp_state.specs.contracts.connection.Fate.{the_type as fate_type}
+use Rattle.tcp_state.specs.declared.connection.Fate.{Fate}
 use Rattle.tcp_state.specs.declared.connection.Fate.TheVariants.{Rejected}
 use Rattle.tcp_state.specs.View.{View, is_closed}
-use Rattle.tcp_state.specs.Arrival.{before, timed_by, fate}
+use Rattle.tcp_state.specs.Arrival.{after_heard, is_rejected, before, timed_by, fate}
 use Rattle.tcp_state.proofs.Rejecting.{heard_at}
 use Rattle.tcp_state.proofs.Unchanged.{rejected_leaves, rejected_leaves_at}
 use Rattle.tcp_state.proofs.connection.Connection.segment.Goals as goal
@@ -14,6 +16,20 @@ use Rattle.tcp_state.proofs.connection.Connection.segment.Goals as goal
 going : (t : State) → sameb the_type t Closed ≡ false → is_closed t ≡ false
 going Closed e = cc
 going _ e = refl
+
+closes : (t : State) → sameb the_type t Closed ≡ true → is_closed t ≡ true
+closes Closed e = refl
+closes _ e = cc
+
+refuses : (f : Fate) → not (sameb fate_type f Rejected) ≡ false → f ≡ Rejected
+refuses Rejected e = refl
+refuses _ e = cc
+
+pub returns-then-eq-clause-after : goal.returns-then-eq-clause-after
+returns-then-eq-clause-after c =
+    let v : View = c.args.self.now in
+    let closed : is_closed v.state ≡ true = subst (λ (w : View). is_closed w.state ≡ true) c.self.view_is (closes c.self.inside.state (sym c.eq.ensures ∙ c.if-eq.true)) in
+    sym (ap (λ b. if b || is_rejected v c.args.segment.now then v else timed_by (before v c.args.segment.now) (after_heard v c.args.segment.now) c.args.now) closed)
 
 -- a segment that is not rejected is heard, and the clock notes it
 pub returns-then-ne-clause-after : goal.returns-then-ne-clause-after
@@ -27,5 +43,5 @@ returns-then-ne-clause-after c =
 
 pub returns-else-ne-clause-after : goal.returns-else-ne-clause-after
 returns-else-ne-clause-after c =
-    let rejected : fate c.args.self.now c.args.segment.now ≡ Rejected = search rules in
+    let rejected : fate c.args.self.now c.args.segment.now ≡ Rejected = sym c.hear-fate.ensures.fate ∙ refuses c.hear-fate.result (sym c.ne.ensures ∙ c.if-ne.false) in
     c.hear-fate.ensures.after ∙ (rejected_leaves c.args.self.now c.args.segment.now rejected ∙ sym (rejected_leaves_at c.args.self.now c.args.segment.now c.args.now rejected))
