@@ -167,8 +167,11 @@ struct host_route {
  *
  * On its guard a host drops what comes from the address of a network on its link, or of all its hosts, and ARP packets of such an address, of a
  * group's MAC and of its own; it takes no octets with an acknowledgement older than the largest window of the peer is wide, answers at most ten segments
- * a second of a connection that it doesn't use (RFC 5961), and a SYN that comes again by the SYN-ACK again. Of the three members behind `recovery` 0 is
- * the usual, and another number that is out of its range counts as the nearest in it. A host that meets a real network wants
+ * a second of a connection that it doesn't use (RFC 5961), and a SYN that comes again by the SYN-ACK again. Where a SYN or a socket finds no room, a half-
+ * open connection whose SYN-ACK nobody answered for a second gives way, or one in TIME-WAIT that was closed here; and such a one to a SYN between its ends
+ * that is past all that was heard on it. To a fragment the oldest datagram that is put together gives way, and one of a datagram that was whole within the
+ * last second begins none. Of the three members behind `recovery` 0 is the usual, and another number that is out of its range counts as the
+ * nearest in it. A host that meets a real network wants
  *
  *     .recovery = HOST_RECOVERY_SELECTIVE, .first_segments = 10, .least_timeout = 200, .first_threshold = 1 << 30, .guards = 1
  *

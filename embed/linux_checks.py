@@ -324,6 +324,58 @@ def udp_behind_silence():
     return "came at once; 3 requests for the other"
 
 
+def doubled_frames(count):
+    """So many datagrams of 0 to 65,507 octets each way, in turn. Of each way's frames every tenth comes twice, the copy at once behind it: how many arrive,
+    to the host and from it."""
+    sizes = [number * 65_507 // (count - 1) for number in range(count)]
+    frames, came = [0, 0], [0, 0]
+
+    def is_tenth(way):
+        frames[way] += 1
+        return frames[way] % 10 == 0
+
+    with socket.socket(socket.AF_INET, socket.SOCK_DGRAM) as linux, OwnHost() as own:
+        linux.bind((LINUX, 0))
+        id = own.host.socket(Kind.UDP)
+        own.host.bind(id, (OURS, 9))
+
+        def hear(frame):
+            own.deliver(frame)
+            if is_tenth(0):
+                own.deliver(frame)
+
+        def arrived():
+            return Ready.READ in own.host.ready(id)
+
+        def go(until):
+            end = time.monotonic() + 0.2
+            for frame in own.run(until=lambda: until() or time.monotonic() > end, hear=hear):
+                if is_tenth(1):
+                    own.going.append((time.monotonic(), frame))
+
+        for size in sizes:
+            linux.sendto(octets(size), (OURS, 9))
+            go(arrived)
+            heard = []
+            while arrived():
+                heard.append(own.host.recvfrom(id)[0])
+            came[0] += octets(size) in heard
+        for size in sizes:
+            own.host.sendto(id, linux.getsockname(), octets(size))
+            go(lambda: select.select([linux], [], [], 0)[0])
+            heard = []
+            while select.select([linux], [], [], 0)[0]:
+                heard.append(linux.recv(65_536))
+            came[1] += octets(size) in heard
+    return came, frames
+
+
+def every_tenth_frame_twice(count):
+    came, frames = doubled_frames(count)
+    want(min(came) >= count - 4, f"{came[0]} arrive at the host, {came[1]} at Linux")
+    return f"{came[0]} of {count} arrive at the host, {came[1]} at Linux; {frames[0]:,} and {frames[1]:,} frames"
+
+
 class ReadyEcho:
     """An echo over an own host, which makes no call but those that a socket is ready for. `ended` counts the connections whose both sides are closed."""
 
@@ -414,6 +466,60 @@ def flood_of_openings():
             want(client.recv(5) == b"hello", "other octets come back")
     want(seconds > 0.3, "the flood took no place")
     return f"a client gets in {seconds:.1f} s after its end"
+
+
+def conversation(connection, is_over):
+    """Round trips of five octets over an open connection until that is over, each in turn: how long each took, in seconds."""
+    turns = []
+    while not is_over.is_set():
+        began = time.monotonic()
+        connection.sendall(b"hello")
+        want(connection.recv(5, socket.MSG_WAITALL) == b"hello", "other octets come back")
+        turns.append(time.monotonic() - began)
+    return turns
+
+
+def flood(sources, *words):
+    """SYNs from these addresses, 20,000 a second, while a connection goes on and the places of the listener are taken; then a client opens another."""
+    frames = [syn_frame(source, 1024 + number % 60000, 7) for number, source in enumerate(sources)]
+    turns, is_over = [], threading.Event()
+    with Tap(*words), socket.socket(socket.AF_PACKET, socket.SOCK_RAW) as wire, connected(7) as open_one:
+        wire.bind((device, 0))
+        talker = threading.Thread(target=lambda: turns.extend(conversation(open_one, is_over)))
+        talker.start()
+        began = time.monotonic()
+        for number, frame in enumerate(frames):
+            if number % 100 == 0:
+                time.sleep(max(0, began + number / 20_000 - time.monotonic()))
+            wire.send(frame)
+        took, began = time.monotonic() - began, time.monotonic()
+        with socket.create_connection((OURS, 7), timeout=10) as client:
+            seconds = time.monotonic() - began
+            client.sendall(b"hello")
+            want(client.recv(5, socket.MSG_WAITALL) == b"hello", "other octets come back")
+        is_over.set()
+        talker.join()
+    want(len(turns) > 10, f"the open connection makes {len(turns)} round trips")
+    return f"{len(frames):,} in {took:.1f} s; the open connection made {len(turns):,} round trips, the slowest {max(turns) * 1000:.0f} ms; a client gets in after {seconds:.1f} s"
+
+
+def flood_of_the_link():
+    return flood(random.Random(1).choices(SILENT, k=100_000))
+
+
+def flood_from_beyond():
+    """Each SYN-ACK goes out to the gateway, which passes it on to nobody."""
+    chosen = random.Random(2)
+    return flood([f"10.{chosen.randrange(16, 250)}.{chosen.randrange(250)}.{chosen.randrange(1, 250)}" for _ in range(100_000)], "--gateway", LINUX)
+
+
+def host_closes_first(count):
+    """So many requests in turn. Each leaves a connection in TIME-WAIT at the host, which has 64 places."""
+    with Tap("--source", 100):
+        for _ in range(count):
+            with connected(19) as client:
+                want(read_to_end(client) == bytes(range(100)), "other octets come")
+    return f"{count:,} in turn, none refused"
 
 
 def bounded_openings():
@@ -994,6 +1100,7 @@ CHECKS = [
     *[(f"UDP echo, {size:,} octets", udp_echo, (size,), "") for size in (1, 1472, 1473, 8000, 65507)],
     ("UDP to a port without a socket", udp_refused, (), ""),
     ("UDP behind a datagram for a silent address", udp_behind_silence, (), ""),
+    ("UDP: 460 datagrams each way, every tenth frame twice", every_tenth_frame_twice, (460,), ""),
     ("TCP to a port without a listener", tcp_refused, (), ""),
     ("TCP: Linux opens, Linux closes first", linux_opens_and_closes, (), ""),
     ("TCP: Linux opens, the host closes first", linux_opens_host_closes, (), ""),
@@ -1008,6 +1115,9 @@ CHECKS = [
     ("TCP: write, turn, write, read, 1 ms late each way, no-delay", no_delay, (), ""),
     ("TCP: a peer that falls silent is found by keep-alive", silent_peer, (), ""),
     ("TCP: a flood of openings from silent addresses", flood_of_openings, (), ""),
+    ("TCP: 100,000 openings from silent addresses of the link", flood_of_the_link, (), ""),
+    ("TCP: 100,000 openings from beyond the gateway", flood_from_beyond, (), ""),
+    ("TCP: 3,000 requests in turn, the host closes first", host_closes_first, (3000,), ""),
     ("TCP: four openings a second", bounded_openings, (), ""),
     ("TCP: forged segments with an old acknowledgement, 1 MB to the host", forged_octets, (), ""),
     ("TCP: two hosts that are out of step", out_of_step, (), ""),

@@ -4,6 +4,7 @@ ghost use Rattle.std.specs.Prelude.{◌≡◌, ◌≤◌, length, IfSome};
 ghost use Rattle.host.specs.Arrival.{IsDelivered};
 ghost use Rattle.host.specs.Emission.{emission_len, after_emission, emission_front};
 ghost use Rattle.host.specs.GivenUp.{gives_up};
+ghost use Rattle.host.specs.GiveWay.{with_way};
 ghost use Rattle.host.specs.Lack.{lack};
 ghost use Rattle.host.specs.Ticks.{after_tick};
 ghost use Rattle.counters.specs.Counting.{Came, Ticked, after_event, after_going, after_refusal, new_counters, raised};
@@ -51,7 +52,7 @@ impl Counters {
         }
     }
 
-    /// `Host::deliver`, counted: the frame, its octets, and where it is dropped the cause, and what it found no room at.
+    /// `Host::deliver_by_way`, counted: the frame, its octets, and where it is dropped the cause, and what it found no room at.
     #[tactic(auto, using(crate::proofs::Alike::refused_alike))]
     pub fn deliver(
         &mut self,
@@ -60,10 +61,10 @@ impl Counters {
         isn: Seq,
         frame: &[u8],
     ) -> Result<(), DropCause>
-        ensures delivered { IsDelivered host.old now isn.0 frame.now result host.new }
-        ensures counted { self.new ≡ after_event self.old (Came (length frame.now) result (lack host.old frame.now)) }
+        ensures delivered { IsDelivered (with_way host.old frame.now) now isn.0 frame.now result host.new }
+        ensures counted { self.new ≡ after_event self.old (Came (length frame.now) result (lack (with_way host.old frame.now) frame.now)) }
     {
-        let answer = host.deliver(now, isn, frame);
+        let answer = host.deliver_by_way(now, isn, frame);
         raise(&mut self.frames_in, 1);
         raise(&mut self.octets_in, frame.len() as u64);
         if let Err(cause) = answer {

@@ -5,7 +5,7 @@ use Rattle.std.specs.List.{AllByRecursion}
 use Rattle.ipv4.specs.Datagram.{Datagram}
 use Rattle.reassembly.specs.declared.key.Key.{Key}
 use Rattle.reassembly.specs.Events.{Event, after_event, has_place, taken_for, gathered_after, gathered_from, gathered}
-use Rattle.reassembly.specs.Events.Event.{Takes, Ages}
+use Rattle.reassembly.specs.Events.Event.{Takes, Ages, GivesWay}
 use Rattle.reassembly.specs.Fragments.{key_of}
 use Rattle.reassembly.specs.Keys.{same_key}
 use Rattle.reassembly.specs.Reassembly.{Reassembly}
@@ -21,6 +21,7 @@ IsFor accepted key d = IsOfOne accepted d × (key_of d ≡ key)
 
 taken : (accepted : List Accepted) (key : Key) (event : Event) → TakesOfOne accepted event → All (IsFor accepted key) (taken_for key event)
 taken accepted key (Ages now) h = All-nil (IsFor accepted key)
+taken accepted key GivesWay h = All-nil (IsFor accepted key)
 taken accepted key (Takes now d) h = step (same_key (key_of d) key) refl
   where
     step : (b : Bool) → same_key (key_of d) key ≡ b → All (IsFor accepted key) (cond b (d ∷ []) [])
@@ -66,6 +67,7 @@ one_event accepted places event pool h = record {
 takes_still : (accepted more : List Accepted) (event : Event) → TakesOfOne accepted event → TakesOfOne (accepted ++ more) event
 takes_still accepted more (Takes now d) h = still _ accepted more h
 takes_still accepted more (Ages now) h = h
+takes_still accepted more GivesWay h = h
 
 pub pool_still : (accepted more : List Accepted) (places : List (Option Reassembly)) → IsPoolOf accepted places → IsPoolOf (accepted ++ more) places
 pool_still accepted more places pool = record {

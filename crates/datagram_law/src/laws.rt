@@ -61,7 +61,7 @@ pub fn parts_are_of_one()
         → IsOfOne accepted d }
 {}
 
-/// A new pool is of what was accepted, and stays so whatever of it is taken and whatever moments are told.
+/// A new pool is of what was accepted, and stays so whatever of it is taken, whatever moments are told and however often the oldest gives way.
 pub fn pools_are_of_what_was_accepted()
     ensures new { (accepted : List Accepted) → IsPoolOf accepted (replicate 4 None) }
     ensures event { (accepted : List Accepted) (places : List (Option Reassembly)) (event : Event) → IsPoolOf accepted places → TakesOfOne accepted event

@@ -24,11 +24,11 @@ answered (Answers other) h new head is = let same = is.0 in (cc, is.1)
 -- .. and what joins the control replies then is what the segment leads to
 pub met_answer : (h : HostView) (now : Moment) (isn : ℕ) (source : Addr) (s : Segment) (head : Head) (table : SocketsView) (i : InterfaceView) (told : Result (Unit {0}) DropCause)
     → Meets (arrival h.sockets now isn source s) h.sockets (taken.Answer head) table → i ≡ after_answer h.interface now source head → told ≡ queue_answer (answer_result h.interface source)
-    → MeetsSegment (segment_arrival h now isn source s) h now source told (record { interface = i; sockets = table; pool = h.pool })
+    → MeetsSegment (segment_arrival h now isn source s) h now source told (record { interface = i; sockets = table; pool = h.pool; lately = h.lately })
 met_answer h now isn source s head table i told met after is =
     let two = answered (arrival h.sockets now isn source s) h.sockets table head met in
-    let new : HostView = record { interface = i; sockets = table; pool = h.pool } in
+    let new : HostView = record { interface = i; sockets = table; pool = h.pool; lately = h.lately } in
     let leads : segment_arrival h now isn source s ≡ Answers head = ap (arrival_by_route (is_routed h.interface source)) two.0 in
-    let kept : new ≡ with_interface h (after_answer h.interface now source head) = λ k. record { interface = after k; sockets = two.1 k; pool = h.pool } in
+    let kept : new ≡ with_interface h (after_answer h.interface now source head) = λ k. record { interface = after k; sockets = two.1 k; pool = h.pool; lately = h.lately } in
     let meets : MeetsSegment (Answers head) h now source told new = (is, kept) in
     subst (λ (a : Arrival). MeetsSegment a h now source told new) (sym leads) meets

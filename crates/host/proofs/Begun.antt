@@ -1,5 +1,5 @@
 -- A host whose layers were made for a set-up is one to which nothing happened.
-use Rattle.std.proofs.Common.{◌≡◌, List, Option, None, IfOk, Result, Ok, Err}
+use Rattle.std.proofs.Common.{◌≡◌, List, [], Option, None, IfOk, Result, Ok, Err}
 use Rattle.std.specs.Prelude.{replicate}
 use Rattle.ether.specs.declared.mac.Mac.{Mac}
 use Rattle.ipv4.specs.declared.addr.Addr.{Addr}
@@ -16,9 +16,9 @@ use Rattle.host.proofs.Ran.{run-begins}
 pub run-made : {E F G : Type 0} (c : ConfigView) (mac : Mac) (addr : Addr) (routes : List Route) (manner : Manner) (frames : Result InterfaceView E) (table : Result SocketsView F)
     → (places : Result (List (Option Reassembly)) G) → IsConfig c → mac ≡ c.mac → addr ≡ c.addr → routes ≡ c.routes → manner ≡ c.manner
     → IfOk frames (λ x. x ≡ fresh mac addr routes) → IfOk table (λ t. t ≡ new_sockets addr manner) → IfOk places (λ y. y ≡ replicate 4 None)
-    → IfOk frames (λ x. IfOk table (λ t. IfOk places (λ y. HasRun (record { interface = x; sockets = t; pool = y }))))
+    → IfOk frames (λ x. IfOk table (λ t. IfOk places (λ y. HasRun (record { interface = x; sockets = t; pool = y; lately = [] }))))
 run-made c mac addr routes manner (Ok x) (Ok t) (Ok y) set_up is_mac is_addr is_routes is_manner is_x is_table is_y =
-    let is : ◌≡◌ {A = HostView} (record { interface = x; sockets = t; pool = y }) (new_host c) = cc in
+    let is : ◌≡◌ {A = HostView} (record { interface = x; sockets = t; pool = y; lately = [] }) (new_host c) = cc in
     run-begins c _ set_up is
 run-made c mac addr routes manner (Ok x) (Ok t) (Err e) set_up is_mac is_addr is_routes is_manner is_x is_table is_y = tt
 run-made c mac addr routes manner (Ok x) (Err e) places set_up is_mac is_addr is_routes is_manner is_x is_table is_y = tt

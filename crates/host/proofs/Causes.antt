@@ -1,5 +1,5 @@
 -- Over every list of events, each echo reply that waits has its request, and each error its cause.
-use Rattle.std.proofs.Common.{◌≡◌, ℕ, zero, suc, ◌≤◌, ◌==◌, ◌&&◌, not, Bool, true, false, cond, List, [], ◌∷◌, ◌++◌, filter, length, remove, take, Option, Some, None, option_map, Result, Ok, Err, refl, sym, ◌∙◌, ap, subst, arith, length-append, length-set, length-take}
+use Rattle.std.proofs.Common.{◌≡◌, ℕ, zero, suc, ◌≤◌, ◌==◌, ◌&&◌, not, Bool, true, false, cond, List, [], ◌∷◌, ◌++◌, filter, length, remove, take, Option, Some, None, is_none, option_map, Result, Ok, Err, refl, sym, ◌∙◌, ap, subst, arith, length-append, length-set, length-take}
 use Rattle.std.specs.List.{AllByRecursion}
 use Rattle.std.proofs.lemmas.Bool.{eqb-true}
 use Rattle.std.proofs.lemmas.List.{length-map, take_all}
@@ -33,8 +33,11 @@ use Rattle.interface.specs.Ways.{is_routed}
 use Rattle.sockets.specs.Arrival.{Arrival, Becomes, Opens, NoRoom as NoRoomInTable, Answers}
 use Rattle.reassembly.specs.declared.expired.Expired.{Expired}
 use Rattle.reassembly.specs.Fragments.{key_of, quote_of}
-use Rattle.reassembly.specs.Places.{after_take, after_take_at, after_time, expired, outcome_at, place_for}
+use Rattle.reassembly.specs.declared.finished.Finished.{Finished}
+use Rattle.reassembly.specs.Lately.{noted}
+use Rattle.reassembly.specs.Places.{after_take, after_take_at, after_time, expired, oldest, outcome_at, place_for, without}
 use Rattle.reassembly.specs.Reassembly.{Outcome, Reassembly}
+use Rattle.reassembly.proofs.Late.{few}
 use Rattle.reassembly.specs.Reassembly.Outcome.{Waits, Completes, GivesUp}
 use Rattle.sockets.specs.declared.datagrams.Reception.{Reception}
 use Rattle.sockets.specs.declared.datagrams.Reception.TheVariants as socket
@@ -45,7 +48,7 @@ use Rattle.sockets.specs.Unreachable.{after_unreachable}
 use Rattle.udp.specs.declared.fault.UdpFault.{UdpFault}
 use Rattle.udp.specs.Datagram.{UserDatagram}
 use Rattle.udp.specs.Reading.{datagram_or_fault}
-use Rattle.host.specs.Arrival.{MeetsFragment, MeetsHeard, MeetsMessage, MeetsSegment, after_outcome, after_payload, after_user_datagram, segment_arrival}
+use Rattle.host.specs.Arrival.{MeetsFragment, MeetsHeard, MeetsMessage, MeetsSegment, after_outcome, after_payload, after_user_datagram, is_late_copy, pool_for, segment_arrival, with_noted}
 use Rattle.host.specs.Heard.{heard_by}
 use Rattle.host.proofs.Guarded.{meant_by}
 use Rattle.host.specs.Causes.{IsAbout, Untaken, Unbound, UnboundInFragments, Late}
@@ -55,7 +58,7 @@ use Rattle.host.specs.HostView.{HostView, with_interface, with_pool, with_socket
 use Rattle.host.specs.Messages.{Told, Asks, Refuses, Nothing, refused_quote, told_by, error_of_quote}
 use Rattle.host.specs.Runs.{Event, Calls, Ticks, Delivers, Emits, Makes, Runs, Begins, GoesOn, WasHeard}
 use Rattle.host.specs.Ticks.{after_tick, all_reported, reported}
-use Rattle.host.proofs.Gathering.{AreGathered, IsExpired, IsLeft, IsQuoted, after-ageing, after-taking, expired-quoted, gathered-more, none-gathered, outcome-left}
+use Rattle.host.proofs.Gathering.{AreGathered, IsExpired, IsLeft, IsQuoted, after-ageing, after-taking, made-room, expired-quoted, gathered-more, none-gathered, outcome-left}
 
 -- Lists of which each element is sound.
 
@@ -117,11 +120,12 @@ pub record Stands (c : ConfigView) (events : List Event) (i : InterfaceView) : T
   pub addr : i.addr ≡ c.addr
   pub replies : AllByRecursion (λ (waiting : Waiting). IsCaused c events waiting.reply) i.replies
 
--- and a host with it, whose pool has four places with what was delivered
+-- and a host with it, whose pool has four places with what was delivered, and that knows 64 datagrams at most as whole lately
 pub record HostStands (c : ConfigView) (events : List Event) (h : HostView) : Type 0 where
   pub interface : Stands c events h.interface
   pub places : length h.pool ≡ 4
   pub pool : AreGathered (WasPart c events) h.pool
+  pub lately : length h.lately ≤ 64
 
 -- What was delivered by some events was delivered by more.
 
@@ -166,6 +170,7 @@ host-more c events event h stands = record {
   interface = stands-more c events event h.interface stands.interface;
   places = stands.places;
   pool = gathered-more (WasPart c events) (WasPart c (events ++ event ∷ [])) (λ d. heard-more c events event (UdpFragment d)) h.pool stands.pool;
+  lately = stands.lately;
 }
 
 -- what is delivered was delivered by the events with it
@@ -238,10 +243,10 @@ to-new : (c : ConfigView) (events : List Event) (made new : HostView) → new �
 to-new c events made new is stands = subst (HostStands c events) (sym is) stands
 
 with-side : (c : ConfigView) (events : List Event) (h : HostView) (i : InterfaceView) → HostStands c events h → Stands c events i → HostStands c events (with_interface h i)
-with-side c events h i stands side = record { interface = side; places = stands.places; pool = stands.pool }
+with-side c events h i stands side = record { interface = side; places = stands.places; pool = stands.pool; lately = stands.lately }
 
 with-table : (c : ConfigView) (events : List Event) (h : HostView) (table : SocketsView) → HostStands c events h → HostStands c events (with_sockets h table)
-with-table c events h table stands = record { interface = stands.interface; places = stands.places; pool = stands.pool }
+with-table c events h table stands = record { interface = stands.interface; places = stands.places; pool = stands.pool; lately = stands.lately }
 
 stands-segment : (c : ConfigView) (events : List Event) (a : Arrival) (h : HostView) (moment : Moment) (source : Addr) (answer : Result (Unit {0}) DropCause) (new : HostView)
     → HostStands c events h → MeetsSegment a h moment source answer new → HostStands c events new
@@ -300,11 +305,20 @@ stands-payload c events (Err fault) h moment source quote stands q = stands
 stands-payload c events (Ok u) h moment source quote stands q =
     stands-user c events (reception h.sockets u) h moment source u (take 68 quote) stands (zero-caused c events PortUnreachable source quote (λ x first. UnboundInFragments x first) q)
 
+-- that a datagram was whole is noted
+stands-noted : (c : ConfigView) (events : List Event) (h : HostView) (moment : Moment) (d : Datagram) → HostStands c events h → HostStands c events (with_noted h moment d)
+stands-noted c events h moment d stands = record { interface = stands.interface; places = stands.places; pool = stands.pool; lately = by_guards h.sockets.manner.guards }
+  where
+    by_guards : (guards : Bool) → length (cond guards (noted (key_of d) moment h.lately) h.lately) ≤ 64
+    by_guards true = few h.lately (key_of d) moment stands.lately
+    by_guards false = stands.lately
+
 stands-outcome : (c : ConfigView) (events : List Event) (o : Outcome) (h : HostView) (moment : Moment) (d : Datagram) → HostStands c events h → IsLeft (WasPart c events) d.source o
     → HostStands c events (after_outcome o h moment d)
 stands-outcome c events (Waits r) h moment d stands is = stands
 stands-outcome c events GivesUp h moment d stands is = stands
-stands-outcome c events (Completes payload quote) h moment d stands is = stands-payload c events (datagram_or_fault d.source d.destination payload) h moment d.source quote stands is
+stands-outcome c events (Completes payload quote) h moment d stands is =
+    stands-payload c events (datagram_or_fault d.source d.destination payload) (with_noted h moment d) moment d.source quote (stands-noted c events h moment d stands) is
 
 -- a place is taken or freed
 taken-places : (moment : Moment) (d : Datagram) (pool : List (Option Reassembly)) → length (after_take moment d pool) ≡ length pool
@@ -314,14 +328,34 @@ taken-places moment d pool = by_place (place_for (key_of d) pool)
     by_place None = refl
     by_place (Some i) = length-set pool i _
 
+room-places : (guards : Bool) (d : Datagram) (pool : List (Option Reassembly)) → length (pool_for guards d pool) ≡ length pool
+room-places guards d pool = by_test (guards && is_none (place_for (key_of d) pool)) (oldest pool)
+  where
+    by_place : (place : Option ℕ) → length (without place pool) ≡ length pool
+    by_place None = refl
+    by_place (Some i) = length-set pool i None
+
+    by_test : (b : Bool) (place : Option ℕ) → length (cond b (without place pool) pool) ≡ length pool
+    by_test true place = by_place place
+    by_test false place = refl
+
 stands-fragment : (c : ConfigView) (events : List Event) (h : HostView) (moment : Moment) (d : Datagram) (answer : Result (Unit {0}) DropCause) (new : HostView) → HostStands c events h → WasPart c events d
-    → (place : Option ℕ) → place_for (key_of d) h.pool ≡ place → MeetsFragment (option_map (outcome_at moment d h.pool) place) h moment d answer new → HostStands c events new
-stands-fragment c events h moment d answer new stands was None at met = to-new c events h new met.1 stands
-stands-fragment c events h moment d answer new stands was (Some i) at met =
-    let pool = after_take moment d h.pool in
-    let taken : HostStands c events (with_pool h pool) = record { interface = stands.interface; places = taken-places moment d h.pool ∙ stands.places; pool = after-taking (WasPart c events) moment d h.pool was stands.pool } in
-    to-new c events (after_outcome (outcome_at moment d h.pool i) (with_pool h pool) moment d) new met.1
-    (stands-outcome c events (outcome_at moment d h.pool i) (with_pool h pool) moment d taken (outcome-left (WasPart c events) moment d h.pool i was stands.pool at))
+    → (place : Option ℕ) (late : Bool) → place_for (key_of d) (pool_for h.sockets.manner.guards d h.pool) ≡ place → MeetsFragment (option_map (outcome_at moment d (pool_for h.sockets.manner.guards d h.pool)) place) late h moment d answer new
+    → HostStands c events new
+stands-fragment c events h moment d answer new stands was None late at met = to-new c events h new met.1 stands
+stands-fragment c events h moment d answer new stands was (Some i) true at met = to-new c events h new met.1 stands
+stands-fragment c events h moment d answer new stands was (Some i) false at met =
+    let room : List (Option Reassembly) = pool_for h.sockets.manner.guards d h.pool in
+    let gathered : AreGathered (WasPart c events) room = made-room (WasPart c events) h.sockets.manner.guards d h.pool stands.pool in
+    let pool = after_take moment d room in
+    let taken : HostStands c events (with_pool h pool) = record {
+      interface = stands.interface;
+      places = taken-places moment d room ∙ room-places h.sockets.manner.guards d h.pool ∙ stands.places;
+      pool = after-taking (WasPart c events) moment d room was gathered;
+      lately = stands.lately;
+    } in
+    to-new c events (after_outcome (outcome_at moment d room i) (with_pool h pool) moment d) new met.1
+    (stands-outcome c events (outcome_at moment d room i) (with_pool h pool) moment d taken (outcome-left (WasPart c events) moment d room i was gathered at))
 
 -- a frame is delivered
 stands-heard : (c : ConfigView) (events : List Event) (h : HostView) (moment : Moment) (isn : ℕ) (answer : Result (Unit {0}) DropCause) (new : HostView) → HostStands c events h
@@ -340,7 +374,7 @@ stands-heard c events h moment isn answer new stands (Ok (Udp r)) was met =
     (stands-user c events (reception h.sockets r.datagram) h moment r.carrier.source r.datagram (quote_of r.carrier) stands
     (record { cause = r.carrier; meaning = Udp r; about = Unbound r.carrier r.datagram; was_heard = was (Udp r) refl; from = refl; quotes = refl }))
 stands-heard c events h moment isn answer new stands (Ok (UdpFragment d)) was met =
-    stands-fragment c events h moment d answer new stands (was (UdpFragment d) refl) (place_for (key_of d) h.pool) refl met
+    stands-fragment c events h moment d answer new stands (was (UdpFragment d) refl) (place_for (key_of d) (pool_for h.sockets.manner.guards d h.pool)) (is_late_copy h moment d) refl met
 stands-heard c events h moment isn answer new stands (Ok (Other d)) was met =
     to-new c events (with_interface h (after_report h.interface moment d.source ProtocolUnreachable (quote_of d))) new met.1
     (stands-told c events h moment d.source ProtocolUnreachable (quote_of d) stands
@@ -362,6 +396,7 @@ stands-on c before (Ticks now) old new stands makes =
           (expired-quoted (WasPart c all) moment old.pool more.pool);
       places = length-map old.pool (after_time moment) ∙ stands.places;
       pool = after-ageing (WasPart c all) moment old.pool more.pool;
+      lately = more.lately;
     })
 stands-on c before (Delivers now isn octets) old new stands makes =
     let all = before ++ Delivers now isn octets ∷ [] in
@@ -378,6 +413,7 @@ stands-on c before (Emits now) old new stands makes =
       interface = stands-left c all old moment more.interface (emission old moment);
       places = ap length (pool-left old moment (emission old moment)) ∙ stands.places;
       pool = subst (AreGathered (WasPart c all)) (sym (pool-left old moment (emission old moment))) more.pool;
+      lately = subst (λ (l : List Finished). length l ≤ 64) (sym (lately-left old moment (emission old moment))) more.lately;
     })
   where
     pool-left : (h : HostView) (moment : Moment) (x : Emission) → (let left = left_by h moment x in left.pool) ≡ h.pool
@@ -386,7 +422,13 @@ stands-on c before (Emits now) old new stands makes =
     pool-left h moment (AsksFor hop) = refl
     pool-left h moment NothingGoes = refl
 
+    lately-left : (h : HostView) (moment : Moment) (x : Emission) → (let left = left_by h moment x in left.lately) ≡ h.lately
+    lately-left h moment (Replies place) = refl
+    lately-left h moment (Sends mac to) = refl
+    lately-left h moment (AsksFor hop) = refl
+    lately-left h moment NothingGoes = refl
+
 -- any list of events
 pub run-stands : (c : ConfigView) (events : List Event) (h : HostView) → Runs c events h → HostStands c events h
-run-stands c _ _ Begins = record { interface = record { mac = refl; addr = refl; replies = tt }; places = refl; pool = none-gathered (WasPart c []) 4 }
+run-stands c _ _ Begins = record { interface = record { mac = refl; addr = refl; replies = tt }; places = refl; pool = none-gathered (WasPart c []) 4; lately = omega arith }
 run-stands c _ _ (GoesOn before event old new ran sound small makes) = stands-on c before event old new (run-stands c before old ran) makes

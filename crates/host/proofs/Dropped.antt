@@ -32,7 +32,7 @@ use Rattle.sockets.specs.declared.datagrams.Reception.{Reception}
 use Rattle.sockets.specs.declared.datagrams.Reception.TheVariants as socket
 use Rattle.sockets.specs.Datagrams.{reception}
 use Rattle.sockets.specs.SocketsView.{later_moment}
-use Rattle.host.specs.Arrival.{IsDelivered, MeetsFragment, MeetsHeard, MeetsMessage, MeetsSegment, MeetsUserDatagram, fragment_outcome, queue_answer, segment_arrival}
+use Rattle.host.specs.Arrival.{IsDelivered, MeetsFragment, MeetsHeard, MeetsMessage, MeetsSegment, MeetsUserDatagram, fragment_outcome, is_late_copy, pool_for, queue_answer, segment_arrival}
 use Rattle.host.specs.Heard.{heard_by}
 use Rattle.host.specs.HostView.{HostView, with_interface}
 use Rattle.host.specs.Messages.{Told, Asks, Refuses, Nothing, told_by}
@@ -59,9 +59,10 @@ of_user socket.Queued h moment r cause new is other = let no = is.0 in cc
 of_user socket.NoRoom h moment r cause new is other = is.1
 of_user socket.NoSocket h moment r cause new is other = absurd (other (of_queue cause (answer_result h.interface r.carrier.source) is.0))
 
-of_fragment : (o : Option Outcome) (h : HostView) (moment : Moment) (d : Datagram) (cause : DropCause) (new : HostView) → MeetsFragment o h moment d (Err cause) new → new ≡ h
-of_fragment None h moment d cause new is = is.1
-of_fragment (Some outcome) h moment d cause new is = let no = is.0 in cc
+of_fragment : (o : Option Outcome) (late : Bool) (h : HostView) (moment : Moment) (d : Datagram) (cause : DropCause) (new : HostView) → MeetsFragment o late h moment d (Err cause) new → new ≡ h
+of_fragment None late h moment d cause new is = is.1
+of_fragment (Some outcome) true h moment d cause new is = let no = is.0 in cc
+of_fragment (Some outcome) false h moment d cause new is = let no = is.0 in cc
 
 of_meaning : (m : Result Meaning DropCause) (h : HostView) (moment : Moment) (isn : ℕ) (cause : DropCause) (new : HostView) → MeetsHeard m h moment isn (Err cause) new → cause ≢ NoRoom → new ≡ h
 of_meaning (Ok (Arp packet)) h moment isn cause new is other = absurd (other (of_queue cause (heard_answer h.interface packet) is.0))
@@ -69,7 +70,7 @@ of_meaning (Ok (Tcp r)) h moment isn cause new is other = of_segment (segment_ar
 of_meaning (Ok (Icmp c)) h moment isn cause new is other = of_message (told_by c.message) h moment c cause new is other
 of_meaning (Ok (Other d)) h moment isn cause new is other = absurd (other (of_queue cause (answer_result h.interface d.source) is.0))
 of_meaning (Ok (Udp r)) h moment isn cause new is other = of_user (reception h.sockets r.datagram) h moment r cause new is other
-of_meaning (Ok (UdpFragment d)) h moment isn cause new is other = of_fragment (fragment_outcome moment d h.pool) h moment d cause new is
+of_meaning (Ok (UdpFragment d)) h moment isn cause new is other = of_fragment (fragment_outcome moment d (pool_for h.sockets.manner.guards d h.pool)) (is_late_copy h moment d) h moment d cause new is
 of_meaning (Err first) h moment isn cause new is other = is.1
 
 pub unchanged : (h : HostView) (now : Moment) (isn : ℕ) (octets : List ℕ) (cause : DropCause) (new : HostView) → IsDelivered h now isn octets (Err cause) new → cause ≢ NoRoom → new ≡ h
@@ -139,7 +140,7 @@ learnt-alone h now isn octets cause new delivered = by_meaning (heard_by h octet
     by_meaning (Ok (Icmp c)) heard is = inl (message-dropped (told_by c.message) h moment c cause new is)
     by_meaning (Ok (Other d)) heard is = inl (unanswered h moment d.source (reply.Error d.source ProtocolUnreachable (quote_of d)) cause new is.0 is.1)
     by_meaning (Ok (Udp r)) heard is = inl (user-dropped (reception h.sockets r.datagram) h moment r cause new is)
-    by_meaning (Ok (UdpFragment d)) heard is = inl (of_fragment (fragment_outcome moment d h.pool) h moment d cause new is)
+    by_meaning (Ok (UdpFragment d)) heard is = inl (of_fragment (fragment_outcome moment d (pool_for h.sockets.manner.guards d h.pool)) (is_late_copy h moment d) h moment d cause new is)
     by_meaning (Err first) heard is = inl is.1
 
 -- .. so at most what is known of the neighbours changes

@@ -28,7 +28,8 @@ use Rattle.sockets.specs.declared.role.Role.{Role}
 use Rattle.sockets.specs.declared.role.Role.TheVariants.{Idle, Listener, Connected, Datagrams}
 use Rattle.sockets.specs.Arrival.{arrival_with_reply}
 use Rattle.sockets.specs.Calls.{after_bind, after_connect, after_leaving, after_socket_left, of_socket, port_bound, port_connected, reach_refusal}
-use Rattle.sockets.specs.Causes.{Event, Makes, MakesDatagrams, Binds, Listens, Accepts, Connects, Sends, Receives, Shuts, SetsNoDelay, SetsKeepAlive, Leaves, Ticks, Hears, Emits, GivesUp, Unreachable, SendsTo, ReceivesFrom, HearsDatagram, after_arrival, after_event}
+use Rattle.sockets.specs.Causes.{Event, Makes, MakesDatagrams, Binds, Listens, Accepts, Connects, Sends, Receives, Shuts, SetsNoDelay, SetsKeepAlive, Leaves, Ticks, Hears, Emits, GivesUp, GivesWay, Unreachable, SendsTo, ReceivesFrom, HearsDatagram, after_arrival, after_event}
+use Rattle.sockets.specs.GiveWay.{gives_way}
 use Rattle.sockets.specs.Datagrams.{after_reception, after_sendto, end_sent_from, sending_end}
 use Rattle.sockets.specs.Emission.{after_segment_sent}
 use Rattle.sockets.specs.Entries.{leaving_fate_of, entries_after_step, has_room_to_receive, has_room_to_send, is_between, is_datagrams_at, is_kept, is_socket, on_connection, on_datagrams, role_after_accept, role_after_bind, role_after_leaving, role_after_connect, role_after_emission, role_after_listen, role_after_listener_close, role_after_reception, role_after_sendto, role_after_unreachable, sends, waits_at, with_first, with_role}
@@ -394,6 +395,7 @@ event-fit h (Ticks now) all = retained-fit _ _ (connection-keeps _) h.entries al
 event-fit h (Hears now isn source s) all = heard-fit h now isn source s all
 event-fit h (Emits goes now) all = emitted-fit h goes now all
 event-fit h (GivesUp lost now) all = retained-fit _ _ (given_up-keeps lost _) h.entries all
+event-fit h (GivesWay meant) all = removed-fit (gives_way meant) h.entries all
 event-fit h (Unreachable local peer number) all = told-fit h local peer number all
 event-fit h (SendsTo id peer octets routed) all = sendto-fit h id peer octets routed all
 event-fit h (ReceivesFrom id len) all = changed-fit _ _ (queues-keep _ _ read-fits) h.entries all

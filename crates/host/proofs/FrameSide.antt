@@ -45,7 +45,7 @@ use Rattle.sockets.specs.Arrival.{Arrival, Becomes, Opens, NoRoom as NoRoomInTab
 use Rattle.sockets.specs.Causes.{after_event}
 use Rattle.sockets.specs.Datagrams.{reception}
 use Rattle.sockets.specs.SocketsView.{later_moment}
-use Rattle.host.specs.Arrival.{MeetsFragment, MeetsHeard, MeetsMessage, MeetsSegment, after_outcome, after_payload, after_user_datagram, fragment_outcome, segment_arrival}
+use Rattle.host.specs.Arrival.{MeetsFragment, MeetsHeard, MeetsMessage, MeetsSegment, after_outcome, after_payload, after_user_datagram, fragment_outcome, is_late_copy, pool_for, segment_arrival, with_noted}
 use Rattle.host.specs.Heard.{heard_by}
 use Rattle.host.specs.ComesUp.{is_on_route}
 use Rattle.host.specs.ConfigView.{ConfigView}
@@ -175,11 +175,12 @@ side-payload (Err fault) h now source quote keeps = keeps
 side-outcome : {routes : List Route} (outcome : Outcome) (h : HostView) (now : Moment) (d : Datagram) → KeepsSideOf routes h → KeepsSideOf routes (after_outcome outcome h now d)
 side-outcome (Waits r) h now d keeps = keeps
 side-outcome GivesUp h now d keeps = keeps
-side-outcome (Completes payload quote) h now d keeps = side-payload (datagram_or_fault d.source d.destination payload) h now d.source quote keeps
+side-outcome (Completes payload quote) h now d keeps = side-payload (datagram_or_fault d.source d.destination payload) (with_noted h now d) now d.source quote keeps
 
-side-fragment : {routes : List Route} (outcome : Option Outcome) (h : HostView) (now : Moment) (d : Datagram) (answer : Result (Unit {0}) DropCause) (new : HostView) → KeepsSideOf routes h → MeetsFragment outcome h now d answer new → KeepsSideOf routes new
-side-fragment None h now d answer new keeps met = side-to h new met.1 keeps
-side-fragment (Some outcome) h now d answer new keeps met = side-to _ new met.1 (side-outcome outcome (with_pool h (after_take now d h.pool)) now d keeps)
+side-fragment : {routes : List Route} (outcome : Option Outcome) (late : Bool) (h : HostView) (now : Moment) (d : Datagram) (answer : Result (Unit {0}) DropCause) (new : HostView) → KeepsSideOf routes h → MeetsFragment outcome late h now d answer new → KeepsSideOf routes new
+side-fragment None late h now d answer new keeps met = side-to h new met.1 keeps
+side-fragment (Some outcome) true h now d answer new keeps met = side-to h new met.1 keeps
+side-fragment (Some outcome) false h now d answer new keeps met = side-to _ new met.1 (side-outcome outcome (with_pool h (after_take now d (pool_for h.sockets.manner.guards d h.pool))) now d keeps)
 
 side-heard : {routes : List Route} (m : Result Meaning DropCause) (h : HostView) (now : Moment) (isn : ℕ) (answer : Result (Unit {0}) DropCause) (new : HostView) → KeepsSideOf routes h → MeetsHeard m h now isn answer new → KeepsSideOf routes new
 side-heard {routes = routes} (Ok (Arp packet)) h now isn answer new keeps met =
@@ -188,7 +189,7 @@ side-heard {routes = routes} (Ok (Arp packet)) h now isn answer new keeps met =
 side-heard (Ok (Tcp r)) h now isn answer new keeps met = side-segment (segment_arrival h now isn r.source r.segment) h now r.source answer new keeps met
 side-heard (Ok (Icmp c)) h now isn answer new keeps met = side-message (told_by c.message) h now c answer new keeps met
 side-heard (Ok (Udp r)) h now isn answer new keeps met = side-to _ new met.1 (side-user (reception h.sockets r.datagram) h now r.carrier.source r.datagram (quote_of r.carrier) keeps)
-side-heard (Ok (UdpFragment d)) h now isn answer new keeps met = side-fragment (fragment_outcome now d h.pool) h now d answer new keeps met
+side-heard (Ok (UdpFragment d)) h now isn answer new keeps met = side-fragment (fragment_outcome now d (pool_for h.sockets.manner.guards d h.pool)) (is_late_copy h now d) h now d answer new keeps met
 side-heard (Ok (Other d)) h now isn answer new keeps met = side-to _ new met.1 (side-told h.interface now d.source ProtocolUnreachable (quote_of d) keeps)
 side-heard (Err cause) h now isn answer new keeps met = side-to h new met.1 keeps
 

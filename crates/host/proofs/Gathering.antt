@@ -1,5 +1,5 @@
 -- What is being put together came in fragments of which each passes a test of its own, such as that it was delivered.
-use Rattle.std.proofs.Common.{◌≡◌, ℕ, zero, suc, ◌==◌, Bool, true, false, cond, List, [], ◌∷◌, ◌++◌, find, get_or, length, reverse, replicate, Option, Some, None, is_none, is_some, option_map, slice_set, refl, sym, ◌∙◌, ap, subst}
+use Rattle.std.proofs.Common.{◌≡◌, ℕ, zero, suc, ◌==◌, ◌&&◌, Bool, true, false, cond, List, [], ◌∷◌, ◌++◌, find, get_or, length, reverse, replicate, Option, Some, None, is_none, is_some, option_map, slice_set, refl, sym, ◌∙◌, ap, subst}
 use Rattle.std.specs.List.{AllByRecursion, cons_option, position}
 use Rattle.std.specs.Option.{option_map_or, option_or}
 use Rattle.std.proofs.lemmas.Bool.{eqb-true}
@@ -12,7 +12,7 @@ use Rattle.reassembly.specs.declared.expired.Expired.{Expired}
 use Rattle.reassembly.specs.declared.key.Key.{Key}
 use Rattle.reassembly.specs.Fragments.{key_of, latest_quote, quote_of}
 use Rattle.reassembly.specs.Octets.{whole_of}
-use Rattle.reassembly.specs.Places.{after_age, after_take, after_take_at, after_time, expired, expired_of, is_of, is_over, outcome_at, place_for}
+use Rattle.reassembly.specs.Places.{after_age, after_take, after_take_at, after_time, expired, expired_of, is_of, is_over, oldest, outcome_at, place_for, without, without_oldest}
 use Rattle.reassembly.specs.Reassembly.{Outcome, Reassembly, after_fragments, begun, conflicts, continued, left, outcome, quoted, with_fragment}
 use Rattle.reassembly.specs.Reassembly.Outcome.{Waits, Completes, GivesUp}
 use Rattle.reassembly.proofs.Found.{wholes_are_quoted}
@@ -20,6 +20,7 @@ use Rattle.reassembly.proofs.OneMore.{after_one_more}
 use Rattle.reassembly.proofs.OverEvents.{same_key_is}
 use Rattle.reassembly.proofs.Quotes.{quoted as quoted_of}
 use Rattle.reassembly.proofs.Together.{whole_is_payload}
+use Rattle.host.specs.Arrival.{pool_for}
 
 -- Lists of which each element is sound.
 
@@ -187,6 +188,18 @@ after-taking P now d places passes all = by_place (place_for (key_of d) places) 
     by_place : (o : Option ℕ) → place_for (key_of d) places ≡ o → AreGathered P (after_take_at now d places o)
     by_place None e = all
     by_place (Some i) e = all-set (IsGatheredAt P) places i (left (outcome_at now d places i)) all (left-at P d.source (outcome_at now d places i) (outcome-left P now d places i passes all e))
+
+-- the oldest gives way
+after-going : (P : Datagram → Type 0) (places : List (Option Reassembly)) (o : Option ℕ) → AreGathered P places → AreGathered P (without o places)
+after-going P places None all = all
+after-going P places (Some i) all = all-set (IsGatheredAt P) places i None all tt
+
+pub made-room : (P : Datagram → Type 0) (guards : Bool) (d : Datagram) (places : List (Option Reassembly)) → AreGathered P places → AreGathered P (pool_for guards d places)
+made-room P guards d places all = by_test (guards && is_none (place_for (key_of d) places))
+  where
+    by_test : (b : Bool) → AreGathered P (cond b (without_oldest places) places)
+    by_test true = after-going P places (oldest places) all
+    by_test false = all
 
 pub after-ageing : (P : Datagram → Type 0) (now : Moment) (places : List (Option Reassembly)) → AreGathered P places → AreGathered P (after_age now places)
 after-ageing P now [] all = tt

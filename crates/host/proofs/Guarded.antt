@@ -1,5 +1,5 @@
 -- What is heard of a frame is what it says, or that it comes from no host.
-use Rattle.std.proofs.Common.{◌≡◌, ◌≢◌, ℕ, ◌&&◌, ◌||◌, true, false, Bool, refl, if◌then◌else◌, List, Result, Ok, Err, sym, ◌∙◌, ap, subst}
+use Rattle.std.proofs.Common.{◌≡◌, ◌≢◌, ℕ, ◌&&◌, ◌||◌, true, false, Bool, refl, if◌then◌else◌, List, Result, Ok, Err, sym, ◌∙◌, ap, subst, IfOk, length, ◌≤◌}
 use Rattle.clock.specs.declared.moment.Moment.{Moment}
 use Rattle.tcp_halves.proofs.Choices.{either, both, and_false}
 use Rattle.frames.specs.declared.drop.DropCause.{DropCause}
@@ -15,6 +15,8 @@ use Rattle.interface.specs.Strangers.{is_of_group, is_no_host}
 use Rattle.sockets.specs.SocketsView.{later_moment}
 use Rattle.host.specs.Arrival.{MeetsHeard, IsDelivered}
 use Rattle.host.specs.Heard.{heard_by, is_barred, guarded_by, shuts_out}
+use Rattle.frames.proofs.Hearers.{messages_fit}
+use Rattle.interface.specs.declared.room.TheConstants.{ECHO_ROOM}
 use Rattle.host.specs.HostView.{HostView}
 
 pub says_so : (guards : Bool) (i : InterfaceView) (x : Result Meaning DropCause) (m : Meaning) → guarded_by guards i x ≡ Ok m → x ≡ Ok m
@@ -69,3 +71,8 @@ barred_heard h octets on bars = let says = heard h.interface.mac h.interface.add
 pub barred_dropped : (h : HostView) (now : Moment) (isn : ℕ) (octets : List ℕ) (answer : Result (Unit {0}) DropCause) (new : HostView) → h.sockets.manner.guards ≡ true → is_barred h.interface (heard h.interface.mac h.interface.addr octets) ≡ true
     → IsDelivered h now isn octets answer new → (answer ≡ Err OtherAddress) × (new ≡ h)
 barred_dropped h now isn octets answer new on bars delivered = subst (λ m. MeetsHeard m h (later_moment h.sockets now) isn answer new) (barred_heard h octets on bars) delivered
+
+-- what is heard as a message fits into a frame
+pub heard_fits : (h : HostView) (octets : List ℕ) (m : Result Meaning DropCause) → m ≡ heard_by h octets → IfOk m (λ m. (control : Control) → m ≡ Icmp control → length control.message.payload ≤ ECHO_ROOM)
+heard_fits h octets (Ok m) is = λ control says. messages_fit h.interface.mac h.interface.addr octets control (meant_by h octets (Icmp control) (sym is ∙ ap (λ (x : Meaning). Ok x) says))
+heard_fits h octets (Err cause) is = tt

@@ -1,5 +1,5 @@
 -- A frame is dropped for want of room exactly where it finds none at something, and finds the same after that.
-use Rattle.std.proofs.Common.{◌≡◌, ◌≢◌, ◌⊎◌, inl, inr, ℕ, Bool, true, false, ◌&&◌, cond, List, Option, Some, None, is_none, option_map, Result, Ok, Err, refl, sym, ◌∙◌, ap, subst, ⊎_elim}
+use Rattle.std.proofs.Common.{◌≡◌, ◌≢◌, ◌⊎◌, inl, inr, ℕ, Bool, true, false, ◌&&◌, cond, List, Option, Some, None, is_none, option_map, Result, Ok, Err, refl, sym, ◌∙◌, ap, ⊎_elim}
 use Rattle.ipv4.specs.declared.addr.Addr.{Addr}
 use Rattle.ipv4.specs.Datagram.{Datagram}
 use Rattle.clock.specs.declared.moment.Moment.{Moment}
@@ -26,7 +26,7 @@ use Rattle.sockets.specs.SocketsView.{later_moment}
 use Rattle.sockets.proofs.Needed.{need_foreseen}
 use Rattle.host.specs.declared.lack.Lack.{Lack}
 use Rattle.host.specs.declared.lack.Lack.TheVariants.{Backlog, Table, Memory, Replies, Queue, Reassembly, Route}
-use Rattle.host.specs.Arrival.{IsDelivered, MeetsFragment, MeetsHeard, MeetsMessage, MeetsSegment, MeetsUserDatagram, arrival_by_route, fragment_outcome, queue_answer}
+use Rattle.host.specs.Arrival.{IsDelivered, MeetsFragment, MeetsHeard, MeetsMessage, MeetsSegment, MeetsUserDatagram, arrival_by_route, fragment_outcome, is_late_copy, pool_for, queue_answer}
 use Rattle.host.specs.Heard.{heard_by}
 use Rattle.frames.specs.Meaning as frame
 use Rattle.host.proofs.Guarded.{drops_so}
@@ -111,22 +111,23 @@ user-refused socket.NoSocket h moment r answer new what is found = is.0 ∙ repl
 
 -- A fragment, by its place.
 
-fragment-lacks : (h : HostView) (moment : Moment) (d : Datagram) (new : HostView) → MeetsFragment (fragment_outcome moment d h.pool) h moment d (Err NoRoom) new → Lacks (lack_of h (Ok (UdpFragment d)))
-fragment-lacks h moment d new is = by_place (place_for (key_of d) h.pool) refl
+fragment-lacks : (h : HostView) (moment : Moment) (d : Datagram) (new : HostView) → MeetsFragment (fragment_outcome moment d (pool_for h.sockets.manner.guards d h.pool)) (is_late_copy h moment d) h moment d (Err NoRoom) new → Lacks (lack_of h (Ok (UdpFragment d)))
+fragment-lacks h moment d new is = by_place (place_for (key_of d) (pool_for h.sockets.manner.guards d h.pool)) (is_late_copy h moment d) refl is
   where
-    by_place : (o : Option ℕ) → place_for (key_of d) h.pool ≡ o → Lacks (lack_of h (Ok (UdpFragment d)))
-    by_place None e = (Reassembly, ap (λ (o : Option ℕ). cond (is_none o) (Some Reassembly) None) e)
-    by_place (Some i) e =
-        let met = subst (λ (o : Option ℕ). MeetsFragment (option_map (outcome_at moment d h.pool) o) h moment d (Err NoRoom) new) e is in
-        absurd (refusing tt met.0)
+    by_place : (o : Option ℕ) (late : Bool) → place_for (key_of d) (pool_for h.sockets.manner.guards d h.pool) ≡ o
+        → MeetsFragment (option_map (outcome_at moment d (pool_for h.sockets.manner.guards d h.pool)) o) late h moment d (Err NoRoom) new → Lacks (lack_of h (Ok (UdpFragment d)))
+    by_place None late e met = (Reassembly, ap (λ (o : Option ℕ). cond (is_none o) (Some Reassembly) None) e)
+    by_place (Some i) true e met = absurd (refusing tt met.0)
+    by_place (Some i) false e met = absurd (refusing tt met.0)
 
-fragment-refused : (h : HostView) (moment : Moment) (d : Datagram) (answer : Result (Unit {0}) DropCause) (new : HostView) (what : Lack) → MeetsFragment (fragment_outcome moment d h.pool) h moment d answer new
+fragment-refused : (h : HostView) (moment : Moment) (d : Datagram) (answer : Result (Unit {0}) DropCause) (new : HostView) (what : Lack) → MeetsFragment (fragment_outcome moment d (pool_for h.sockets.manner.guards d h.pool)) (is_late_copy h moment d) h moment d answer new
     → lack_of h (Ok (UdpFragment d)) ≡ Some what → answer ≡ Err NoRoom
-fragment-refused h moment d answer new what is found = by_place (place_for (key_of d) h.pool) refl
+fragment-refused h moment d answer new what is found = by_place (place_for (key_of d) (pool_for h.sockets.manner.guards d h.pool)) refl is
   where
-    by_place : (o : Option ℕ) → place_for (key_of d) h.pool ≡ o → answer ≡ Err NoRoom
-    by_place None e = let met = subst (λ (o : Option ℕ). MeetsFragment (option_map (outcome_at moment d h.pool) o) h moment d answer new) e is in met.0
-    by_place (Some i) e = let none = sym (ap (λ (o : Option ℕ). cond (is_none o) (Some Reassembly) None) e) ∙ found in cc
+    by_place : (o : Option ℕ) → place_for (key_of d) (pool_for h.sockets.manner.guards d h.pool) ≡ o
+        → MeetsFragment (option_map (outcome_at moment d (pool_for h.sockets.manner.guards d h.pool)) o) (is_late_copy h moment d) h moment d answer new → answer ≡ Err NoRoom
+    by_place None e met = met.0
+    by_place (Some i) e met = let none = sym (ap (λ (o : Option ℕ). cond (is_none o) (Some Reassembly) None) e) ∙ found in cc
 
 -- A frame.
 

@@ -3,6 +3,8 @@ pub mod Answered
 pub mod DueSegments
 pub mod Hearing
 pub mod Guarded
+pub mod Parts
+pub mod GivenWay
 pub mod Carriage
 pub mod Dropped
 pub mod NoWantHeard

@@ -46,7 +46,7 @@ use Rattle.sockets.proofs.Followed.{as_it_was, by_test, joined_by, settled_follo
 use Rattle.sockets.proofs.Steps.{called}
 use Rattle.sockets.proofs.Told.{told-found, told-none}
 use Rattle.sockets.proofs.Traffic.{no_stream_moves}
-use Rattle.host.specs.Arrival.{IsDelivered, MeetsFragment, MeetsHeard, MeetsMessage, MeetsSegment, after_outcome, after_payload, after_user_datagram, arrival_by_route, fragment_outcome, segment_arrival}
+use Rattle.host.specs.Arrival.{IsDelivered, MeetsFragment, MeetsHeard, MeetsMessage, MeetsSegment, after_outcome, after_payload, after_user_datagram, arrival_by_route, fragment_outcome, is_late_copy, pool_for, segment_arrival, with_noted}
 use Rattle.host.specs.Heard.{heard_by}
 use Rattle.host.specs.Duties.{IsHardError}
 use Rattle.host.specs.HostView.{HostView, with_pool, with_sockets}
@@ -254,11 +254,12 @@ payload-still h (Err fault) moment source quote = refl
 outcome-still : (h : HostView) (outcome : Outcome) (moment : Moment) (d : Datagram) → SameStreams h (after_outcome outcome h moment d)
 outcome-still h (Waits r) moment d = refl
 outcome-still h GivesUp moment d = refl
-outcome-still h (Completes payload quote) moment d = payload-still h (datagram_or_fault d.source d.destination payload) moment d.source quote
+outcome-still h (Completes payload quote) moment d = payload-still (with_noted h moment d) (datagram_or_fault d.source d.destination payload) moment d.source quote
 
-fragment-still : (h : HostView) (outcome : Option Outcome) (moment : Moment) (d : Datagram) (answer : Result (Unit {0}) DropCause) (new : HostView) → MeetsFragment outcome h moment d answer new → SameStreams h new
-fragment-still h None moment d answer new met = streams-of h h new met.1 refl
-fragment-still h (Some outcome) moment d answer new met = streams-of h _ new met.1 (outcome-still (with_pool h (after_take moment d h.pool)) outcome moment d)
+fragment-still : (h : HostView) (outcome : Option Outcome) (late : Bool) (moment : Moment) (d : Datagram) (answer : Result (Unit {0}) DropCause) (new : HostView) → MeetsFragment outcome late h moment d answer new → SameStreams h new
+fragment-still h None late moment d answer new met = streams-of h h new met.1 refl
+fragment-still h (Some outcome) true moment d answer new met = streams-of h h new met.1 refl
+fragment-still h (Some outcome) false moment d answer new met = streams-of h _ new met.1 (outcome-still (with_pool h (after_take moment d (pool_for h.sockets.manner.guards d h.pool))) outcome moment d)
 
 heard-still : (h : HostView) (moment : Moment) (isn : ℕ) (answer : Result (Unit {0}) DropCause) (new : HostView) (m : Result Meaning DropCause) → ((r : ReceivedSegment) → m ≢ Ok (Tcp r)) → ((c : Control) → m ≢ Ok (Icmp c))
     → MeetsHeard m h moment isn answer new → SameStreams h new
@@ -266,7 +267,7 @@ heard-still h moment isn answer new (Ok (Arp packet)) no_segment no_message met 
 heard-still h moment isn answer new (Ok (Tcp r)) no_segment no_message met = absurd (no_segment r refl)
 heard-still h moment isn answer new (Ok (Icmp c)) no_segment no_message met = absurd (no_message c refl)
 heard-still h moment isn answer new (Ok (Udp r)) no_segment no_message met = streams-of h _ new met.1 (user-still h (reception h.sockets r.datagram) moment r.carrier.source r.datagram _)
-heard-still h moment isn answer new (Ok (UdpFragment d)) no_segment no_message met = fragment-still h (fragment_outcome moment d h.pool) moment d answer new met
+heard-still h moment isn answer new (Ok (UdpFragment d)) no_segment no_message met = fragment-still h (fragment_outcome moment d (pool_for h.sockets.manner.guards d h.pool)) (is_late_copy h moment d) moment d answer new met
 heard-still h moment isn answer new (Ok (Other d)) no_segment no_message met = streams-of h _ new met.1 refl
 heard-still h moment isn answer new (Err cause) no_segment no_message met = streams-of h h new met.1 refl
 

@@ -42,7 +42,6 @@ use Rattle.interface.specs.Replies.{is_full, learnt, owed, owed_answer, queued}
 use Rattle.interface.specs.Ways.{is_routed}
 use Rattle.reassembly.specs.Fragments.{quote_of}
 use Rattle.reassembly.specs.Places.{after_take}
-use Rattle.reassembly.specs.Reassembly.{Outcome}
 use Rattle.reassembly.specs.Reassembly.Outcome.{Completes}
 use Rattle.sockets.specs.declared.datagrams.Reception.{Reception}
 use Rattle.sockets.specs.declared.datagrams.Reception.TheVariants as socket
@@ -63,7 +62,7 @@ use Rattle.tcp_state.specs.Unreachable.{IsRefused, is_unreachable, after_unreach
 use Rattle.tcp_state.specs.View.{View, IsSound, after_reset}
 use Rattle.tcp_state.proofs.Unreachable.{opening_ends}
 use Rattle.udp_socket.specs.SocketView.{SocketView, with_received}
-use Rattle.host.specs.Arrival.{IsDelivered, MeetsFragment, MeetsHeard, MeetsMessage, after_payload, after_user_datagram, fragment_outcome, queue_answer, user_datagram_answer}
+use Rattle.host.specs.Arrival.{IsDelivered, MeetsHeard, MeetsMessage, after_payload, after_user_datagram, fragment_outcome, queue_answer, user_datagram_answer, with_noted}
 use Rattle.host.specs.Heard.{heard_by}
 use Rattle.host.specs.Duties.{HasBehindOthers, IsHardError, IsToldByEachCall}
 use Rattle.host.specs.HostView.{HostView, with_pool, with_sockets}
@@ -71,6 +70,7 @@ use Rattle.host.specs.Messages.{Told, Asks, Refuses, Nothing, error_of_quote, is
 use Rattle.host.specs.Sound.{IsSoundHost}
 use Rattle.host.proofs.Carriage.{found-all}
 use Rattle.host.proofs.FirstPlace.{find-passes}
+use Rattle.host.proofs.Parts.{completes-there, finds-others, is-part}
 
 -- What is heard is met.
 
@@ -156,12 +156,12 @@ whole-queued h now isn octets r answer new id bound s is found room delivered =
 completes : (h : HostView) (now : Moment) (isn : ℕ) (octets : List ℕ) (d : Datagram) (payload quote : List ℕ) (u : UserDatagram) (answer : Result (Unit {0}) DropCause) (new : HostView)
     → heard_by h octets ≡ Ok (UdpFragment d) → fragment_outcome (later_moment h.sockets now) d h.pool ≡ Some (Completes payload quote) → datagram_or_fault d.source d.destination payload ≡ Ok u → IsDelivered h now isn octets answer new
     → (answer ≡ Ok tt)
-    × (new ≡ after_user_datagram (reception h.sockets u) (with_pool h (after_take (later_moment h.sockets now) d h.pool)) (later_moment h.sockets now) d.source u (take 68 quote))
+    × (let moment = later_moment h.sockets now in new ≡ after_user_datagram (reception h.sockets u) (with_noted (with_pool h (after_take moment d h.pool)) moment d) moment d.source u (take 68 quote))
 completes h now isn octets d payload quote u answer new is comes read delivered =
     let moment : Moment = later_moment h.sockets now in
-    let g : HostView = with_pool h (after_take moment d h.pool) in
-    let as_fragment : MeetsFragment (fragment_outcome moment d h.pool) h moment d answer new = met-by h now isn octets answer new (UdpFragment d) is delivered in
-    let met : MeetsFragment (Some (Completes payload quote)) h moment d answer new = subst (λ (o : Option Outcome). MeetsFragment o h moment d answer new) comes as_fragment in
+    let g : HostView = with_noted (with_pool h (after_take moment d h.pool)) moment d in
+    let others = finds-others moment d h.pool payload quote (is-part h octets d is) comes in
+    let met = completes-there h moment d payload quote answer new others comes (met-by h now isn octets answer new (UdpFragment d) is delivered) in
     (met.0, met.1 ∙ ap (λ (x : Result UserDatagram UdpFault). after_payload x g moment d.source quote) read)
 
 pub completed-queued : (h : HostView) (now : Moment) (isn : ℕ) (octets : List ℕ) (d : Datagram) (payload quote : List ℕ) (u : UserDatagram) (answer : Result (Unit {0}) DropCause) (new : HostView)
@@ -172,7 +172,7 @@ pub completed-queued : (h : HostView) (now : Moment) (isn : ℕ) (octets : List 
 completed-queued h now isn octets d payload quote u answer new id bound s is comes read found room delivered =
     let moment : Moment = later_moment h.sockets now in
     let two = completes h now isn octets d payload quote u answer new is comes read delivered in
-    (two.0, behind-others (with_pool h (after_take moment d h.pool)) new moment d.source u (take 68 quote) id bound s found room two.1)
+    (two.0, behind-others (with_noted (with_pool h (after_take moment d h.pool)) moment d) new moment d.source u (take 68 quote) id bound s found room two.1)
 
 pub completed-reported : (h : HostView) (now : Moment) (isn : ℕ) (octets : List ℕ) (d : Datagram) (payload quote : List ℕ) (u : UserDatagram) (answer : Result (Unit {0}) DropCause) (new : HostView)
     → heard_by h octets ≡ Ok (UdpFragment d) → fragment_outcome (later_moment h.sockets now) d h.pool ≡ Some (Completes payload quote) → datagram_or_fault d.source d.destination payload ≡ Ok u
@@ -180,7 +180,7 @@ pub completed-reported : (h : HostView) (now : Moment) (isn : ℕ) (octets : Lis
     → (answer ≡ Ok tt) × (new.interface.replies ≡ h.interface.replies ++ record { since = later_moment h.sockets now; reply = reply.Error d.source PortUnreachable (take 68 quote) } ∷ [])
 completed-reported h now isn octets d payload quote u answer new is comes read none routed few delivered =
     let moment : Moment = later_moment h.sockets now in
-    let g : HostView = with_pool h (after_take moment d h.pool) in
+    let g : HostView = with_noted (with_pool h (after_take moment d h.pool)) moment d in
     let two = completes h now isn octets d payload quote u answer new is comes read delivered in
     let no_socket : reception h.sockets u ≡ socket.NoSocket = rw none refl in
     let told = joins (is_routed h.interface d.source) moment (reply.Error d.source PortUnreachable (take 68 quote)) h.interface routed (roomy h.interface few) in

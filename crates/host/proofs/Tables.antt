@@ -51,7 +51,7 @@ use Rattle.sockets.proofs.SoundTicks.{tick_sound}
 use Rattle.sockets.proofs.Steps.{later_up_to}
 use Rattle.sockets.proofs.Telling.{tells_on, socket_told, role_tells}
 use Rattle.sockets.proofs.Timed.{each_timed, fresh_timed}
-use Rattle.host.specs.Arrival.{arrival_by_route, segment_arrival, MeetsSegment, MeetsMessage, MeetsFragment, MeetsHeard, after_user_datagram, after_payload, after_outcome, fragment_outcome}
+use Rattle.host.specs.Arrival.{arrival_by_route, segment_arrival, MeetsSegment, MeetsMessage, MeetsFragment, MeetsHeard, after_user_datagram, after_payload, after_outcome, fragment_outcome, is_late_copy, pool_for, with_noted}
 use Rattle.host.specs.Heard.{heard_by}
 use Rattle.host.proofs.Guarded.{meant_by}
 use Rattle.host.specs.ConfigView.{ConfigView}
@@ -124,11 +124,12 @@ payload-leads h (Err fault) moment source quote = stays
 outcome-leads : (h : HostView) (outcome : Outcome) (moment : Moment) (d : Datagram) → IsOwnStep h.sockets moment (let left = after_outcome outcome h moment d in left.sockets)
 outcome-leads h (Waits r) moment d = stays
 outcome-leads h GivesUp moment d = stays
-outcome-leads h (Completes payload quote) moment d = payload-leads h (datagram_or_fault d.source d.destination payload) moment d.source quote
+outcome-leads h (Completes payload quote) moment d = payload-leads (with_noted h moment d) (datagram_or_fault d.source d.destination payload) moment d.source quote
 
-fragment-leads : (h : HostView) (outcome : Option Outcome) (moment : Moment) (d : Datagram) (answer : Result (Unit {0}) DropCause) (new : HostView) → MeetsFragment outcome h moment d answer new → IsOwnStep h.sockets moment new.sockets
-fragment-leads h None moment d answer new met = step-to h h new met.1 stays
-fragment-leads h (Some outcome) moment d answer new met = step-to h _ new met.1 (outcome-leads (with_pool h (after_take moment d h.pool)) outcome moment d)
+fragment-leads : (h : HostView) (outcome : Option Outcome) (late : Bool) (moment : Moment) (d : Datagram) (answer : Result (Unit {0}) DropCause) (new : HostView) → MeetsFragment outcome late h moment d answer new → IsOwnStep h.sockets moment new.sockets
+fragment-leads h None late moment d answer new met = step-to h h new met.1 stays
+fragment-leads h (Some outcome) true moment d answer new met = step-to h h new met.1 stays
+fragment-leads h (Some outcome) false moment d answer new met = step-to h _ new met.1 (outcome-leads (with_pool h (after_take moment d (pool_for h.sockets.manner.guards d h.pool))) outcome moment d)
 
 -- A message.
 
@@ -148,7 +149,7 @@ heard-leads h moment isn octets answer new small own (Ok (Tcp r)) is met =
     segment-leads h moment isn r.source r.segment answer new small (segments_fit h.interface.mac h.interface.addr octets r says) (another h.sockets.addr r.source other) met
 heard-leads h moment isn octets answer new small own (Ok (Icmp c)) is met = message-leads h (told_by c.message) moment c answer new met
 heard-leads h moment isn octets answer new small own (Ok (Udp r)) is met = step-to h _ new met.1 (user-leads h (reception h.sockets r.datagram) moment r.carrier.source r.datagram _)
-heard-leads h moment isn octets answer new small own (Ok (UdpFragment d)) is met = fragment-leads h (fragment_outcome moment d h.pool) moment d answer new met
+heard-leads h moment isn octets answer new small own (Ok (UdpFragment d)) is met = fragment-leads h (fragment_outcome moment d (pool_for h.sockets.manner.guards d h.pool)) (is_late_copy h moment d) moment d answer new met
 heard-leads h moment isn octets answer new small own (Ok (Other d)) is met = step-to h _ new met.1 stays
 heard-leads h moment isn octets answer new small own (Err cause) is met = step-to h h new met.1 stays
 

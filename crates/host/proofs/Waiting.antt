@@ -296,4 +296,4 @@ tick-waits h now early aged =
     let side : all_reported moment (interface_after_tick h.interface moment) (expired moment h.pool) ≡ h.interface =
     ap (all_reported moment (interface_after_tick h.interface moment)) pool.1 ∙ own in
     let tables : table_after_tick h moment ≡ table = ap (λ (t : SocketsView). after_giving_up t (lacks_hop h moment) moment) timers ∙ given_up in
-    λ k. record { interface = side k; sockets = tables k; pool = pool.0 k }
+    λ k. record { interface = side k; sockets = tables k; pool = pool.0 k; lately = h.lately }

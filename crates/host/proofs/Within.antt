@@ -165,4 +165,5 @@ within-limits c events h ran sound =
       interface = record { neighbours = few-neighbours h.interface side; requests = side.few; replies = side.places; each = replies-few h.interface.addr h.interface.replies own.replies };
       sockets = record { entries = offers.few; offered = omega (arith, offers.within, offers.few); each = each-in_room h.sockets.entries table.entries (reached-fit h.sockets (run-reached c events h ran)) };
       pool = record { places = stands.places; each = within-places c events h.pool stands.pool };
+      lately = stands.lately;
     }

@@ -1,6 +1,6 @@
 -- What a frame that arrives makes of a host: what its octets are to the host is found layer by layer, from the lowest up, and the layer
 -- that they reach takes them (RFC 826, RFC 1122 sections 3.2.1 and 3.2.2, RFC 9293 section 3.10.7, RFC 768).
-use Rattle.std.specs.Prelude.{◌≡◌, ℕ, Bool, if◌then◌else◌, List, take, Option, Some, None, Result, Ok, Err, MatchResult, option_map}
+use Rattle.std.specs.Prelude.{◌≡◌, ℕ, Bool, true, false, not, ◌&&◌, if◌then◌else◌, List, take, Option, Some, None, is_none, Result, Ok, Err, MatchResult, option_map}
 use Rattle.ipv4.specs.declared.addr.Addr.{Addr}
 use Rattle.ipv4.specs.declared.addr.Pair.{Pair}
 use Rattle.ipv4.specs.Datagram.{Datagram}
@@ -18,8 +18,10 @@ use Rattle.interface.specs.declared.reply.QueueFault.{QueueFault}
 use Rattle.interface.specs.Ways.{is_routed}
 use Rattle.interface.specs.Replies.{after_heard, heard_answer, after_answer, after_echo, after_report, answer_result}
 use Rattle.sockets.specs.Arrival.{Arrival, Becomes, Opens, NoRoom as NoRoomInTable, Answers, arrival, pair_opened}
+use Rattle.reassembly.specs.Events.{has_place}
 use Rattle.reassembly.specs.Fragments.{key_of, quote_of}
-use Rattle.reassembly.specs.Places.{after_take, outcome_at, place_for}
+use Rattle.reassembly.specs.Lately.{noted, was_whole}
+use Rattle.reassembly.specs.Places.{after_take, outcome_at, place_for, without_oldest}
 use Rattle.reassembly.specs.Reassembly.{Outcome, Reassembly}
 use Rattle.reassembly.specs.Reassembly.Outcome.{Waits, Completes, GivesUp}
 use Rattle.sockets.specs.declared.datagrams.Reception.{Reception}
@@ -30,7 +32,7 @@ use Rattle.sockets.specs.Unreachable.{after_unreachable}
 use Rattle.udp.specs.declared.fault.UdpFault.{UdpFault}
 use Rattle.udp.specs.Datagram.{UserDatagram}
 use Rattle.udp.specs.Reading.{datagram_or_fault}
-use Rattle.host.specs.HostView.{HostView, with_interface, with_pool, with_sockets}
+use Rattle.host.specs.HostView.{HostView, with_interface, with_lately, with_pool, with_sockets}
 use Rattle.host.specs.Heard.{heard_by}
 use Rattle.host.specs.Messages.{Told, Asks, Refuses, Nothing, told_by}
 
@@ -96,6 +98,18 @@ MeetsUserDatagram to h moment r answer new =
 abbrev pub fragment_outcome : Moment → Datagram → List (Option Reassembly) → Option Outcome
 fragment_outcome moment d pool = option_map (outcome_at moment d pool) (place_for (key_of d) pool)
 
+-- On its guard a host lets the oldest datagram of the pool give way to a fragment that finds no place there, so that each finds one.
+abbrev pub pool_for : Bool → Datagram → List (Option Reassembly) → List (Option Reassembly)
+pool_for guards d pool = if guards && is_none (place_for (key_of d) pool) then without_oldest pool else pool
+
+-- And it notes which datagrams were whole. A fragment whose datagram was so within the last second, as its key says, and is not being put
+-- together anew, is a late copy.
+abbrev pub is_late_copy : HostView → Moment → Datagram → Bool
+is_late_copy h moment d = h.sockets.manner.guards && not (has_place (key_of d) h.pool) && was_whole (key_of d) moment h.lately
+
+abbrev pub with_noted : HostView → Moment → Datagram → HostView
+with_noted h moment d = with_lately h (if h.sockets.manner.guards then noted (key_of d) moment h.lately else h.lately)
+
 -- a payload that was put together is met as that of a datagram from this address for that one, of which an error quotes 68 octets at most
 abbrev pub after_payload : Result UserDatagram UdpFault → HostView → Moment → Addr → List ℕ → HostView
 after_payload (Ok d) h moment source quote = after_user_datagram (reception h.sockets d) h moment source d (take 68 quote)
@@ -105,12 +119,19 @@ after_payload (Err fault) h moment source quote = h
 abbrev pub after_outcome : Outcome → HostView → Moment → Datagram → HostView
 after_outcome (Waits r) h moment d = h
 after_outcome GivesUp h moment d = h
-after_outcome (Completes payload quote) h moment d = after_payload (datagram_or_fault d.source d.destination payload) h moment d.source quote
+after_outcome (Completes payload quote) h moment d = after_payload (datagram_or_fault d.source d.destination payload) (with_noted h moment d) moment d.source quote
 
 -- A fragment is laid into the pool (RFC 791 section 3.2), where there is a place for its datagram.
-abbrev pub MeetsFragment : Option Outcome → HostView → Moment → Datagram → Result (Unit {0}) DropCause → HostView → Type 0
-MeetsFragment None h moment d answer new = (answer ≡ Err NoRoom) × (new ≡ h)
-MeetsFragment (Some outcome) h moment d answer new = (answer ≡ Ok tt) × (new ≡ after_outcome outcome (with_pool h (after_take moment d h.pool)) moment d)
+abbrev pub IsLaid : Option Outcome → HostView → Moment → Datagram → Result (Unit {0}) DropCause → HostView → Type 0
+IsLaid None h moment d answer new = (answer ≡ Err NoRoom) × (new ≡ h)
+IsLaid (Some outcome) h moment d answer new = (answer ≡ Ok tt) × (new ≡ after_outcome outcome (with_pool h (after_take moment d h.pool)) moment d)
+
+-- There it is on guard with the place that it is given. A late copy is taken, and changes nothing.
+abbrev pub MeetsFragment : Option Outcome → Bool → HostView → Moment → Datagram → Result (Unit {0}) DropCause → HostView → Type 0
+MeetsFragment None late h moment d answer new = (answer ≡ Err NoRoom) × (new ≡ h)
+MeetsFragment (Some outcome) true h moment d answer new = (answer ≡ Ok tt) × (new ≡ h)
+MeetsFragment (Some outcome) false h moment d answer new =
+    (answer ≡ Ok tt) × (new ≡ after_outcome outcome (with_pool h (after_take moment d (pool_for h.sockets.manner.guards d h.pool))) moment d)
 
 -- An ARP packet is learnt, and answered where it asks for our address; a segment goes to the table; a message is met by what it tells; a UDP
 -- datagram goes to its socket, and a fragment of one to the pool; a datagram that nothing takes is reported; what is dropped changes nothing.
@@ -121,7 +142,8 @@ MeetsHeard (Ok (Tcp received)) h moment isn answer new =
     MeetsSegment (segment_arrival h moment isn received.source received.segment) h moment received.source answer new
 MeetsHeard (Ok (Icmp c)) h moment isn answer new = MeetsMessage (told_by c.message) h moment c answer new
 MeetsHeard (Ok (Udp r)) h moment isn answer new = MeetsUserDatagram (reception h.sockets r.datagram) h moment r answer new
-MeetsHeard (Ok (UdpFragment d)) h moment isn answer new = MeetsFragment (fragment_outcome moment d h.pool) h moment d answer new
+MeetsHeard (Ok (UdpFragment d)) h moment isn answer new =
+    MeetsFragment (fragment_outcome moment d (pool_for h.sockets.manner.guards d h.pool)) (is_late_copy h moment d) h moment d answer new
 MeetsHeard (Ok (Other d)) h moment isn answer new = MeetsDatagram ProtocolUnreachable h moment d answer new
 MeetsHeard (Err cause) h moment isn answer new = (answer ≡ Err cause) × (new ≡ h)
 

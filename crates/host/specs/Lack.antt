@@ -18,6 +18,7 @@ use Rattle.sockets.specs.Datagrams.{reception}
 use Rattle.sockets.specs.Needs as needs
 use Rattle.host.specs.declared.lack.Lack.{Lack}
 use Rattle.host.specs.declared.lack.Lack.TheVariants.{Backlog, Table, Memory, Replies, Queue, Reassembly, Route}
+use Rattle.host.specs.Arrival.{pool_for}
 use Rattle.host.specs.Heard.{heard_by}
 use Rattle.host.specs.HostView.{HostView}
 use Rattle.host.specs.Messages.{Told, Asks, Refuses, Nothing, told_by}
@@ -50,13 +51,13 @@ lack_by_reception h source socket.Queued = None
 lack_by_reception h source socket.NoRoom = Some Queue
 lack_by_reception h source socket.NoSocket = lack_of_answer h source
 
--- a fragment needs a place in the pool, and a datagram that nothing takes is reported
+-- a fragment needs a place in the pool, as it always finds one on guard, and a datagram that nothing takes is reported
 abbrev pub lack_of : HostView → Result Meaning DropCause → Option Lack
 lack_of h (Ok (Arp packet)) = lack_of_reply (is_request_for h.interface.addr packet) h.interface
 lack_of h (Ok (Tcp received)) = lack_by_need h received.source (needs.need h.sockets received.source received.segment)
 lack_of h (Ok (Icmp c)) = lack_by_message h c.source (told_by c.message)
 lack_of h (Ok (Udp r)) = lack_by_reception h r.carrier.source (reception h.sockets r.datagram)
-lack_of h (Ok (UdpFragment d)) = if is_none (place_for (key_of d) h.pool) then Some Reassembly else None
+lack_of h (Ok (UdpFragment d)) = if is_none (place_for (key_of d) (pool_for h.sockets.manner.guards d h.pool)) then Some Reassembly else None
 lack_of h (Ok (Other d)) = lack_of_answer h d.source
 lack_of h (Err cause) = None
 

@@ -5,6 +5,7 @@ pub mod Messages
 pub mod Arrival
 pub mod Concerned
 pub mod Lack
+pub mod GiveWay
 pub mod Emission
 pub mod Ticks
 pub mod GivenUp

@@ -65,7 +65,7 @@ pub record IsWithinPayload (r : Reassembly) : Type 0 where
   pub octets : length r.octets ≤ 65515
   pub quote : IfSome r.quote (λ quote. length quote ≤ 68)
 
--- four are put together at a time
+-- four are put together at a time, and 64 are known as whole lately at most
 pub record IsPoolWithin (pool : List (Option Reassembly)) : Type 0 where
   pub places : length pool ≡ 4
   pub each : AllByRecursion (λ (place : Option Reassembly). IfSome place IsWithinPayload) pool
@@ -74,3 +74,4 @@ pub record IsWithinLimits (h : HostView) : Type 0 where
   pub interface : IsSideWithin h.interface
   pub sockets : IsTableWithin h.sockets
   pub pool : IsPoolWithin h.pool
+  pub lately : length h.lately ≤ 64

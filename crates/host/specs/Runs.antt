@@ -18,7 +18,7 @@ use Rattle.host.specs.HostView.{HostView, new_host, with_sockets}
 use Rattle.host.specs.Sound.{IsSoundHost}
 use Rattle.host.specs.Ticks.{after_tick}
 
--- a call of a socket, which is this event of the table; a tick; a frame that is delivered, and whose segment may open a connection with this
+-- a call of a socket, or that a connection gives way, which is this event of the table; a tick; a frame that is delivered, and whose segment may open a connection with this
 -- initial number; or the going out of what is due
 pub data Event : Type 0 where
   Calls : table.Event → Event
@@ -65,7 +65,7 @@ abbrev pub LeadOn : HostView → List Event → HostView → Type 0
 LeadOn h [] last = last ≡ h
 LeadOn h (event ∷ rest) last = IsSoundHost h × IsNumbered event × (next : HostView) × Makes event h next × LeadOn next rest last
 
--- Of the events of a table these are calls of a socket, and `connect` and `sendto` ask these routes; all others come of the host's own events.
+-- Of the events of a table these are calls of a socket, and `connect` and `sendto` ask these routes, or that a connection gives way; all others come of the host's own events.
 abbrev pub IsCall : List Route → table.Event → Type 0
 IsCall routes (table.Makes buffers) = Unit {0}
 IsCall routes table.MakesDatagrams = Unit {0}
@@ -85,6 +85,7 @@ IsCall routes (table.Ticks now) = ⊥
 IsCall routes (table.Hears now isn source s) = ⊥
 IsCall routes (table.Emits goes now) = ⊥
 IsCall routes (table.GivesUp lost now) = ⊥
+IsCall routes (table.GivesWay meant) = Unit {0}
 IsCall routes (table.Unreachable local peer number) = ⊥
 IsCall routes (table.HearsDatagram source d) = ⊥
 

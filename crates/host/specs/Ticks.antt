@@ -43,6 +43,7 @@ after_tick h now = let moment = later_moment h.sockets now in record {
   interface = all_reported moment (interface_after_tick h.interface moment) (expired moment h.pool);
   sockets = table_after_tick h moment;
   pool = after_age moment h.pool;
+  lately = h.lately;
 }
 
 -- What is due is looked at again when a request for the hop of one of it may go out.

@@ -1,10 +1,12 @@
 //! The frames that come in.
 
-ghost use Rattle.std.specs.Prelude.{◌≡◌, ◌≤◌, ◌&&◌, not, length, is_some, Ok};
-ghost use Rattle.frames.specs.declared.meaning.Meaning.TheVariants.{Tcp};
+ghost use Rattle.std.specs.Prelude.{◌≡◌, ◌≤◌, ◌&&◌, not, length, is_some, Ok, IfOk};
+ghost use Rattle.frames.specs.declared.meaning.Control.{Control};
+ghost use Rattle.frames.specs.declared.meaning.Meaning.TheVariants.{Icmp, Tcp};
 ghost use Rattle.interface.specs.declared.room.TheConstants.{ECHO_ROOM};
 ghost use Rattle.interface.specs.Ways.{is_routed};
 ghost use Rattle.sockets.specs.Arrival.{pair_opened};
+ghost use Rattle.sockets.specs.SocketsView.{later_moment};
 ghost use Rattle.host.specs.Arrival.{queue_answer};
 ghost use Rattle.host.specs.Messages.{is_hard, refused_quote, told_by};
 
@@ -24,14 +26,28 @@ impl Layers {
     pub(crate) fn deliver(&mut self, now: Moment, isn: Seq, frame: &[u8]) -> Result<(), DropCause>
         ensures { IsDelivered self.old now isn.0 frame.now result self.new }
     {
+        self.meet(now, isn, &self.heard(frame))
+    }
+
+    /// Takes what a frame is to the host, at the later of `now` and the kept moment, or drops it with its cause.
+    pub(crate) fn meet(
+        &mut self,
+        now: Moment,
+        isn: Seq,
+        meaning: &Result<Meaning<'_>, DropCause>,
+    ) -> Result<(), DropCause>
+        requires { IfOk meaning.now (λ m. (control : Control) → m ≡ Icmp control → length control.message.payload ≤ ECHO_ROOM) }
+        ensures { MeetsHeard meaning.now self.old (later_moment self.old.sockets now) isn.0 result self.new }
+    {
         let now = self.sockets.later_moment(now);
-        match self.heard(frame)? {
-            Meaning::Arp(packet) => room(self.interface.hear(now, &packet)),
-            Meaning::Tcp(received) => self.take(now, isn, &received),
-            Meaning::Icmp(control) => self.hear(now, &control),
-            Meaning::Udp(received) => self.receive(now, &received),
-            Meaning::UdpFragment(fragment) => self.gather(now, &fragment),
-            Meaning::Other(datagram) => self.report(now, Reason::ProtocolUnreachable, &datagram),
+        match meaning {
+            Ok(Meaning::Arp(packet)) => room(self.interface.hear(now, packet)),
+            Ok(Meaning::Tcp(received)) => self.take(now, isn, received),
+            Ok(Meaning::Icmp(control)) => self.hear(now, control),
+            Ok(Meaning::Udp(received)) => self.receive(now, received),
+            Ok(Meaning::UdpFragment(fragment)) => self.gather(now, fragment),
+            Ok(Meaning::Other(datagram)) => self.report(now, Reason::ProtocolUnreachable, datagram),
+            Err(cause) => Err(*cause),
         }
     }
 
@@ -108,7 +124,7 @@ impl Layers {
     }
 
     /// The pair that a segment for us would open.
-    fn pair_opened(&self, received: &ReceivedSegment<'_>) -> Option<Pair>
+    pub(crate) fn pair_opened(&self, received: &ReceivedSegment<'_>) -> Option<Pair>
         ensures { result ≡ foreseen_of self.now (Ok (Tcp received.now)) }
     {
         if self.interface.is_routed(received.source) {

@@ -1,6 +1,6 @@
 //! The host itself: what was made of it by the events so far, the frames, the clock, and the questions that change nothing.
 
-ghost use Rattle.std.specs.Prelude.{◌≡◌, ◌≤◌, Ok, Err, IfOk, IfErr, IfSome, MatchResult};
+ghost use Rattle.std.specs.Prelude.{◌≡◌, ◌≤◌, [], Ok, Err, IfOk, IfErr, IfSome, MatchResult};
 
 use crate::config::Config;
 use crate::layers::Layers;
@@ -9,14 +9,14 @@ use ether::FRAME_MAX;
 use frames::DropCause;
 use interface::Interface;
 use ipv4::Pair;
-use reassembly::{Pool, PoolFault};
+use reassembly::{Lately, Pool, PoolFault};
 use sockets::{Refusal, SocketId, Sockets};
 use std::alloc::{AllocError, Global};
 use std::marker::Model;
 use tcp_segment::Seq;
 
 /// A host with one interface and one address. Its frame side is the interface, its sockets are a table over the same address, and in its pool
-/// fragments of datagrams are put together. The making of a host takes memory, for what it will know of its neighbours, for the control replies
+/// fragments of datagrams are put together; on its guard it knows for a second which datagrams were whole. The making of a host takes memory, for what it will know of its neighbours, for the control replies
 /// that will wait, for the 64 places of the table and for the four datagrams of the pool, and so do sockets and the connections that frames open;
 /// nothing else does.
 #[derive(Drop)]
@@ -69,10 +69,10 @@ impl Host {
         sockets: Result<Sockets, AllocError>,
         pool: Result<Pool, PoolFault>,
     ) -> Result<Host, Refusal>
-        requires { IfOk interface (λ frames. IfOk sockets (λ table. IfOk pool (λ places. HasRun (record { interface = frames; sockets = table; pool = places })))) }
+        requires { IfOk interface (λ frames. IfOk sockets (λ table. IfOk pool (λ places. HasRun (record { interface = frames; sockets = table; pool = places; lately = [] })))) }
         ensures { MatchResult interface
             (λ frames. MatchResult sockets
-            (λ table. MatchResult pool (λ places. result ≡ Ok (record { interface = frames; sockets = table; pool = places })) (λ refused. result ≡ Err Refusal.ENOMEM))
+            (λ table. MatchResult pool (λ places. result ≡ Ok (record { interface = frames; sockets = table; pool = places; lately = [] })) (λ refused. result ≡ Err Refusal.ENOMEM))
             (λ refused. result ≡ Err Refusal.ENOMEM))
             (λ refused. result ≡ Err Refusal.ENOMEM) }
     {
@@ -82,6 +82,7 @@ impl Host {
                     interface,
                     sockets,
                     pool,
+                    lately: Lately::new(),
                 };
                 Ok(Host { layers })
             }
@@ -97,8 +98,11 @@ impl Host {
     /// address or not from a unicast address; Fragment for one of any protocol but UDP; UpperHeader, UpperSum where the ARP packet, the
     /// segment, the message or the UDP datagram isn't well. NoRoom where it would open a connection and there is no place in the backlog or
     /// the table, no id, no memory or no route to its source, where its UDP datagram finds 64 others at the socket, where it is a fragment of
-    /// a datagram that has no place in the pool, where it is to be answered by a reset, an echo or an error and 16 control replies wait, and where
+    /// a datagram that has no place in the pool of a host that isn't on its guard, where it is to be answered by a reset, an echo or an error and 16 control replies wait, and where
     /// it asks for our MAC and 16 wait: what that ARP packet says is learnt all the same.
+    ///
+    /// On guard the datagram of the pool that began first gives way to a fragment that would begin a fifth one; but of a datagram that was whole
+    /// within the last second a fragment begins none, and nothing changes then.
     ///
     /// What answers a datagram isn't sent where no route leads to its source, and the frame is taken then. So is a fragment of UDP: what its
     /// datagram comes to once it is whole is no matter of this frame.

@@ -1,10 +1,12 @@
 //! What a frame finds no room at. Nothing changes.
 
-ghost use Rattle.std.specs.Prelude.{◌≡◌, is_none, if◌then◌else◌, Option, Some, None};
+ghost use Rattle.std.specs.Prelude.{◌≡◌, Ok, is_some};
+ghost use Rattle.frames.specs.declared.meaning.Meaning.TheVariants.{UdpFragment};
 ghost use Rattle.reassembly.specs.Fragments.{key_of};
 ghost use Rattle.reassembly.specs.Places.{place_for};
 ghost use Rattle.sockets.specs.Datagrams.{reception};
 ghost use Rattle.sockets.specs.Needs.{need};
+ghost use Rattle.host.specs.Arrival.{pool_for};
 ghost use Rattle.host.specs.Messages.{told_by};
 
 use crate::host::Host;
@@ -26,7 +28,7 @@ pub enum Lack {
     Replies,
     /// The queue of the UDP socket has no room for the datagram.
     Queue,
-    /// Four datagrams are put together, and none of them is that of the fragment.
+    /// Four datagrams are put together, none of them is that of the fragment, and the host isn't on its guard.
     Reassembly,
     /// No route leads to the source of a SYN.
     Route,
@@ -46,7 +48,7 @@ impl Host {
 }
 
 impl Layers {
-    ghost use Rattle.host.specs.Lack.{lack, lack_by_message, lack_by_need, lack_by_reception, lack_of_answer, lack_of_reply};
+    ghost use Rattle.host.specs.Lack.{lack, lack_by_message, lack_by_need, lack_by_reception, lack_of, lack_of_answer, lack_of_reply};
 
     /// What a frame finds no room at, as `Host::lack`.
     fn lack(&self, frame: &[u8]) -> Option<Lack>
@@ -99,15 +101,23 @@ impl Layers {
         }
     }
 
-    /// What a fragment finds no room at.
+    /// What a fragment finds no room at: on guard the oldest datagram gives way to it.
     fn lack_of_fragment(&self, fragment: &Ipv4View<'_>) -> Option<Lack>
-        ensures { result ≡ (if is_none (place_for (key_of fragment.now) self.now.pool) then Some Lack.Reassembly else None) }
+        ensures { result ≡ lack_of self.now (Ok (UdpFragment fragment.now)) }
     {
-        if self.pool.has_place(fragment) {
+        if self.finds_place(fragment) {
             None
         } else {
             Some(Lack::Reassembly)
         }
+    }
+
+    /// Whether a fragment finds a place, as it always does on guard.
+    fn finds_place(&self, fragment: &Ipv4View<'_>) -> bool
+        ensures { result ≡ is_some (place_for (key_of fragment.now) (pool_for self.now.sockets.manner.guards fragment.now self.now.pool)) }
+    {
+        self.sound();
+        self.sockets.is_guarded() || self.pool.has_place(fragment)
     }
 
     /// What a control reply to this address finds no room at: it is owed where a route leads there.

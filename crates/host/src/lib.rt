@@ -19,6 +19,7 @@ pub mod laws;
 mod layers;
 mod ready;
 mod ticks;
+mod way;
 
 pub use config::Config;
 pub use frames::DropCause;

@@ -9,6 +9,7 @@ use Rattle.sockets.specs.declared.refusal.Refusal.TheVariants.{EBADF, EINVAL, EM
 use Rattle.sockets.specs.SocketsView.{SocketsView}
 use Rattle.sockets.specs.Calls.{is_table_full, IsMade}
 use Rattle.host.specs.Arrival.{IsDelivered}
+use Rattle.host.specs.GiveWay.{with_place, with_way}
 use Rattle.host.specs.HostView.{HostView, with_sockets}
 use Rattle.hostc.specs.Numbers.{refused, answered, numbered, taken}
 
@@ -39,17 +40,17 @@ pub record IsSocketMade (kind : Kind) (old : HostView) (answer : Result SocketId
   pub ok : IfOk answer (λ id. (id.0 ≡ old.sockets.last_id + 1) × IsMade kind old.sockets new.sockets × (new ≡ with_sockets old new.sockets))
   pub err : OnErr answer (new ≡ old)
 
--- of the kind of this number: EINVAL where there is none
+-- of the kind of this number: EINVAL where there is none; a place is made for it first, on guard
 abbrev pub MakesSocket : Option Kind → HostView → ℤ → HostView → Type 0
 MakesSocket None old answer new = (answer ≡ refused EINVAL) × (new ≡ old)
-MakesSocket (Some kind) old answer new = (made : Result SocketId Refusal) × IsSocketMade kind old made new × (answer ≡ answered (numbered (λ id. id.0) made))
+MakesSocket (Some kind) old answer new = (made : Result SocketId Refusal) × IsSocketMade kind (with_place old) made new × (answer ≡ answered (numbered (λ id. id.0) made))
 
 abbrev pub SocketCall : Option Kind → Option HostView → ℤ → Option HostView → Type 0
 SocketCall kind None answer new = (answer ≡ refused EBADF) × (new ≡ None)
 SocketCall kind (Some old) answer new = (left : HostView) × MakesSocket kind old answer left × (new ≡ Some left)
 
--- a frame is delivered to the host; no cause has the number 11
+-- a frame is delivered to the host, once way was made for it, on guard; no cause has the number 11
 abbrev pub Delivery : Option HostView → Moment → ℕ → List ℕ → ℤ → Option HostView → Type 0
 Delivery None now isn octets answer new = (answer ≡ neg_ℤ (pos 11)) × (new ≡ None)
 Delivery (Some old) now isn octets answer new =
-    (verdict : Result (Unit {0}) DropCause) × (left : HostView) × IsDelivered old now isn octets verdict left × (answer ≡ taken verdict) × (new ≡ Some left)
+    (verdict : Result (Unit {0}) DropCause) × (left : HostView) × IsDelivered (with_way old octets) now isn octets verdict left × (answer ≡ taken verdict) × (new ≡ Some left)

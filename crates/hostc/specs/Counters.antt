@@ -6,6 +6,7 @@ use Rattle.sockets.specs.declared.refusal.Refusal.{Refusal}
 use Rattle.sockets.specs.declared.refusal.Refusal.TheVariants.{EBADF}
 use Rattle.host.specs.Emission.{emission_len}
 use Rattle.host.specs.GivenUp.{gives_up}
+use Rattle.host.specs.GiveWay.{with_way}
 use Rattle.host.specs.HostView.{HostView}
 use Rattle.host.specs.Lack.{lack}
 use Rattle.counters.specs.declared.counters.Counters.{Counters}
@@ -20,7 +21,7 @@ CountsAnew answer old new = ((answer ≡ pos 0) × (new ≡ Some new_counters)) 
 abbrev pub CountsFrame : Option HostView → List ℕ → ℤ → Option Counters → Option Counters → Type 0
 CountsFrame None octets answer old new = new ≡ old
 CountsFrame (Some h) octets answer old new =
-    (verdict : Result (Unit {0}) DropCause) × (answer ≡ taken verdict) × (new ≡ option_map (λ c. after_event c (Came (length octets) verdict (lack h octets))) old)
+    (verdict : Result (Unit {0}) DropCause) × (answer ≡ taken verdict) × (new ≡ option_map (λ c. after_event c (Came (length octets) verdict (lack (with_way h octets) octets))) old)
 
 -- a frame that goes out at a moment is counted with its octets
 abbrev pub counters_after_emission : Option HostView → Moment → Option Counters → Option Counters

@@ -18,14 +18,17 @@ use tcp_segment::Seq;
 
 /// Makes a socket, a stream socket where `kind` is 1 and a datagram socket where it is 2, and answers its id.
 ///
-/// EBADF where the handle holds no host; EINVAL for another kind; else as `Host::socket`.
+/// EBADF where the handle holds no host; EINVAL for another kind; else as `Host::socket`, once `Host::make_place` made a place for it.
 #[unsafe(no_mangle)]
 pub extern "C" fn host_socket(alloc: Global, handle: &mut Handle, kind: u32) -> i64
     ensures made { SocketCall (kind_of kind) handle.old.host result handle.new.host }
     ensures counters { handle.new.counters ≡ handle.old.counters }
 {
     let answer = handle.ask(alloc, |host| match kind_of(kind) {
-        Some(kind) => host.socket(kind),
+        Some(kind) => {
+            host.make_place();
+            host.socket(kind)
+        }
         None => Err(Refusal::EINVAL),
     });
     match answer {

@@ -4,6 +4,7 @@ ghost use Rattle.std.specs.Prelude.{◌≡◌, ◌≤◌, length, IfSome};
 ghost use Rattle.host.specs.Arrival.{IsDelivered};
 ghost use Rattle.host.specs.Emission.{emission_len, emission_front, after_emission};
 ghost use Rattle.host.specs.GivenUp.{gives_up};
+ghost use Rattle.host.specs.GiveWay.{with_way};
 ghost use Rattle.host.specs.Lack.{lack};
 ghost use Rattle.host.specs.Ticks.{after_tick};
 ghost use Rattle.counters.specs.Counting.{Came, Ticked, after_event, after_going, new_counters};
@@ -35,8 +36,8 @@ impl Counted {
 
     /// `Counters::deliver`.
     pub(crate) fn deliver(&mut self, now: Moment, isn: Seq, frame: &[u8]) -> Result<(), DropCause>
-        ensures delivered { IsDelivered self.old.host now isn.0 frame.now result self.new.host }
-        ensures counted { self.new.counters ≡ after_event self.old.counters (Came (length frame.now) result (lack self.old.host frame.now)) }
+        ensures delivered { IsDelivered (with_way self.old.host frame.now) now isn.0 frame.now result self.new.host }
+        ensures counted { self.new.counters ≡ after_event self.old.counters (Came (length frame.now) result (lack (with_way self.old.host frame.now) frame.now)) }
     {
         self.counters.deliver(&mut self.host, now, isn, frame)
     }

@@ -50,7 +50,7 @@ pub extern "C" fn host_next_deadline(alloc: Global, handle: &mut Handle, moment:
     }
 }
 
-/// `Host::deliver`, counted. Answers 0 where the frame was taken, and else the number of the cause to drop it, negative: Short is -1, OtherMac -2,
+/// `Host::deliver_by_way`, counted. Answers 0 where the frame was taken, and else the number of the cause to drop it, negative: Short is -1, OtherMac -2,
 /// OtherType -3, IpHeader -4, IpSum -5, OtherAddress -6, UpperHeader -7, UpperSum -8, NoRoom -9, Fragment -10. Answers -11 where the
 /// handle holds no host.
 #[unsafe(no_mangle)]

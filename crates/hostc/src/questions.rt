@@ -5,6 +5,7 @@ ghost use Rattle.interface.specs.Ways.{is_routed};
 ghost use Rattle.std.specs.Result.{result_ok};
 ghost use Rattle.sockets.specs.Calls.{state_answer, pair_connected, sockname_answer, peername_answer};
 ghost use Rattle.host.specs.Arrival.{foreseen};
+ghost use Rattle.host.specs.GiveWay.{with_way};
 ghost use Rattle.hostc.specs.Calls.{of_host};
 ghost use Rattle.hostc.specs.Numbers.{answered, numbered, state_number, whether};
 ghost use Rattle.hostc.specs.Types.{addr_of, endpoint_of, socket_of, end_of, ends_of, written};
@@ -52,7 +53,7 @@ pub extern "C" fn host_would_connect(
     )
 }
 
-/// `Host::would_open`. Answers 1, and `pair` is the pair that this frame would open then, the lesser end first; 0 where it would open none.
+/// `Host::would_open_by_way`. Answers 1, and `pair` is the pair that this frame would open then, the lesser end first; 0 where it would open none.
 /// EBADF where the handle holds no host.
 #[unsafe(no_mangle)]
 pub extern "C" fn host_would_open(
@@ -61,12 +62,15 @@ pub extern "C" fn host_would_open(
     frame: &[u8],
     pair: &mut [End; 2],
 ) -> i64
-    ensures answer { result ≡ answered (of_host (λ h. Ok (whether (foreseen h frame.now))) handle.old.host) }
-    ensures pair { pair.new ≡ written ends_of (option_and_then (λ h. foreseen h frame.now) handle.old.host) pair.old }
+    ensures answer { result ≡ answered (of_host (λ h. Ok (whether (foreseen (with_way h frame.now) frame.now))) handle.old.host) }
+    ensures pair { pair.new ≡ written ends_of (option_and_then (λ h. foreseen (with_way h frame.now) frame.now) handle.old.host) pair.old }
     ensures same { handle.new.host ≡ handle.old.host }
     ensures counters { handle.new.counters ≡ handle.old.counters }
 {
-    shown(handle.ask(alloc, |host| Ok(host.would_open(frame))), pair)
+    shown(
+        handle.ask(alloc, |host| Ok(host.would_open_by_way(frame))),
+        pair,
+    )
 }
 
 /// `Host::sockname`. Answers 0, and `end` is the socket's own end then. EBADF, also where the handle holds no host; else as

@@ -13,3 +13,6 @@ pub mod Found
 pub mod PartsAgree
 pub mod OverEvents
 pub mod Soonest
+pub mod Oldest
+pub mod Late
+pub mod Alone

@@ -4,7 +4,7 @@ use Rattle.std.specs.List.{Any, list_any, position, position_or_len}
 use Rattle.std.specs.Option.{option_or}
 use Rattle.std.proofs.lemmas.Bool.{cases_lt}
 use Rattle.std.proofs.lemmas.Bool.Decides.{nat_tests}
-use Rattle.std.proofs.lemmas.List.{get_or-set_same, get_or-set_other, get_or_past}
+use Rattle.std.proofs.lemmas.List.{get_or-set_same, get_or-set_other, get_or_past, set_past}
 use Rattle.std.proofs.lemmas.List.Folds.{list_any_at, Any-from_list_any}
 use Rattle.std.proofs.lemmas.List.Quantifiers.{position-Some}
 use Rattle.std.proofs.lemmas.List.Sums.{fails_before_first}
@@ -17,12 +17,12 @@ use Rattle.reassembly.specs.declared.assembled.Loss.TheVariants.{NoRoom, GivenUp
 use Rattle.reassembly.specs.declared.assembled.Assembled.{Assembled}
 use Rattle.reassembly.specs.declared.assembled.Assembled.TheVariants.{Waiting, Whole, Dropped}
 use Rattle.reassembly.specs.Events.{Event, after_event, after_events, has_place, taken_for, gathered_after, gathered_from, gathered, IsRight, IsRightFor}
-use Rattle.reassembly.specs.Events.Event.{Takes, Ages}
+use Rattle.reassembly.specs.Events.Event.{Takes, Ages, GivesWay}
 use Rattle.reassembly.specs.Fragments.{key_of, latest_quote, is_contradictory, IsPayload}
 use Rattle.reassembly.specs.Keys.{same_key}
 use Rattle.reassembly.specs.Octets.{whole_of}
 use Rattle.reassembly.specs.Parts.{ArePartsOf, CoverAll}
-use Rattle.reassembly.specs.Places.{is_of, is_over, place_for, after_take_at, after_take, after_age, AnswersAt, AnswersTake}
+use Rattle.reassembly.specs.Places.{is_of, is_over, place_for, after_take_at, after_take, after_age, oldest, without, without_oldest, AnswersAt, AnswersTake}
 use Rattle.reassembly.specs.Reassembly.{Reassembly, begun, after_fragments, with_fragment, conflicts, continued, outcome, left, Answers, quoted}
 use Rattle.reassembly.specs.Reassembly.Outcome.{Completes}
 use Rattle.reassembly.proofs.Contradictions.{given_up}
@@ -72,13 +72,13 @@ same_key-refl key =
 abbrev pub at : List (Option Reassembly) → ℕ → Option Reassembly
 at places i = get_or places i None
 
-within : (places : List (Option Reassembly)) (i : ℕ) (r : Reassembly) → at places i ≡ Some r → i < length places
+pub within : (places : List (Option Reassembly)) (i : ℕ) (r : Reassembly) → at places i ≡ Some r → i < length places
 within places i r e = elim (cases_lt i (length places)) [
   | inl less ↦ less
   | inr past ↦ absurd (let none : None ≡ Some r = sym (get_or_past places i None past) ∙ e in cc)
 ]
 
-none_at : {X : Type 0} (p : X → Bool) (xs : List X) (d : X) → position p xs ≡ None → (i : ℕ) → i < length xs → p (get_or xs i d) ≡ false
+pub none_at : {X : Type 0} (p : X → Bool) (xs : List X) (d : X) → position p xs ≡ None → (i : ℕ) → i < length xs → p (get_or xs i d) ≡ false
 none_at p xs d e i l = step (nat_lt (position_or_len p xs) (length xs)) refl e
   where
     step : (b : Bool) → nat_lt (position_or_len p xs) (length xs) ≡ b → cond b (Some (position_or_len p xs)) None ≡ None → p (get_or xs i d) ≡ false
@@ -364,6 +364,22 @@ aged now (Some r ∷ places) zero a e = step (is_over now r) e
     step false f = f
 aged now (place ∷ places) (suc i) a e = aged now places i a e
 
+-- the oldest gives way
+same_gone : (places : List (Option Reassembly)) (found : Option ℕ) (i : ℕ) (a : Reassembly) → at (without found places) i ≡ Some a → at places i ≡ Some a
+same_gone places None i a e = e
+same_gone places (Some k) i a e = by_room (nat_lt k (length places)) refl
+  where
+    by_room : (b : Bool) → nat_lt k (length places) ≡ b → at places i ≡ Some a
+    by_room true f =
+        let room : k < length places = grind (arith, nat_tests, f) in
+        elim (old_or_next places k None i a room e) [
+          | inl next ↦ let none : None ≡ Some a = next.1 in cc
+          | inr old ↦ old.1
+        ]
+    by_room false f =
+        let past : length places ≤ k = grind (arith, nat_tests, f) in
+        ap (λ ps. at ps i) (sym (set_past places k None past)) ∙ e
+
 sound_event : (places : List (Option Reassembly)) (fragments : Key → List Datagram) (event : Event) → Sound places fragments
     → Sound (after_event places event) (FragmentsAfter places fragments event)
 sound_event places fragments (Takes now d) s = sound_take places fragments now d s
@@ -373,6 +389,14 @@ sound_event places fragments (Ages now) s = record {
       comes_after places fragments (Ages now) a a.key (fragments a.key) refl (has_place_at (after_age now places) j a e) (append-nil (fragments a.key))
       (s.comes j a (aged now places j a e));
   free = λ key h. free_after key (Ages now) places (fragments key) h;
+}
+sound_event places fragments GivesWay s = record {
+  apart = λ j k a b e f same.
+      s.apart j k a b (same_gone places (oldest places) j a e) (same_gone places (oldest places) k b f) same;
+  comes = λ j a e.
+      comes_after places fragments GivesWay a a.key (fragments a.key) refl (has_place_at (without_oldest places) j a e) (append-nil (fragments a.key))
+      (s.comes j a (same_gone places (oldest places) j a e));
+  free = λ key h. free_after key GivesWay places (fragments key) h;
 }
 
 sound_from : (events : List Event) (places : List (Option Reassembly)) (fragments : Key → List Datagram) → Sound places fragments

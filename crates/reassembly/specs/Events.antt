@@ -1,4 +1,4 @@
--- Whatever befalls a pool: fragments are taken and the time is told, in any order.
+-- Whatever befalls a pool: fragments are taken, the time is told and the oldest gives way, in any order.
 use Rattle.std.specs.Prelude.{◌≡◌, ℕ, Bool, true, if◌then◌else◌, List, [], ◌∷◌, ◌++◌, fold, replicate, Option, Some, None}
 use Rattle.std.specs.List.{list_any}
 use Rattle.clock.specs.declared.moment.Moment.{Moment}
@@ -9,7 +9,7 @@ use Rattle.reassembly.specs.declared.assembled.Assembled.{Assembled}
 use Rattle.reassembly.specs.declared.assembled.Assembled.TheVariants.{Waiting, Whole, Dropped}
 use Rattle.reassembly.specs.Fragments.{key_of, latest_quote, is_contradictory, IsPayload}
 use Rattle.reassembly.specs.Keys.{same_key}
-use Rattle.reassembly.specs.Places.{is_of, after_take, after_age}
+use Rattle.reassembly.specs.Places.{is_of, after_take, after_age, without_oldest}
 use Rattle.reassembly.specs.Reassembly.{Reassembly}
 
 pub data Event : Type 0 where
@@ -17,10 +17,13 @@ pub data Event : Type 0 where
   Takes : Moment → Datagram → Event
   -- this moment is told
   Ages : Moment → Event
+  -- the oldest gives way
+  GivesWay : Event
 
 abbrev pub after_event : List (Option Reassembly) → Event → List (Option Reassembly)
 after_event places (Takes now d) = after_take now d places
 after_event places (Ages now) = after_age now places
+after_event places GivesWay = without_oldest places
 
 -- the places after these events, all four of which were free before
 abbrev pub after_events : List Event → List (Option Reassembly)
@@ -34,6 +37,7 @@ has_place key places = list_any (is_of key) places
 abbrev pub taken_for : Key → Event → List Datagram
 taken_for key (Takes now d) = if same_key (key_of d) key then d ∷ [] else []
 taken_for key (Ages now) = []
+taken_for key GivesWay = []
 
 -- the fragments with a key that were taken since it had no place last: those before an event, and the one that is taken by it
 abbrev pub gathered_after : Key → List (Option Reassembly) → List Datagram → Event → List Datagram

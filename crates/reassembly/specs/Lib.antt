@@ -7,3 +7,4 @@ pub mod Inside
 pub mod Keys
 pub mod Places
 pub mod Events
+pub mod Lately

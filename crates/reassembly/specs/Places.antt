@@ -1,6 +1,6 @@
 -- The places of a pool, and what a fragment or the time changes in them (RFC 791 section 3.2, RFC 1122 section 3.3.2).
-use Rattle.std.specs.Prelude.{◌≡◌, ℕ, Bool, false, if◌then◌else◌, List, map, fold, position, slice_index_or, slice_set, Option, Some, None, is_none, option_map}
-use Rattle.std.specs.List.{filter_map}
+use Rattle.std.specs.Prelude.{◌≡◌, ◌≢◌, ℕ, ◌+◌, ◌<◌, ◌≤◌, Bool, true, false, nat_le, if◌then◌else◌, List, length, map, fold, count_by, position, slice_index_or, slice_set, Option, Some, None, is_none, is_some, option_map}
+use Rattle.std.specs.List.{filter_map, list_all}
 use Rattle.std.specs.Option.{option_or}
 use Rattle.ipv4.specs.Datagram.{Datagram}
 use Rattle.reassembly.specs.declared.expired.Expired.{Expired}
@@ -65,3 +65,41 @@ expired now places = filter_map (expired_of now) places
 -- the soonest deadline of all
 abbrev pub next_deadline : List (Option Reassembly) → Option Moment
 next_deadline places = fold (λ soonest place. sooner soonest (option_map deadline_of place)) None places
+
+-- What gives way.
+
+-- nothing that is put together there began before this moment
+abbrev pub began_from : Moment → Option Reassembly → Bool
+began_from since None = true
+began_from since (Some r) = nat_le since.0 r.since.0
+
+-- a datagram is put together there, and none of all began before it
+abbrev pub is_oldest : List (Option Reassembly) → Option Reassembly → Bool
+is_oldest places None = false
+is_oldest places (Some r) = list_all (began_from r.since) places
+
+-- the place of the oldest; of several that began at one moment, the first place
+abbrev pub oldest : List (Option Reassembly) → Option ℕ
+oldest places = position (is_oldest places) places
+
+-- a place becomes free
+abbrev pub without : Option ℕ → List (Option Reassembly) → List (Option Reassembly)
+without None places = places
+without (Some i) places = slice_set places i None
+
+-- the oldest gives way; where no place is taken, nothing changes
+abbrev pub without_oldest : List (Option Reassembly) → List (Option Reassembly)
+without_oldest places = without (oldest places) places
+
+-- One datagram is gone: none that was put together began before it, and none at its moment stood in an earlier place. Its place is free,
+-- and every other place is as it was.
+pub record LosesOldest (places new : List (Option Reassembly)) : Type 0 where
+  pub place : ℕ
+  pub gone : Reassembly
+  pub stood : slice_index_or places place None ≡ Some gone
+  pub oldest : (i : ℕ) (other : Reassembly) → slice_index_or places i None ≡ Some other → gone.since.0 ≤ other.since.0
+  pub first : (i : ℕ) (other : Reassembly) → i < place → slice_index_or places i None ≡ Some other → gone.since.0 < other.since.0
+  pub free : slice_index_or new place None ≡ None
+  pub others : (i : ℕ) → i ≢ place → slice_index_or new i None ≡ slice_index_or places i None
+  pub fewer : count_by is_some places ≡ count_by is_some new + 1
+  pub same_length : length new ≡ length places

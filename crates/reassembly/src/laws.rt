@@ -1,18 +1,23 @@
 //! Laws of the definitions that the contracts of this crate cite: each is the contract of a function that does nothing.
 
-ghost use Rattle.std.specs.Prelude.{◌≡◌, ◌≢◌, ◌<◌, ◌≤◌, ◌↔◌, ◌++◌, ◌∷◌, [], ℕ, List, All, length, true, false, Option, Some, None, IfSome, IsTrue, is_some, option_map, slice_index_or};
+ghost use Rattle.std.specs.Prelude.{◌≡◌, ◌≢◌, ◌<◌, ◌≤◌, ◌↔◌, ◌++◌, ◌∷◌, ◌||◌, [], ℕ, List, All, length, nat_lt, true, false, Option, Some, None, IfSome, IsTrue, is_some, option_map, slice_index_or};
 ghost use Rattle.std.specs.List.{Any};
 ghost use Rattle.ipv4.specs.Datagram.{Datagram};
 ghost use Rattle.clock.specs.declared.moment.Moment.{Moment};
+ghost use Rattle.clock.specs.Moments.{after};
+ghost use Rattle.reassembly.specs.declared.finished.Finished.{Finished};
+ghost use Rattle.reassembly.specs.declared.key.Key.{Key};
+ghost use Rattle.reassembly.specs.declared.lately.TheConstants.{MOST_LATELY};
 ghost use Rattle.reassembly.specs.declared.pool.TheConstants.{PLACES};
 ghost use Rattle.reassembly.specs.declared.assembled.Assembled.{Assembled};
 ghost use Rattle.reassembly.specs.declared.assembled.Assembled.TheVariants.{Waiting};
 ghost use Rattle.reassembly.specs.Events.{Event, after_events, gathered, IsRight, IsRightFor};
 ghost use Rattle.reassembly.specs.Fragments.{key_of, latest, latest_quote, end_shown_by, is_contradictory, IsPayload};
 ghost use Rattle.reassembly.specs.Keys.{same_key};
+ghost use Rattle.reassembly.specs.Lately.{noted, was_whole, with_room};
 ghost use Rattle.reassembly.specs.Octets.{whole_of};
 ghost use Rattle.reassembly.specs.Parts.{ArePartsOf, CoverAll};
-ghost use Rattle.reassembly.specs.Places.{AnswersTake, after_age, expired, next_deadline};
+ghost use Rattle.reassembly.specs.Places.{AnswersTake, LosesOldest, after_age, expired, next_deadline, place_for, without_oldest};
 ghost use Rattle.reassembly.specs.Reassembly.{Reassembly, begun, after_fragments, conflicts, deadline_of, outcome};
 ghost use Rattle.reassembly.specs.Reassembly.Outcome.{Waits, Completes, GivesUp};
 
@@ -168,7 +173,35 @@ pub fn parts_over_events()
         → taken ≢ Waiting }
 {}
 
-/// What the public constant is: a pool has four places, which is this stack's own number.
+/// A fragment alone never makes a datagram whole: what does so was never cut. So the fragment that makes a datagram whole always finds
+/// others of it in their place.
+pub fn a_fragment_alone_is_not_whole()
+    ensures { (now : Moment) (d : Datagram) (payload quote : List ℕ) → outcome d (begun now d) ≡ Completes payload quote
+        → (d.more_fragments ≡ false) × (d.offset ≡ 0) }
+{}
+
+/// What gives way is the oldest of them and none else: one place becomes free, of a datagram that began no later than any other, and of
+/// several of one moment it is the first place. Where none is put together nothing changes. And then there is a place for the fragments
+/// with any key.
+pub fn the_oldest_gives_way()
+    ensures none { (places : List (Option Reassembly)) → All (λ place. place ≡ None) places → without_oldest places ≡ places }
+    ensures oldest { (places : List (Option Reassembly)) (i : ℕ) (r : Reassembly) → slice_index_or places i None ≡ Some r
+        → LosesOldest places (without_oldest places) }
+    ensures room { (places : List (Option Reassembly)) (key : Key) → 0 < length places → IsTrue (is_some (place_for key (without_oldest places))) }
+{}
+
+/// A datagram counts as whole lately for a second from the moment on at which it was noted as whole, and not for longer; it is forgotten
+/// before that only where 64 others are noted after it.
+pub fn whole_within_the_last_second()
+    ensures noted { (finished : List Finished) (key : Key) (since now : Moment)
+        → was_whole key now (noted key since finished) ≡ (nat_lt now.0 (after since 1000).0 || was_whole key now (with_room finished)) }
+    ensures others { (finished : List Finished) (key other : Key) (since now : Moment) → same_key other key ≡ false
+        → was_whole key now (noted other since finished) ≡ was_whole key now (with_room finished) }
+    ensures few { (finished : List Finished) (key : Key) (since : Moment) → length finished ≤ 64 → length (noted key since finished) ≤ 64 }
+{}
+
+/// What the public constants are: a pool has four places, and 64 datagrams that were whole are known, which are this stack's own numbers.
 pub fn constants()
-    ensures { PLACES ≡ 4 }
+    ensures places { PLACES ≡ 4 }
+    ensures lately { MOST_LATELY ≡ 64 }
 {}

@@ -7,7 +7,7 @@ ghost use Rattle.std.specs.Io.BufRead.{Rests};
 ghost use Rattle.reassembly.specs.contracts.place.Place.{the_row};
 ghost use Rattle.reassembly.specs.Inside.{seen, place_seen};
 ghost use Rattle.reassembly.specs.Octets.{whole_of, is_covered, filled};
-ghost use Rattle.reassembly.specs.Places.{is_of, after_time, expired_of};
+ghost use Rattle.reassembly.specs.Places.{is_of, after_time, began_from, expired_of};
 ghost use Rattle.reassembly.specs.Reassembly.{Answers, begun, continued, deadline_of, end_after, left, outcome, quote_after};
 
 use crate::assembled::{Assembled, Loss};
@@ -67,6 +67,33 @@ impl Place {
             None => false,
             Some(pending) => pending.key.is(key),
         }
+    }
+
+    /// When the first fragment of its datagram arrived.
+    pub(crate) fn since(&self) -> Option<Moment>
+        ensures { result ≡ option_map (λ r. r.since) self.now }
+    {
+        match &self.pending {
+            None => None,
+            Some(pending) => Some(pending.since),
+        }
+    }
+
+    /// Whether nothing that is put together there began before this moment.
+    pub(crate) fn began_from(&self, since: Moment) -> bool
+        ensures { result ≡ began_from since self.now }
+    {
+        match &self.pending {
+            None => true,
+            Some(pending) => since <= pending.since,
+        }
+    }
+
+    /// Ends its datagram, whatever became of it.
+    pub(crate) fn empty(&mut self)
+        ensures { self.new ≡ None }
+    {
+        self.pending = None;
     }
 
     /// When the time of its datagram runs out.

@@ -3,9 +3,11 @@
 ghost use Rattle.std.specs.Prelude.{◌≡◌, ◌≤◌, ◌<◌, None, IfOk, IfSome, is_none, is_some, length, position, replicate};
 ghost use Rattle.std.specs.Borrow.{sem};
 ghost use Rattle.std.specs.Io.BufRead.{Rests};
+ghost use Rattle.std.specs.List.{list_all};
 ghost use Rattle.reassembly.specs.contracts.pool.Pool.{the_row};
+ghost use Rattle.reassembly.specs.Events.{has_place};
 ghost use Rattle.reassembly.specs.Fragments.{key_of};
-ghost use Rattle.reassembly.specs.Places.{is_of, place_for, after_take, AnswersTake, after_age, expired, next_deadline};
+ghost use Rattle.reassembly.specs.Places.{is_of, place_for, after_take, AnswersTake, after_age, began_from, expired, is_oldest, next_deadline, oldest, without_oldest};
 
 use crate::assembled::{Assembled, Loss};
 use crate::expired::Expired;
@@ -76,6 +78,20 @@ impl Pool {
         place_for(&self.places, Key::of(fragment)).is_some()
     }
 
+    /// Whether the datagram with this key is put together.
+    pub fn holds(&self, key: Key) -> bool
+        ensures { result ≡ has_place key self.now }
+    {
+        self.places.iter().any(|place| place.is_of(key))
+    }
+
+    /// What each pool keeps of itself, for the contracts above; it changes nothing.
+    pub fn sound(&self)
+        ensures { length self.now ≡ PLACES }
+    {
+        let _ = &self.places;
+    }
+
     /// Ends each datagram whose first fragment arrived sixty seconds ago or earlier (RFC 1122 section 3.3.2), and tells those of
     /// which a fragment zero came, in the order of their places.
     pub fn age(&mut self, now: Moment) -> ArrayVec<Expired, PLACES>
@@ -89,6 +105,17 @@ impl Pool {
             }
         }
         expired
+    }
+
+    /// Ends the datagram whose first fragment arrived before those of all others, and of several of one moment that in the first
+    /// place, so that another may begin. Nothing changes where none is put together.
+    pub fn give_way(&mut self)
+        ensures { self.new ≡ without_oldest self.old }
+    {
+        if let Some(i) = oldest(&self.places) {
+            let place = &mut self.places[i];
+            place.empty();
+        }
     }
 
     /// When the time of a datagram runs out next (RFC 1122 section 3.3.2).
@@ -129,4 +156,29 @@ fn free_place(places: &[Place]) -> Option<usize>
     ensures within { IfSome result (λ i. i < length places.now) }
 {
     places.iter().position(|place| place.is_free())
+}
+
+/// The place of the datagram that began first.
+fn oldest(places: &[Place]) -> Option<usize>
+    ensures value { result ≡ oldest places.now }
+    ensures within { IfSome result (λ i. i < length places.now) }
+{
+    places.iter().position(|place| is_oldest(places, place))
+}
+
+/// Whether a datagram is put together in a place, and none of these began before it.
+fn is_oldest(places: &[Place], place: &Place) -> bool
+    ensures { result ≡ is_oldest places.now place.now }
+{
+    match place.since() {
+        None => false,
+        Some(since) => all_began_from(places, since),
+    }
+}
+
+/// Whether none of these began before this moment.
+fn all_began_from(places: &[Place], since: Moment) -> bool
+    ensures { result ≡ list_all (began_from since) places.now }
+{
+    places.iter().all(|place| place.began_from(since))
 }

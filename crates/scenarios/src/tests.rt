@@ -34,4 +34,5 @@ mod selective;
 mod simultaneous;
 mod stations;
 mod tails;
+mod ways;
 mod world;

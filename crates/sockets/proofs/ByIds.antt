@@ -12,7 +12,7 @@ use Rattle.sockets.specs.Entries.{is_socket}
 use Rattle.sockets.specs.Ids.{has_id, AreAscending}
 use Rattle.sockets.specs.Lists.{change_first}
 use Rattle.sockets.specs.Causes.{Event, Follows}
-use Rattle.sockets.specs.Steps.{event_of, listener_left, is_reset_given_up, connected, view_left, IsSocketLeft, remains, changes, opens, IsLeft, IsOneEvent}
+use Rattle.sockets.specs.Steps.{event_of, listener_left, is_let_go, connected, view_left, IsSocketLeft, remains, changes, opens, IsLeft, IsOneEvent}
 use Rattle.sockets.specs.SocketsView.{SocketsView}
 use Rattle.sockets.proofs.Ascending.{ascends_followed}
 use Rattle.sockets.proofs.Followed.{IsNothing, by_test}
@@ -119,7 +119,7 @@ pub one_id : (h : SocketsView) (e : Event) (x y : Entry) → IsOneEvent h e x (S
 one_id h e x y step = by_role x.role step
   where
     by_role : (r : Role) → IsLeft h e x.id r (Some y) → y.id ≡ x.id
-    by_role (Connected c l) is = kept_id (is_reset_given_up h e (connected x.id c l)) x.id (listener_left h e (connected x.id c l) l) (view_left c (event_of h e (connected x.id c l))) y is
+    by_role (Connected c l) is = kept_id (is_let_go h e (connected x.id c l)) x.id (listener_left h e (connected x.id c l) l) (view_left c (event_of h e (connected x.id c l))) y is
     by_role (Idle buffers bound) is = socket_id h e (record { id = x.id; role = Idle buffers bound }) y is
     by_role (Listener local backlog) is = socket_id h e (record { id = x.id; role = Listener local backlog }) y is
     by_role (Datagrams bound queues) is = socket_id h e (record { id = x.id; role = Datagrams bound queues }) y is

@@ -38,7 +38,7 @@ use Rattle.sockets.proofs.Ends.{eqb-same, same_end-same}
 use Rattle.sockets.proofs.Emitting.{segment_sends}
 use Rattle.sockets.proofs.Opened.{found_passes}
 use Rattle.sockets.proofs.Followed.{IsNothing, by_test, joined_by, follows_map}
-use Rattle.sockets.proofs.Steps.{IsEventOf, closes_it, resets_it, aborts_it, ticks_it, comes_to_it, goes_out, tells_it, loses_it, entry, IsStepOf, stays, moves, ends, binds, listens, opens, accepted, requeues, binds_datagrams, closed, given_up, IsJoining, made, made_datagrams, called, IsStepped, followed, joined, stepped}
+use Rattle.sockets.proofs.Steps.{IsEventOf, closes_it, resets_it, aborts_it, ticks_it, comes_to_it, goes_out, tells_it, loses_it, entry, IsStepOf, stays, moves, ends, binds, listens, opens, accepted, requeues, binds_datagrams, closed, given_up, gave_way, IsJoining, made, made_datagrams, called, IsStepped, followed, joined, stepped}
 
 -- One connection.
 
@@ -170,6 +170,7 @@ step_caused h e _ _ sound (requeues id bound before after) = (refl, tt, λ close
 step_caused h e _ _ sound (binds_datagrams id bound local before after takes) = (refl, tt, λ closes. cc, λ error told. inl told)
 step_caused h _ _ _ sound (closed how named id role socket alone) = or_left _ _ (both _ _ socket (alone_caused how h.kept role alone))
 step_caused h _ _ _ sound (given_up lost now x gone) = or_left _ _ gone
+step_caused h _ _ _ sound (gave_way meant x next) = next
 
 -- what is added is what an event may add
 pub joining_added : (h : SocketsView) (e : Event) (x : Entry) → IsJoining h e x → IsAdded h e (x ∷ [])

@@ -38,62 +38,65 @@ sooner_some a b m e = grind (arith, nat_tests)
 sooner_none : (a b : Option Moment) → sooner a b ≡ None → (a ≡ None) × (b ≡ None)
 sooner_none a b e = grind (arith, nat_tests)
 
--- The least of a list's deadlines, from one on.
+-- The least of what is told of a list's entries, as their deadlines, from one on.
 
-abbrev least_from : Option Moment → List Entry → Option Moment
-least_from least xs = fold (λ (least : Option Moment) (e : Entry). sooner least (deadline_of e.role)) least xs
+module _ (at : Role → Option Moment) where
+  abbrev pub least_from : Option Moment → List Entry → Option Moment
+  least_from least xs = fold (λ (least : Option Moment) (e : Entry). sooner least (at e.role)) least xs
 
-abbrev HasIt : Moment → List Entry → Type 0
-HasIt m xs = (e : Entry) × Contains xs e × (deadline_of e.role ≡ Some m)
+  abbrev pub HasIt : Moment → List Entry → Type 0
+  HasIt m xs = (e : Entry) × Contains xs e × (at e.role ≡ Some m)
 
-abbrev AreLater : Moment → List Entry → Type 0
-AreLater m xs = AllByRecursion (λ (e : Entry). (other : Moment) → deadline_of e.role ≡ Some other → m.0 ≤ other.0) xs
+  abbrev pub AreLater : Moment → List Entry → Type 0
+  AreLater m xs = AllByRecursion (λ (e : Entry). (other : Moment) → at e.role ≡ Some other → m.0 ≤ other.0) xs
 
-record IsLeast (first : Option Moment) (xs : List Entry) (m : Moment) : Type 0 where
-  one : (first ≡ Some m) ⊎ HasIt m xs
-  before : (d : Moment) → first ≡ Some d → m.0 ≤ d.0
-  others : AreLater m xs
+  pub record IsLeast (first : Option Moment) (xs : List Entry) (m : Moment) : Type 0 where
+    pub one : (first ≡ Some m) ⊎ HasIt m xs
+    pub before : (d : Moment) → first ≡ Some d → m.0 ≤ d.0
+    pub others : AreLater m xs
 
-has_here : (x : Entry) (xs : List Entry) (m : Moment) → deadline_of x.role ≡ Some m → HasIt m (x ∷ xs)
-has_here x xs m at = (x, (0, omega arith, refl), at)
+  has_here : (x : Entry) (xs : List Entry) (m : Moment) → at x.role ≡ Some m → HasIt m (x ∷ xs)
+  has_here x xs m is = (x, (0, omega arith, refl), is)
 
-has_there : (x : Entry) (xs : List Entry) (m : Moment) → HasIt m xs → HasIt m (x ∷ xs)
-has_there x xs m h = let k : ℕ = h.1.0 in let within : k < length xs = h.1.1 in (h.0, (suc k, omega arith, h.1.2), h.2)
+  has_there : (x : Entry) (xs : List Entry) (m : Moment) → HasIt m xs → HasIt m (x ∷ xs)
+  has_there x xs m h = let k : ℕ = h.1.0 in let within : k < length xs = h.1.1 in (h.0, (suc k, omega arith, h.1.2), h.2)
 
-least : (first : Option Moment) (xs : List Entry) (m : Moment) → least_from first xs ≡ Some m → IsLeast first xs m
-least first [] m is = record { one = inl is; before = λ d e. let same : ◌≡◌ {A = Option Moment} (Some m) (Some d) = sym is ∙ e in own m d same; others = tt }
-least first (x ∷ xs) m is = joined (least (sooner first (deadline_of x.role)) xs m is)
-  where
-    one_of : (sooner first (deadline_of x.role) ≡ Some m) ⊎ HasIt m xs → (first ≡ Some m) ⊎ HasIt m (x ∷ xs)
-    one_of (inr h) = inr (has_there x xs m h)
-    one_of (inl e) = elim (sooner_some first (deadline_of x.role) m e).one [ inl f ↦ inl f | inr f ↦ inr (has_here x xs m f) ]
+  pub least : (first : Option Moment) (xs : List Entry) (m : Moment) → least_from first xs ≡ Some m → IsLeast first xs m
+  least first [] m is = record { one = inl is; before = λ d e. let same : ◌≡◌ {A = Option Moment} (Some m) (Some d) = sym is ∙ e in own m d same; others = tt }
+  least first (x ∷ xs) m is = joined (least (sooner first (at x.role)) xs m is)
+    where
+      one_of : (sooner first (at x.role) ≡ Some m) ⊎ HasIt m xs → (first ≡ Some m) ⊎ HasIt m (x ∷ xs)
+      one_of (inr h) = inr (has_there x xs m h)
+      one_of (inl e) = elim (sooner_some first (at x.role) m e).one [ inl f ↦ inl f | inr f ↦ inr (has_here x xs m f) ]
 
-    some_of : (o : Option Moment) → sooner first (deadline_of x.role) ≡ o → ((d : Moment) → sooner first (deadline_of x.role) ≡ Some d → m.0 ≤ d.0) → ((d : Moment) → first ≡ Some d → m.0 ≤ d.0) × ((d : Moment) → deadline_of x.role ≡ Some d → m.0 ≤ d.0)
-    some_of None e below = let none = sooner_none first (deadline_of x.role) e in (λ d f. cc (none.0), λ d f. cc (none.1))
-    some_of (Some n) e below =
-        let both = sooner_some first (deadline_of x.role) n e in
-        let less : m.0 ≤ n.0 = below n e in
-        (λ d f. let more : n.0 ≤ d.0 = both.left d f in omega arith, λ d f. let more : n.0 ≤ d.0 = both.right d f in omega arith)
+      some_of : (o : Option Moment) → sooner first (at x.role) ≡ o → ((d : Moment) → sooner first (at x.role) ≡ Some d → m.0 ≤ d.0) → ((d : Moment) → first ≡ Some d → m.0 ≤ d.0) × ((d : Moment) → at x.role ≡ Some d → m.0 ≤ d.0)
+      some_of None e below = let none = sooner_none first (at x.role) e in (λ d f. cc (none.0), λ d f. cc (none.1))
+      some_of (Some n) e below =
+          let both = sooner_some first (at x.role) n e in
+          let less : m.0 ≤ n.0 = below n e in
+          (λ d f. let more : n.0 ≤ d.0 = both.left d f in omega arith, λ d f. let more : n.0 ≤ d.0 = both.right d f in omega arith)
 
-    joined : IsLeast (sooner first (deadline_of x.role)) xs m → IsLeast first (x ∷ xs) m
-    joined rest = let both = some_of (sooner first (deadline_of x.role)) refl rest.before in record { one = one_of rest.one; before = both.0; others = (both.1, rest.others) }
+      joined : IsLeast (sooner first (at x.role)) xs m → IsLeast first (x ∷ xs) m
+      joined rest = let both = some_of (sooner first (at x.role)) refl rest.before in record { one = one_of rest.one; before = both.0; others = (both.1, rest.others) }
 
-none_from : (first : Option Moment) (xs : List Entry) → least_from first xs ≡ None → (first ≡ None) × AllByRecursion (λ (e : Entry). deadline_of e.role ≡ None) xs
-none_from first [] is = (is, tt)
-none_from first (x ∷ xs) is =
-    let rest = none_from (sooner first (deadline_of x.role)) xs is in
-    let both = sooner_none first (deadline_of x.role) rest.0 in
-    (both.0, (both.1, rest.1))
+  none_from : (first : Option Moment) (xs : List Entry) → least_from first xs ≡ None → (first ≡ None) × AllByRecursion (λ (e : Entry). at e.role ≡ None) xs
+  none_from first [] is = (is, tt)
+  none_from first (x ∷ xs) is =
+      let rest = none_from (sooner first (at x.role)) xs is in
+      let both = sooner_none first (at x.role) rest.0 in
+      (both.0, (both.1, rest.1))
+
+-- .. and so of their deadlines.
 
 pub least_found : (h : SocketsView) (moment : Moment) → least_deadline h ≡ Some moment → IsLeastDeadline h moment
-least_found h moment is = let l = least None h.entries moment is in record { has = one l.one; least = l.others }
+least_found h moment is = let l = least deadline_of None h.entries moment is in record { has = one l.one; least = l.others }
   where
-    one : (None ≡ Some moment) ⊎ HasIt moment h.entries → HasIt moment h.entries
+    one : (None ≡ Some moment) ⊎ HasIt deadline_of moment h.entries → HasIt deadline_of moment h.entries
     one (inl e) = cc
     one (inr has) = has
 
 pub none_found : (h : SocketsView) → least_deadline h ≡ None → HasNoDeadline h
-none_found h is = (none_from None h.entries is).1
+none_found h is = (none_from deadline_of None h.entries is).1
 
 -- A moment before the deadline.
 
@@ -114,7 +117,7 @@ role_waits : (role : Role) (now : Moment) → has_come (deadline_of role) now �
 role_waits (Connected c l) now e = (kept_at c now e, ap (λ (v : View). Connected v l) (waits c now e))
 role_waits _ now e = (refl, refl)
 
-entries_wait : (first : Option Moment) (xs : List Entry) (now : Moment) → has_come (least_from first xs) now ≡ false → (has_come first now ≡ false) × (entries_after_steps (tick_fate_of now) (role_after_tick now) xs ≡ xs)
+entries_wait : (first : Option Moment) (xs : List Entry) (now : Moment) → has_come (least_from deadline_of first xs) now ≡ false → (has_come first now ≡ false) × (entries_after_steps (tick_fate_of now) (role_after_tick now) xs ≡ xs)
 entries_wait first [] now e = (e, refl)
 entries_wait first (x ∷ xs) now e =
     let rest = entries_wait (sooner first (deadline_of x.role)) xs now e in

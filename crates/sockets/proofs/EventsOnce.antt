@@ -7,7 +7,7 @@ use Rattle.ipv4.specs.declared.addr.Endpoint.{Endpoint}
 use Rattle.clock.specs.declared.moment.Moment.{Moment}
 use Rattle.tcp_segment.specs.declared.head.Head.{Head}
 use Rattle.tcp_segment.specs.Segment.{Segment}
-use Rattle.tcp_state.specs.declared.connection.Fate.TheVariants.{Stays, Rejected}
+use Rattle.tcp_state.specs.declared.connection.Fate.TheVariants.{Stays, Removed, Rejected}
 use Rattle.tcp_state.specs.View.{View}
 use Rattle.tcp_state.specs.Edges as edge
 use Rattle.tcp_state.proofs.Edges.{and_right}
@@ -22,11 +22,12 @@ use Rattle.sockets.specs.Lists.{change_first}
 use Rattle.sockets.specs.Entries.{on_connection, in_connection, on_datagrams, is_socket, is_between, waits_at, is_waiting_id, sends, is_kept, entries_after_step, entries_after_steps, is_datagrams_at, with_role}
 use Rattle.sockets.specs.Entries as role
 use Rattle.sockets.specs.SocketsView.{SocketsView, later_moment}
+use Rattle.sockets.specs.GiveWay.{gives_way}
 use Rattle.tcp_state.specs.Hop.{hopless_fate}
 use Rattle.sockets.specs.Lost.{is_given_up, is_hopless, give_up_fate_of, role_after_giving_up}
 use Rattle.sockets.specs.Calls.{after_socket_left, after_leaving}
 use Rattle.sockets.specs.Arrival.{local_end, peer_end, arrival_with_reply}
-use Rattle.sockets.specs.Causes.{Event, Makes, MakesDatagrams, Binds, Listens, Accepts, Connects, Sends, Receives, Shuts, SetsNoDelay, SetsKeepAlive, Leaves, Ticks, Hears, Emits, GivesUp, Unreachable, SendsTo, ReceivesFrom, HearsDatagram, after_arrival, after_event, is_next_out, IsAdded, Follows}
+use Rattle.sockets.specs.Causes.{Event, Makes, MakesDatagrams, Binds, Listens, Accepts, Connects, Sends, Receives, Shuts, SetsNoDelay, SetsKeepAlive, Leaves, Ticks, Hears, Emits, GivesUp, GivesWay, Unreachable, SendsTo, ReceivesFrom, HearsDatagram, after_arrival, after_event, is_next_out, is_next_away, IsAdded, Follows}
 use Rattle.sockets.specs.Steps.{connected, closes_socket, remains, changes, closes, IsLeft, IsOneEvent}
 use Rattle.sockets.specs.Order.{IsOrdered}
 use Rattle.sockets.proofs.Arrivals.{by_arrival, IsReply, refusing, to_stray, at_listener}
@@ -37,9 +38,9 @@ use Rattle.sockets.proofs.Ends.{eqb-same}
 use Rattle.sockets.proofs.Opened.{found_passes}
 use Rattle.sockets.proofs.OfferCounts.{by_option}
 use Rattle.sockets.proofs.Ordering.{count_unfound}
-use Rattle.sockets.proofs.Steps.{entry, called}
+use Rattle.sockets.proofs.Steps.{entry, called, next_away}
 use Rattle.sockets.proofs.Told.{told-found, told-none}
-use Rattle.sockets.proofs.Followed.{IsNothing, by_test, joined_by, as_it_was, each_followed, steps_joined}
+use Rattle.sockets.proofs.Followed.{IsNothing, by_test, joined_by, as_it_was, each_followed, settled_followed, steps_joined}
 use Rattle.sockets.proofs.OneEvent.{untouched, joined_apart, changed_first, once_settled, ids_once, socket_once, readded, passed, passed_over, took, taken_out, settles_once, sockets_change}
 use Rattle.udp_socket.specs.SocketView.{after_read}
 use Rattle.udp_socket.specs.Emission.{after_part}
@@ -257,6 +258,32 @@ emits_once h goes now o =
     gone what id (Connected c l) next removed = taken_out h e (λ x k. (refl, refl)) (edge.Emits later) (connected id c l) (rw next refl) removed
     gone what id _ next removed = cc
 
+-- What gives way is one entry, a connection.
+
+away_once : (h : SocketsView) (meant : Entry → Bool) → IsOrdered h → Follows (IsOneEvent h (GivesWay meant)) IsNothing h.entries (let w = after_event h (GivesWay meant) in w.entries)
+away_once h meant o =
+    by_option (find (gives_way meant) h.entries)
+    (λ none. settled_followed (IsOneEvent h e) IsNothing refl Removed (gives_way meant) (λ r. r) h.entries (λ x. passed h e (λ y l. (rw none refl, refl)) x refl refl) (λ kept x passes at. cc) (λ gone x passes at. let bad : None ≡ Some x = sym none ∙ at in cc))
+    (λ first found.
+    let next : is_next_away h meant first ≡ true = next_away h meant first found in
+    once_settled (IsOneEvent h e) (is_next_away h meant) (λ x other. others x.id x.role other) (gives_way meant) first next Removed (λ r. r) (λ kept. cc) (λ gone. goes first.id first.role next (found_passes (gives_way meant) h.entries first found)) h.entries found
+    (ids_once first.id.0 (is_next_away h meant) (λ x passes. let same : (first.id.0 == x.id.0) ≡ true = rw found at passes in sym (eqb-true first.id.0 x.id.0 same)) 0 h.last_id h.entries o.ids))
+  where
+    e : Event
+    e = GivesWay meant
+
+    others : (id : SocketId) (r : Role) → is_next_away h meant (entry id r) ≡ false → IsLeft h e id r (Some (entry id r))
+    others id (Connected c l) other = rw other refl
+    others id (Idle buffers bound) other = remains refl
+    others id (Listener l b) other = remains refl
+    others id (Datagrams bound queues) other = remains refl
+
+    goes : (id : SocketId) (r : Role) → is_next_away h meant (entry id r) ≡ true → gives_way meant (entry id r) ≡ true → IsLeft h e id r None
+    goes id (Connected c l) next may = rw next refl
+    goes id (Idle buffers bound) next may = let no : false ≡ true = and_right (meant (entry id (Idle buffers bound))) false may in cc
+    goes id (Listener l b) next may = let no : false ≡ true = and_right (meant (entry id (Listener l b))) false may in cc
+    goes id (Datagrams bound queues) next may = let no : false ≡ true = and_right (meant (entry id (Datagrams bound queues))) false may in cc
+
 -- Every event.
 
 plain : (h : SocketsView) (e : Event) → IsAdded h e [] → Follows (IsOneEvent h e) IsNothing h.entries (let w = after_event h e in w.entries) → Follows (IsOneEvent h e) (IsAdded h e) h.entries (let w = after_event h e in w.entries)
@@ -279,6 +306,7 @@ one_event h (Ticks now) o = plain h (Ticks now) refl (ticks_once h now)
 one_event h (Hears now isn source s) o = hears_once h now isn source s o
 one_event h (Emits goes now) o = plain h (Emits goes now) refl (emits_once h goes now o)
 one_event h (GivesUp lost now) o = plain h (GivesUp lost now) refl (given_up_once h lost now)
+one_event h (GivesWay meant) o = plain h (GivesWay meant) refl (away_once h meant o)
 one_event h (Unreachable local peer number) o = plain h (Unreachable local peer number) refl (told_once h local peer number o)
 one_event h (SendsTo id peer octets routed) o = plain h (SendsTo id peer octets routed) refl (sent_once h id peer octets routed)
 one_event h (ReceivesFrom id len) o = plain h (ReceivesFrom id len) refl (queues_change h (ReceivesFrom id len) (λ x l. (refl, refl)) (λ x. refl) (λ x. refl) (λ bound. bound) after_read (is_socket id) (λ x passes. passes))

@@ -7,6 +7,8 @@ pub mod Connected
 pub mod Arrived
 pub mod Arrivals
 pub mod Foreseen
+pub mod GivenWay
+pub mod GivenRoom
 pub mod Emitting
 pub mod Queues
 pub mod Traffic

@@ -18,7 +18,9 @@ use Rattle.tcp_state.specs.Edges.{after_first}
 use Rattle.tcp_state.specs.Unreachable.{after_unreachable}
 use Rattle.tcp_halves.proofs.Choices.{and_left, and_right}
 use Rattle.tcp_state.proofs.Clocked.{expiries_keep, emission}
+use Rattle.tcp_halves.proofs.Choices.{and_false}
 use Rattle.sockets.specs.declared.entry.SocketId.{SocketId}
+use Rattle.sockets.specs.GiveWay.{may_give_way}
 use Rattle.sockets.specs.declared.emission.Outgoing.{Outgoing}
 use Rattle.sockets.specs.declared.role.Role.{Role}
 use Rattle.sockets.specs.declared.role.Role.TheVariants.{Idle, Listener, Connected, Datagrams}
@@ -257,6 +259,14 @@ give_up-stays lost now (Connected c l) kept p =
 give_up-stays lost now r kept p = quiet r (role_after_giving_up lost now r) refl refl (omega arith)
 
 -- taken out is one that owes a reset, and was left, or one that is left, or in SYN-RECEIVED
+-- what may give way was never ready
+pub give_way-gone : (id : SocketId) (r : Role) → may_give_way (record { id = id; role = r }) ≡ true → IsPlain r → is_ready r ≡ false
+give_way-gone id (Connected c (Some l)) may p =
+    by_test (is_syn_received c.state)
+    (λ opens. rw opens (and_false (not c.released)))
+    (λ past. let none : (c.passive && is_syn_received c.state) ≡ false = rw past (and_false c.passive) in let bad : false ≡ true = sym (ap (λ b. b || false) none) ∙ may in cc)
+give_way-gone id _ may p = refl
+
 pub give_up-gone : (lost : Addr → Bool) (now : Moment) (r : Role) → is_kept (give_up_fate_of lost now r) ≡ false → IsPlain r → is_ready r ≡ false
 give_up-gone lost now r gone p = gone-by r unready p
   where

@@ -12,6 +12,7 @@ use Rattle.tcp_state.specs.View.{View}
 use Rattle.tcp_state.specs.Edges as edge
 use Rattle.tcp_state.specs.Arrival.{opened_passively}
 use Rattle.tcp_state.specs.declared.connection.Fate.{Fate}
+use Rattle.tcp_state.specs.declared.connection.Fate.TheVariants.{Removed}
 use Rattle.tcp_state.proofs.Edges.{and_right}
 use Rattle.sockets.specs.declared.datagrams.Reception.{Reception}
 use Rattle.sockets.specs.declared.datagrams.Reception.TheVariants.{Queued}
@@ -22,6 +23,7 @@ use Rattle.sockets.specs.declared.role.Leave.{Leave}
 use Rattle.sockets.specs.declared.role.Role.{Role}
 use Rattle.sockets.specs.Entries.{is_socket, waits_at, is_waiting_at, is_waiting_as, is_waiting_id, backlog_of, is_between, is_listening_at, sends, is_kept, is_offered_by, entries_after_step, entries_after_steps, fate_of, role_after_segment, role_after_unreachable, unreachable_fate_of, role_after_tick, tick_fate_of, role_after_emission, emission_fate_of, role_after_listener_close, listener_close_fate_of, leaving_event, role_after_leaving, leaving_fate_of, role_after_bind, role_after_listen, role_after_connect, role_after_accept, new_socket, new_datagram_socket, new_waiting, on_connection, on_datagrams, is_datagrams_at, with_role}
 use Rattle.sockets.specs.SocketsView.{SocketsView, later_moment, with_socket}
+use Rattle.sockets.specs.GiveWay.{gives_way}
 use Rattle.sockets.specs.Lost.{role_after_giving_up, give_up_fate_of}
 use Rattle.sockets.specs.Emission.{after_segment_sent}
 use Rattle.sockets.specs.Unreachable.{after_unreachable}
@@ -29,7 +31,7 @@ use Rattle.sockets.specs.Calls.{is_table_full, port_bound, after_bind, next_offe
 use Rattle.sockets.specs.Datagrams.{end_sent_from, after_sendto, reception, after_reception}
 use Rattle.sockets.specs.Arrival.{room_for, local_end, peer_end, has_no_room, arrival_with_reply, offered_with, arrival, after_opening}
 use Rattle.sockets.specs.Lists.{change_first, remove_first}
-use Rattle.sockets.specs.Causes.{Event, Makes, MakesDatagrams, Binds, Listens, Accepts, Connects, Sends, Receives, Shuts, SetsNoDelay, SetsKeepAlive, Leaves, Ticks, Hears, Emits, GivesUp, Unreachable, SendsTo, ReceivesFrom, HearsDatagram, Follows, after_arrival, after_event}
+use Rattle.sockets.specs.Causes.{Event, Makes, MakesDatagrams, Binds, Listens, Accepts, Connects, Sends, Receives, Shuts, SetsNoDelay, SetsKeepAlive, Leaves, Ticks, Hears, Emits, GivesUp, GivesWay, Unreachable, SendsTo, ReceivesFrom, HearsDatagram, Follows, after_arrival, after_event}
 use Rattle.sockets.specs.Order.{IsAllowed}
 use Rattle.sockets.specs.Offered.{is_ready}
 use Rattle.sockets.proofs.Offered.{next-test, next-none}
@@ -38,7 +40,7 @@ use Rattle.sockets.proofs.Arrivals.{IsTaker, after_taking, by_arrival}
 use Rattle.sockets.proofs.Opened.{found_passes}
 use Rattle.sockets.proofs.OfferCounts.{by_option, same-id}
 use Rattle.sockets.proofs.Emitting.{found_due, segment_sent-found, segment_sent-none}
-use Rattle.sockets.proofs.OfferRoles.{IsPlain, is_waking, Carries, Turned, StaysReady, as-it-was, socket-stays, socket-unready, bound-stays, listening-stays, connecting-stays, queued-stays, tick-stays, tick-gone, emission-stays, emission-gone, give_up-stays, give_up-gone, told-stays, told-gone, forsaken-withdrawn, forsaken-gone, accepted-carries}
+use Rattle.sockets.proofs.OfferRoles.{IsPlain, is_waking, Carries, Turned, StaysReady, as-it-was, socket-stays, socket-unready, bound-stays, listening-stays, connecting-stays, queued-stays, tick-stays, tick-gone, emission-stays, emission-gone, give_up-stays, give_up-gone, give_way-gone, told-stays, told-gone, forsaken-withdrawn, forsaken-gone, accepted-carries}
 use Rattle.sockets.proofs.OfferHeard.{heard-stays, heard-carries, heard-gone, offered-waking, offered-kept, offered-ready}
 
 -- An entry, and what is left of it: where roles stay so it is ready as before, and else it is ready no longer; it goes only where it was not ready, or doesn't stay so ..
@@ -343,6 +345,7 @@ outcome h (Hears now isn source s) allowed = segment-outcome h now isn source s
 outcome h (Emits goes now) allowed = emission-outcome h goes now
 outcome h (GivesUp lost now) allowed =
     let later = later_moment h now in still h _ refl refl (all-settled (give_up_fate_of lost later) (role_after_giving_up lost later) h.entries (give_up-stays lost later) (give_up-gone lost later))
+outcome h (GivesWay meant) allowed = still h _ refl refl (settled_followed IsCalm IsNothing refl Removed (gives_way meant) (λ r. r) h.entries calm (λ kept x passes at. cc) (λ gone x passes at. give_way-gone x.id x.role (and_right (meant x) _ passes)))
 outcome h (Unreachable local peer number) allowed = error-outcome h local peer number
 outcome h (SendsTo id peer octets routed) allowed = sendto-outcome h id peer octets routed
 outcome h (ReceivesFrom id len) allowed = still h _ refl refl (changed (is_socket id) (on_datagrams _ _) h.entries (λ x passes. queued-stays _ _ x.role))

@@ -16,7 +16,7 @@ use Rattle.sockets.specs.Lists.{change_first, remove_first}
 use Rattle.sockets.specs.Entries.{on_connection, in_connection, is_socket, is_kept, entries_after_step, with_role}
 use Rattle.sockets.specs.SocketsView.{SocketsView, with_socket}
 use Rattle.sockets.specs.Causes.{Event, Follows}
-use Rattle.sockets.specs.Steps.{event_of, listener_left, is_reset_given_up, connected, connection_left, closes_socket, remains, IsLeft, IsOneEvent}
+use Rattle.sockets.specs.Steps.{event_of, listener_left, is_let_go, connected, connection_left, closes_socket, remains, IsLeft, IsOneEvent}
 use Rattle.sockets.specs.Order.{IsOrdered}
 use Rattle.sockets.proofs.Opened.{found_passes}
 use Rattle.sockets.proofs.OfferCounts.{one-true, one-false, count-cons, count-found}
@@ -121,7 +121,7 @@ readded Step Added none (x ∷ xs) (y ∷ ys) (inr f) = inr (f.0, readded Step A
 
 -- an event by which no reset is given up and nothing is accepted
 abbrev pub IsPlain : SocketsView → Event → Type 0
-IsPlain h e = (x : Entry) (l : Option SocketId) → (is_reset_given_up h e x ≡ false) × (listener_left h e x l ≡ l)
+IsPlain h e = (x : Entry) (l : Option SocketId) → (is_let_go h e x ≡ false) × (listener_left h e x l ≡ l)
 
 module _ (h : SocketsView) (e : Event) where
   module _ (plain : IsPlain h e) where

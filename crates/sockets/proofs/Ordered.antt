@@ -34,7 +34,7 @@ use Rattle.sockets.proofs.Queues.{sendto-refused, sendto-given, sent-from}
 use Rattle.sockets.proofs.Ends.{same_end-true}
 use Rattle.sockets.proofs.FirstPorts.{given_passes, given_dynamic}
 use Rattle.sockets.proofs.Followed.{IsNothing, by_test, some_same, first_changed, follows_map, all_joined}
-use Rattle.sockets.proofs.Steps.{IsStepOf, stays, moves, ends, binds, listens, opens, accepted, requeues, binds_datagrams, closed, given_up, takes_end, IsJoining, made, made_datagrams, called, IsFollowed, IsStepped, followed, joined, stepped}
+use Rattle.sockets.proofs.Steps.{IsStepOf, stays, moves, ends, binds, listens, opens, accepted, requeues, binds_datagrams, closed, given_up, gave_way, takes_end, IsJoining, made, made_datagrams, called, IsFollowed, IsStepped, followed, joined, stepped}
 use Rattle.sockets.proofs.KeptEnds.{keeps-nothing, keeps-event}
 use Rattle.sockets.proofs.Ordering.{IsBound, Keeps, keeps_role, keeps_connection, keeps_queues, nowhere, no_port, ordered_by, ordered_still, count_changed, count_joined, count_unfound, count_none}
 
@@ -55,6 +55,7 @@ step_keeps h e own free _ _ (requeues id bound before after) = (refl, keeps_queu
 step_keeps h e own free _ _ (binds_datagrams id bound local before after takes) = let bad : true ≡ false = sym takes ∙ free in cc
 step_keeps h _ own free _ _ (closed how named id role socket alone) = tt
 step_keeps h _ own free _ _ (given_up lost now x gone) = tt
+step_keeps h _ own free _ _ (gave_way meant x next) = tt
 
 followed_ordered : (h : SocketsView) (e : Event) (w : SocketsView) → takes_end e ≡ false → IsFollowed h e w → IsOrdered h → IsOrdered w
 followed_ordered h e w free f o =

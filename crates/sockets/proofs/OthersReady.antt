@@ -55,7 +55,7 @@ find_changed test q change (x ∷ xs) e found before after =
     rw here (rw (new, old) refl))
     (λ there. rw there (ap (λ (o : Option Entry). cond (q x) (Some x) o) (find_changed test q change xs e (found_behind test x xs (Some e) there found) before after)))
 
-find_removed : (test q : Entry → Bool) (xs : List Entry) (e : Entry) → find test xs ≡ Some e → q e ≡ false → find q (remove_first test xs) ≡ find q xs
+pub find_removed : (test q : Entry → Bool) (xs : List Entry) (e : Entry) → find test xs ≡ Some e → q e ≡ false → find q (remove_first test xs) ≡ find q xs
 find_removed test q [] e found before = refl
 find_removed test q (x ∷ xs) e found before =
     by_test (test x)

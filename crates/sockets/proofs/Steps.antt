@@ -30,6 +30,7 @@ use Rattle.sockets.specs.declared.role.Role.{Role}
 use Rattle.sockets.specs.declared.role.Role.TheVariants.{Idle, Listener, Connected, Datagrams}
 use Rattle.sockets.specs.Entries.{on_connection, in_connection, on_datagrams, is_socket, waits_at, is_waiting_at, is_waiting_id, is_between, sends, new_socket, new_datagram_socket, new_waiting, is_kept, entries_after_step, entries_after_steps, role_after_bind, role_after_listen, role_after_connect, role_after_accept, is_closed_by, leaving_event, role_after_leaving, leaving_fate_of, role_after_listener_close, listener_close_fate_of, role_after_tick, tick_fate_of, with_first, role_after_emission, emission_fate_of, is_datagrams_at, with_role}
 use Rattle.sockets.specs.SocketsView.{SocketsView, later_moment, role_of, with_socket}
+use Rattle.sockets.specs.GiveWay.{gives_way}
 use Rattle.sockets.specs.Lists.{change_first}
 use Rattle.tcp_state.specs.Hop.{hopless_fate}
 use Rattle.sockets.specs.Lost.{is_given_up, is_hopless, loses_hop, role_after_giving_up, give_up_fate_of}
@@ -38,13 +39,14 @@ use Rattle.sockets.specs.Unreachable.{after_unreachable}
 use Rattle.sockets.specs.Calls.{port_bound, after_bind, is_next_at, port_connected, after_connect, after_socket_left, after_leaving}
 use Rattle.sockets.specs.Datagrams.{end_sent_from, after_sendto, reception, after_reception}
 use Rattle.sockets.specs.Arrival.{room_for, local_end, peer_end, arrival_with_reply}
-use Rattle.sockets.specs.Causes.{Event, Makes, MakesDatagrams, Binds, Listens, Accepts, Connects, Sends, Receives, Shuts, SetsNoDelay, SetsKeepAlive, Leaves, Ticks, Hears, Emits, GivesUp, Unreachable, SendsTo, ReceivesFrom, HearsDatagram, after_arrival, after_event, IsAdded, Follows}
+use Rattle.sockets.specs.Causes.{Event, Makes, MakesDatagrams, Binds, Listens, Accepts, Connects, Sends, Receives, Shuts, SetsNoDelay, SetsKeepAlive, Leaves, Ticks, Hears, Emits, GivesUp, GivesWay, Unreachable, SendsTo, ReceivesFrom, HearsDatagram, after_arrival, after_event, is_next_away, IsAdded, Follows}
 use Rattle.sockets.specs.Timing.{IsUpTo}
 use Rattle.sockets.specs.Traffic.{datagrams_taken}
 use Rattle.sockets.proofs.Arrivals.{IsCalled, by_arrival}
 use Rattle.sockets.proofs.Emitting.{found_due, segment_sent-found, segment_sent-none}
 use Rattle.sockets.proofs.Queues.{sendto-refused, sendto-given, queued-change, no_room-same, no_socket-same}
 use Rattle.sockets.proofs.Told.{told-found, told-none}
+use Rattle.sockets.proofs.Ends.{eqb-same}
 use Rattle.sockets.proofs.Followed.{IsNothing, by_test, some_same, as_it_was, first_changed, each_followed, settled_followed, steps_joined}
 
 -- An event of the table that is one of an entry's connection: a call of its socket, the close or the abort of the listener that it waits at, a tick, a segment of its
@@ -77,7 +79,7 @@ takes_end _ = false
 
 -- An entry, and what an event leaves of it. A connection goes on by one event of its own, or is taken out by it; an idle socket is bound, listens, or opens a
 -- connection; a connection is accepted; and the queues of a UDP socket change, or it is bound. Without an event of its connection an entry is taken out where
--- its socket without one is closed or aborted, or its reset is given up. Any other stays as it was.
+-- its socket without one is closed or aborted, its reset is given up, or it gives way to another. Any other stays as it was.
 pub data IsStepOf (h : SocketsView) : Event → Entry → Option Entry → Type 0 where
   stays : {e : Event} {x : Entry} → IsStepOf h e x (Some x)
   moves : {e : Event} (ev : edge.Event) (id : SocketId) (c : View) (l : Option SocketId) → IsEventOf h (entry id (Connected c l)) e ev → is_kept (edge.fate_by c ev) ≡ true
@@ -94,6 +96,7 @@ pub data IsStepOf (h : SocketsView) : Event → Entry → Option Entry → Type 
   binds_datagrams : {e : Event} (id : SocketId) (bound : Option Endpoint) (local : Endpoint) (before after : Queues) → takes_end e ≡ true → IsStepOf h e (entry id (Datagrams bound before)) (Some (entry id (Datagrams (Some local) after)))
   closed : (how : Leave) (named id : SocketId) (role : Role) → is_socket named (entry id role) ≡ true → in_connection true (λ c. false) role ≡ true → IsStepOf h (Leaves how named) (entry id role) None
   given_up : (lost : Addr → Bool) (now : Moment) (x : Entry) → is_given_up lost (later_moment h now) x.role ≡ true → IsStepOf h (GivesUp lost now) x None
+  gave_way : (meant : Entry → Bool) (x : Entry) → is_next_away h meant x ≡ true → IsStepOf h (GivesWay meant) x None
 
 -- what an event adds: a socket, or a connection that a segment opens where none is
 pub data IsJoining (h : SocketsView) : Event → Entry → Type 0 where
@@ -423,6 +426,10 @@ module _ (h : SocketsView) (lost : Addr → Bool) (now : Moment) where
       (λ reached. let kept : is_kept (give_up_fate_of lost by_then (Connected c l)) ≡ true = rw (other, reached) in cc))
   gone_up id _ gone = cc
 
+-- What gives way is the first that may and is meant.
+pub next_away : (h : SocketsView) (meant : Entry → Bool) (x : Entry) → find (gives_way meant) h.entries ≡ Some x → is_next_away h meant x ≡ true
+next_away h meant x found = rw found (eqb-same x.id.0)
+
 -- An error comes, or a datagram.
 
 error_stepped : (h : SocketsView) (local peer : Endpoint) (number : ℕ) → IsStepped h (Unreachable local peer number) (after_unreachable h local peer number)
@@ -483,6 +490,9 @@ stepped h (GivesUp lost now) =
     plain h (GivesUp lost now) _ _ refl
     (each_followed (IsStepOf h (GivesUp lost now)) IsNothing refl (λ x. is_kept (give_up_fate_of lost (later_moment h now) x.role)) (with_role (role_after_giving_up lost (later_moment h now))) h.entries
     (λ x kept. giving_up h lost now x.id x.role kept) (λ x gone. gone_up h lost now x.id x.role gone))
+stepped h (GivesWay meant) =
+    plain h (GivesWay meant) _ _ refl
+    (settled_followed (IsStepOf h (GivesWay meant)) IsNothing refl Removed (gives_way meant) (λ r. r) h.entries (λ x. stays) (λ kept x passes at. cc) (λ gone x passes at. gave_way meant x (next_away h meant x at)))
 stepped h (Unreachable local peer number) = error_stepped h local peer number
 stepped h (SendsTo id peer octets routed) = sendto_stepped h id peer octets routed
 stepped h (ReceivesFrom id len) = plain h (ReceivesFrom id len) _ _ refl (changes h (ReceivesFrom id len) (is_socket id) (on_datagrams (λ bound. bound) after_read) (λ x passes. queued h (ReceivesFrom id len) x.id after_read x.role))

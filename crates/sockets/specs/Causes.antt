@@ -21,6 +21,7 @@ use Rattle.sockets.specs.Entries.{in_connection, is_socket, is_waiting_at, is_be
 use Rattle.sockets.specs.SocketsView.{SocketsView, later_moment}
 use Rattle.sockets.specs.Ticks.{after_tick}
 use Rattle.sockets.specs.Lost.{is_given_up, loses_hop, after_giving_up}
+use Rattle.sockets.specs.GiveWay.{gives_way, after_giving_way}
 use Rattle.sockets.specs.Emission.{after_segment_sent}
 use Rattle.sockets.specs.Unreachable.{after_unreachable}
 use Rattle.sockets.specs.Calls.{after_socket, after_datagram_socket, after_bind, after_listen, after_accept, after_connect, after_send, after_recv, after_shutdown, after_nodelay, after_keepalive, after_leaving}
@@ -46,6 +47,7 @@ pub data Event : Type 0 where
   Hears : Moment → ℕ → Addr → Segment → Event
   Emits : (Addr → Bool) → Moment → Event
   GivesUp : (Addr → Bool) → Moment → Event
+  GivesWay : (Entry → Bool) → Event
   Unreachable : Endpoint → Endpoint → ℕ → Event
   SendsTo : SocketId → Endpoint → List ℕ → Bool → Event
   ReceivesFrom : SocketId → ℕ → Event
@@ -75,6 +77,7 @@ after_event h (Ticks now) = after_tick h now
 after_event h (Hears now isn source s) = after_arrival h (arrival h now isn source s)
 after_event h (Emits goes now) = after_segment_sent h goes now
 after_event h (GivesUp lost now) = after_giving_up h lost now
+after_event h (GivesWay meant) = after_giving_way h meant
 after_event h (Unreachable local peer number) = after_unreachable h local peer number
 after_event h (SendsTo id peer octets routed) = after_sendto h id peer octets routed
 after_event h (ReceivesFrom id len) = after_recvfrom h id
@@ -92,19 +95,28 @@ is_next_out h goes x = of_entry (find (sends goes) h.entries)
     of_entry None = false
     of_entry (Some first) = first.id.0 == x.id.0
 
+-- it gives way to another: of the entries that may and are meant it is the first
+abbrev pub is_next_away : SocketsView → (Entry → Bool) → Entry → Bool
+is_next_away h meant x = of_entry (find (gives_way meant) h.entries)
+  where
+    of_entry : Option Entry → Bool
+    of_entry None = false
+    of_entry (Some first) = first.id.0 == x.id.0
+
 -- its caller's leaving ends it: nothing is left of a socket without a connection, and a connection ends as its own rules say
 abbrev pub is_leaving_cause : Leave → Moment → Role → Bool
 is_leaving_cause how now role = in_connection true (λ c. edge.is_cause c (leaving_event how now c)) role
 
 -- What ends an entry: that its socket is closed or aborted, as its role says, or the listener that it waits at; and for a connection a segment of its two
 -- ends, a tick, the going out of its segment, a hard error about a segment between its two ends or the loss of its hop, each as its own rules say, or
--- that its reset is given up. No datagram ends one.
+-- that its reset is given up; or that it gives way to another. No datagram ends one.
 abbrev pub is_cause_for : SocketsView → Event → Entry → Bool
 is_cause_for h (Leaves how id) x = (is_socket id x && is_leaving_cause how h.kept x.role) || is_waiting_at id x
 is_cause_for h (Ticks now) x = is_connection_cause (edge.Ticks (later_moment h now)) x.role
 is_cause_for h (Hears now isn source s) x = is_between (local_end h s) (peer_end source s) x && is_connection_cause (edge.Hears s (later_moment h now)) x.role
 is_cause_for h (Emits goes now) x = is_next_out h goes x && is_connection_cause (edge.Emits (later_moment h now)) x.role
 is_cause_for h (GivesUp lost now) x = is_given_up lost (later_moment h now) x.role || (loses_hop lost x.role && is_connection_cause (edge.LosesHop (later_moment h now)) x.role)
+is_cause_for h (GivesWay meant) x = is_next_away h meant x
 is_cause_for h (Unreachable local peer number) x = is_between local peer x && is_connection_cause (edge.Unreachable number) x.role
 is_cause_for h _ x = false
 

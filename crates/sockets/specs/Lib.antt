@@ -12,6 +12,7 @@ pub mod Calls
 pub mod Datagrams
 pub mod Arrival
 pub mod Needs
+pub mod GiveWay
 pub mod Pairs
 pub mod Ready
 pub mod Unreachable

@@ -13,7 +13,7 @@ use Rattle.sockets.specs.SocketsView.{SocketsView}
 use Rattle.sockets.specs.Ports.{IsDynamic}
 use Rattle.sockets.specs.Calls.{is_table_full, bind_refusal, listen_refusal, accept_answer, connect_refusal, send_answer, recv_answer, shutdown_refusal, nodelay_refusal, keepalive_refusal, close_refusal}
 use Rattle.sockets.specs.Datagrams.{sendto_answer, recvfrom_answer}
-use Rattle.sockets.specs.Causes.{Event, Makes, MakesDatagrams, Binds, Listens, Accepts, Connects, Sends, Receives, Shuts, SetsNoDelay, SetsKeepAlive, Leaves, Ticks, Hears, Emits, GivesUp, Unreachable, SendsTo, ReceivesFrom, HearsDatagram}
+use Rattle.sockets.specs.Causes.{Event, Makes, MakesDatagrams, Binds, Listens, Accepts, Connects, Sends, Receives, Shuts, SetsNoDelay, SetsKeepAlive, Leaves, Ticks, Hears, Emits, GivesUp, GivesWay, Unreachable, SendsTo, ReceivesFrom, HearsDatagram}
 
 -- bound to the port over TCP without a connection, or a listener at it
 abbrev pub has_for_itself : ℕ → Role → Bool
@@ -62,6 +62,7 @@ IsAllowed h (Ticks now) = Unit {0}
 IsAllowed h (Hears now isn source s) = same_addr source h.addr ≡ false
 IsAllowed h (Emits goes now) = Unit {0}
 IsAllowed h (GivesUp lost now) = Unit {0}
+IsAllowed h (GivesWay meant) = Unit {0}
 IsAllowed h (Unreachable local peer number) = Unit {0}
 IsAllowed h (SendsTo id peer octets routed) = is_ok (sendto_answer h id peer octets routed) ≡ true
 IsAllowed h (ReceivesFrom id len) = is_ok (recvfrom_answer h id len) ≡ true

@@ -15,7 +15,7 @@ use Rattle.sockets.specs.SocketsView.{SocketsView, later_moment}
 use Rattle.sockets.specs.Lost.{is_given_up, loses_hop}
 use Rattle.sockets.specs.Calls.{is_next_at, port_connected}
 use Rattle.sockets.specs.Arrival.{local_end, peer_end}
-use Rattle.sockets.specs.Causes.{Event, Binds, Listens, Accepts, Connects, Sends, Receives, Shuts, SetsNoDelay, SetsKeepAlive, Leaves, Ticks, Hears, Emits, GivesUp, Unreachable, SendsTo, ReceivesFrom, HearsDatagram, is_next_out}
+use Rattle.sockets.specs.Causes.{Event, Binds, Listens, Accepts, Connects, Sends, Receives, Shuts, SetsNoDelay, SetsKeepAlive, Leaves, Ticks, Hears, Emits, GivesUp, GivesWay, Unreachable, SendsTo, ReceivesFrom, HearsDatagram, is_next_out, is_next_away}
 use Rattle.sockets.specs.Traffic.{is_stream}
 
 -- Which event of an entry's connection an event of the table is, if any: a call of its socket, but for a read into an empty buffer; the close or the abort of its
@@ -45,10 +45,11 @@ abbrev pub listener_left : SocketsView → Event → Entry → Option SocketId �
 listener_left h (Accepts id) x listener = if is_next_at h id x then None else listener
 listener_left h _ x listener = listener
 
--- the reset of an abort is given up, and its connection with it
-abbrev pub is_reset_given_up : SocketsView → Event → Entry → Bool
-is_reset_given_up h (GivesUp lost now) x = is_given_up lost (later_moment h now) x.role
-is_reset_given_up h _ x = false
+-- a connection is let go, by no event of its own: the reset of an abort is given up, and its connection with it, or it gives way to another
+abbrev pub is_let_go : SocketsView → Event → Entry → Bool
+is_let_go h (GivesUp lost now) x = is_given_up lost (later_moment h now) x.role
+is_let_go h (GivesWay meant) x = is_next_away h meant x
+is_let_go h _ x = false
 
 -- an entry with a connection
 abbrev pub connected : SocketId → View → Option SocketId → Entry
@@ -57,7 +58,7 @@ connected id c listener = record { id = id; role = Connected c listener }
 -- what an event of the table leaves of it
 abbrev pub connection_left : SocketsView → Event → SocketId → View → Option SocketId → Option Entry
 connection_left h e id c listener =
-    if is_reset_given_up h e (connected id c listener) then None
+    if is_let_go h e (connected id c listener) then None
     else option_map (λ d. connected id d (listener_left h e (connected id c listener) listener)) (view_left c (event_of h e (connected id c listener)))
 
 -- the close or the abort of a socket without a connection

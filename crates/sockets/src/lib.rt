@@ -11,6 +11,7 @@ pub mod duties;
 mod emission;
 mod entry;
 mod given_up;
+pub mod giving;
 mod index;
 mod info;
 pub mod laws;
@@ -28,6 +29,7 @@ mod state;
 mod table;
 mod taken;
 mod unreachable;
+mod way;
 
 pub use calls::{LEAST_KEEPALIVE, MOST_BACKLOG};
 pub use datagrams::Reception;

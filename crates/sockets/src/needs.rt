@@ -88,7 +88,7 @@ impl Sockets {
     }
 
     /// Whether as many connections wait at this listener as its backlog allows.
-    fn is_backlog_full(&self, listener: &Entry) -> bool
+    pub(crate) fn is_backlog_full(&self, listener: &Entry) -> bool
         ensures { result ≡ is_backlog_full self.now listener.now }
     {
         table::waiting_at(&self.entries, listener.id) >= listener.role.backlog()

@@ -118,6 +118,10 @@ fn is_closed_by(connection: &Connection, how: Leave) -> bool
 /// What a role shows.
 impl Role {
     ghost use Rattle.sockets.specs.Pairs.{pair_in};
+    ghost use Rattle.std.specs.Prelude.{◌&&◌, ◌||◌, false, is_some};
+    ghost use Rattle.tcp_state.specs.Way.{is_unanswered, lies_past};
+    ghost use Rattle.sockets.specs.Entries.{in_connection, is_pending, is_half_open};
+    ghost use Rattle.sockets.specs.GiveWay.{left_since, is_left_since};
     ghost use Rattle.sockets.specs.Lost.{is_given_up, give_up_at};
     ghost use Rattle.sockets.specs.Sound.{IsSoundRole};
 
@@ -160,6 +164,69 @@ impl Role {
                 listener: Some(id),
                 ..
             } => *id == listener,
+            _ => false,
+        }
+    }
+
+    /// Whether this is a connection that waits at `listener`, and whose SYN-ACK went out a second ago or more and is not answered.
+    pub(crate) fn is_unanswered_at(&self, listener: SocketId) -> bool
+        ensures { result ≡ (waits_at listener self.now && in_connection false is_unanswered self.now) }
+    {
+        match self {
+            Role::Connected {
+                connection,
+                listener: Some(id),
+            } => *id == listener && connection.is_unanswered(),
+            _ => false,
+        }
+    }
+
+    /// Since when this is a connection in TIME-WAIT that its caller closed.
+    pub(crate) fn left_since(&self) -> Option<Moment>
+        ensures { result ≡ left_since self.now }
+    {
+        match self {
+            Role::Connected {
+                connection,
+                listener: None,
+            } => connection.left_since(),
+            _ => None,
+        }
+    }
+
+    /// Whether it is so since this moment.
+    pub(crate) fn is_left_since(&self, moment: Moment) -> bool
+        ensures { result ≡ is_left_since moment self.now }
+    {
+        match self.left_since() {
+            Some(since) => since == moment,
+            None => false,
+        }
+    }
+
+    /// Whether this may give way to another connection: it waits half open at a listener, or in TIME-WAIT where no caller has it.
+    pub(crate) fn may_give_way(&self) -> bool
+        ensures { result ≡ ((is_pending self.now && is_half_open self.now) || is_some (left_since self.now)) }
+    {
+        match self {
+            Role::Connected {
+                connection,
+                listener: Some(_),
+            } => connection.is_half_open(),
+            Role::Connected {
+                connection,
+                listener: None,
+            } => connection.left_since().is_some(),
+            _ => false,
+        }
+    }
+
+    /// Whether this is a connection past whose last number that was heard this segment's lies.
+    pub(crate) fn lies_past(&self, segment: &TcpView<'_>) -> bool
+        ensures { result ≡ in_connection false (λ c. lies_past c segment.now) self.now }
+    {
+        match self {
+            Role::Connected { connection, .. } => connection.lies_past(segment),
             _ => false,
         }
     }

@@ -7,6 +7,7 @@ ghost use Rattle.sockets.specs.Arrival.{offered_with};
 ghost use Rattle.clock.specs.Moments.{sooner};
 ghost use Rattle.ipv4.specs.declared.addr.Addr.{Addr};
 ghost use Rattle.sockets.specs.Lost.{give_up_fate_of, role_after_giving_up};
+ghost use Rattle.sockets.specs.GiveWay.{is_unanswered_at, is_left_since, longest_left, longest_id, first_id, gives_way};
 ghost use Rattle.sockets.specs.Sound.{IsSoundRole};
 ghost use Rattle.sockets.specs.Ids.{AreAscending, AreInOrder, has_id};
 ghost use Rattle.sockets.specs.Index.{index_of};
@@ -119,6 +120,52 @@ pub(crate) fn waiting_as(entries: &[Entry], listener: SocketId, id: SocketId) ->
 {
     let place = place_of(entries, id)?;
     entries[place].role.waits_at(listener).then_some(place)
+}
+
+/// The id of the first connection that waits at `listener`, and whose SYN-ACK went out a second ago or more and is not answered.
+pub(crate) fn unanswered_at(entries: &[Entry], listener: SocketId) -> Option<SocketId>
+    ensures { result ≡ first_id (is_unanswered_at listener) entries.now }
+{
+    entries
+        .iter()
+        .find(|entry| entry.role.is_unanswered_at(listener))
+        .map(|entry| entry.id)
+}
+
+/// Since when it is in TIME-WAIT that is so longest, of the connections that no caller has.
+fn longest_since(entries: &[Entry]) -> Option<Moment>
+    ensures { result ≡ longest_left entries.now }
+{
+    entries.iter().fold(None, |least, entry| sooner(least, entry.role.left_since()))
+}
+
+/// The id of the first that is so since this moment.
+fn left_since(entries: &[Entry], since: Moment) -> Option<SocketId>
+    ensures { result ≡ first_id (λ x. is_left_since since x.role) entries.now }
+{
+    entries
+        .iter()
+        .find(|entry| entry.role.is_left_since(since))
+        .map(|entry| entry.id)
+}
+
+/// The id of what has been longest in TIME-WAIT, of the connections that no caller has.
+pub(crate) fn longest_left(entries: &[Entry]) -> Option<SocketId>
+    ensures { result ≡ longest_id entries.now }
+{
+    match longest_since(entries) {
+        Some(since) => left_since(entries, since),
+        None => None,
+    }
+}
+
+/// The place of the connection that `id` names, where it may give way.
+pub(crate) fn giving_way(entries: &[Entry], id: SocketId) -> Option<usize>
+    requires { AreInOrder entries.now }
+    ensures { result ≡ position (gives_way (has_id id)) entries.now }
+{
+    let place = place_of(entries, id)?;
+    entries[place].role.may_give_way().then_some(place)
 }
 
 /// Whether the connection that `id` names waits at `listener`.

@@ -34,3 +34,4 @@ pub mod Duties
 pub mod Progress
 pub mod Info
 pub mod Tail
+pub mod Way

@@ -31,6 +31,7 @@ mod state;
 mod tail;
 pub mod telling;
 mod timing;
+mod way;
 
 pub use alive::{KeepAlive, MOST_KEEPALIVE};
 pub use calls::{Received, Refusal};

@@ -32,6 +32,7 @@ use Rattle.sockets.specs.Calls.{unless_refused, bind_refusal, listen_refusal, ac
 use Rattle.sockets.specs.Causes as table
 use Rattle.sockets.specs.Datagrams.{sendto_answer, recvfrom_answer}
 use Rattle.sockets.specs.Order.{IsAllowed}
+use Rattle.sockets.specs.Ids.{has_id}
 use Rattle.sockets.specs.SocketsView.{SocketsView, room_of}
 use Rattle.sockets.specs.Timing as timing
 use Rattle.sockets.specs.Leaving as leaving
@@ -134,6 +135,7 @@ called i now (call.SetNoDelay id on) h answer new small meets = answered i now _
 called i now (call.SetKeepAlive id every) h answer new small meets = answered i now _ _ h (table.SetsKeepAlive id every) answer new tt (λ latest up. tt) (tt, tt) (unrefused (keepalive_refusal h id every)) meets
 called i now (call.Close id) h answer new small meets = answered i now _ _ h (table.Leaves Close id) answer new tt (λ latest up. tt) (tt, tt) (unrefused (close_refusal h id)) meets
 called i now (call.Abort id) h answer new small meets = answered i now _ _ h (table.Leaves Abort id) answer new tt (λ latest up. tt) (tt, tt) (unrefused (close_refusal h id)) meets
+called i now (call.GiveWay id) h answer new small meets = answered i now (Ok (tt {0})) (λ _. reply.Done) h (table.GivesWay (has_id id)) answer new tt (λ latest up. tt) (tt, tt) (λ _. tt) meets
 called i now (call.State id) h answer new small meets = asked i now (state_answer h id) _ h answer new meets
 called i now (call.Ready id) h answer new small meets = asked i now (readiness h id) _ h answer new meets
 called i now (call.Info id) h answer new small meets = asked i now (info_answer h id) _ h answer new meets

@@ -91,6 +91,7 @@ same_event (event.Call s c) = (refl, same_call c)
     same_call (call.SetKeepAlive i every) = refl
     same_call (call.Close i) = refl
     same_call (call.Abort i) = refl
+    same_call (call.GiveWay i) = refl
     same_call (call.State i) = refl
     same_call (call.Ready i) = refl
     same_call (call.Info i) = refl

@@ -27,6 +27,8 @@ use Rattle.wire_sim.specs.declared.event.Opening.{Opening}
 use Rattle.wire_sim.specs.declared.world.bag.Frame.{Frame}
 use Rattle.wire_sim.specs.declared.world.bag.Note.{Note}
 use Rattle.wire_sim.specs.declared.world.station.Station.{Station}
+use Rattle.sockets.specs.GiveWay.{after_giving_way}
+use Rattle.sockets.specs.Ids.{has_id}
 use Rattle.sockets.specs.Info.{info_answer}
 use Rattle.sockets.specs.Ready.{readiness}
 use Rattle.sockets.specs.Calls.{unless_refused, is_table_full, IsMade, bind_refusal, after_bind, listen_refusal, after_listen, accept_answer, after_accept, connect_refusal, after_connect, send_answer, after_send, recv_answer, after_recv, shutdown_refusal, after_shutdown, nodelay_refusal, after_nodelay, keepalive_refusal, after_keepalive, close_refusal, after_close, after_abort, state_answer, sockname_answer, peername_answer}
@@ -118,6 +120,7 @@ MeetsCall routed now (call.SetNoDelay id on) h answer new = Answers (unless_refu
 MeetsCall routed now (call.SetKeepAlive id every) h answer new = Answers (unless_refused (keepalive_refusal h id every) (tt {0})) (λ _. reply.Done) (after_keepalive h id every) h answer new
 MeetsCall routed now (call.Close id) h answer new = Answers (unless_refused (close_refusal h id) (tt {0})) (λ _. reply.Done) (after_close h id) h answer new
 MeetsCall routed now (call.Abort id) h answer new = Answers (unless_refused (close_refusal h id) (tt {0})) (λ _. reply.Done) (after_abort h id) h answer new
+MeetsCall routed now (call.GiveWay id) h answer new = Answers (Ok (tt {0})) (λ _. reply.Done) (after_giving_way h (has_id id)) h answer new
 MeetsCall routed now (call.State id) h answer new = Answers (state_answer h id) (λ state. reply.State state) h h answer new
 MeetsCall routed now (call.Ready id) h answer new = Answers (readiness h id) (λ ready. reply.Ready ready) h h answer new
 MeetsCall routed now (call.Info id) h answer new = Answers (info_answer h id) (λ info. reply.Info info) h h answer new

@@ -79,6 +79,10 @@ pub enum Call {
     Abort {
         id: SocketId,
     },
+    /// Lets a connection give way to another, as a host on its guard does before it takes a frame or makes a socket.
+    GiveWay {
+        id: SocketId,
+    },
     /// Asks for a socket's state.
     State {
         id: SocketId,

@@ -138,8 +138,10 @@ impl<'a> Config<'a> {
 
     /// Where this is on, the host is on its guard: it drops what comes from the address of a network on its link, or of all its hosts, and ARP packets of such an
     /// address, of a group's MAC and of its own (RFC 1122 section 3.2.1.3); it takes no octets with an acknowledgement older than the largest window of the
-    /// peer is wide, answers at most ten segments a second of a connection that it doesn't use (RFC 5961), and a SYN that comes again by the SYN-ACK again. A
-    /// host that meets a real network wants it on.
+    /// peer is wide, answers at most ten segments a second of a connection that it doesn't use (RFC 5961), and a SYN that comes again by the SYN-ACK again.
+    /// Where a SYN or a socket finds no room, a half-open connection whose SYN-ACK nobody answered for a second gives way, or one in TIME-WAIT that was closed
+    /// here; and such a one to a SYN between its ends that is past all that was heard on it. To a fragment the oldest datagram that is put together gives
+    /// way, and one of a datagram that was whole within the last second begins none. A host that meets a real network wants it on.
     pub fn with_guards(self, guards: bool) -> Config<'a> {
         Config { guards, ..self }
     }

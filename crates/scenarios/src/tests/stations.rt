@@ -3,7 +3,7 @@
 use super::octets::{REPLIED_BACK, REPLY};
 use super::{
     calls, datagrams, drops, endpoints, fragments, gateways, guards, hops, messages, queues, scale,
-    segments,
+    segments, ways,
 };
 use clock::Moment;
 use ether::Mac;
@@ -123,6 +123,8 @@ pub(super) enum Act {
     Damage(usize),
     /// The frame that went out last reaches the other host, with the initial number of what it may open.
     Arrive(u32, Result<(), DropCause>),
+    /// The other host makes way for what the frame that went out last opens there: this connection gives way.
+    WayTo(Option<SocketId>),
     /// The frame that is due goes out, and reaches the other host.
     Pass(u32),
     /// These octets reach the host, with the initial number of what they may open.
@@ -444,6 +446,16 @@ impl Station {
         self.hear_changed(octets, changes) == want
     }
 
+    /// Way is made for a frame: this gives way, and the pair that it opens then is the one that would be opened.
+    fn makes_way(&mut self, octets: &[u8], want: Option<SocketId>) -> bool {
+        let found = self.host.way_for(octets);
+        let opens = self.host.would_open_by_way(octets);
+        if let Some(id) = found {
+            self.host.give_way(id);
+        }
+        found == want && self.host.would_open(octets) == opens
+    }
+
     /// The frame that is due goes out, and reaches the other host.
     fn passes(&mut self, other: &mut Station, isn: u32) -> bool {
         self.emit().is_some() && other.hears(isn, self.sent(), Ok(()))
@@ -498,6 +510,7 @@ pub(super) fn is_answered(station: &mut Station, other: &mut Station, act: Act) 
         Act::Sends(octets) => station.emits_frame(octets),
         Act::Damage(place) => station.damage(place),
         Act::Arrive(isn, want) => other.hears(isn, station.sent(), want),
+        Act::WayTo(want) => other.makes_way(station.sent(), want),
         Act::Pass(isn) => station.passes(other, isn),
         Act::Hear(isn, octets, want) => station.hears(isn, octets, want),
         Act::HearChanged(octets, changes, want) => station.hears_changed(octets, changes, want),
@@ -572,6 +585,8 @@ const OF_MESSAGES: [&[Scenario]; 1] = [messages::SCENARIOS];
 
 const OF_GUARDS: [&[Scenario]; 1] = [guards::SCENARIOS];
 
+const OF_WAYS: [&[Scenario]; 1] = [ways::SCENARIOS];
+
 #[test]
 fn hosts_answer_as_they_should(rt: HostRuntime) {
     for scenarios in &OF_CONNECTIONS {
@@ -590,6 +605,9 @@ fn hosts_answer_as_they_should(rt: HostRuntime) {
         play_all(&rt, rt.alloc(), scenarios);
     }
     for scenarios in &OF_GUARDS {
+        play_all(&rt, rt.alloc(), scenarios);
+    }
+    for scenarios in &OF_WAYS {
         play_all(&rt, rt.alloc(), scenarios);
     }
 }

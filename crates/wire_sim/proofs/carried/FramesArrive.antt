@@ -26,7 +26,7 @@ use Rattle.sockets.specs.Unreachable.{after_unreachable}
 use Rattle.reassembly.specs.Fragments.{quote_of}
 use Rattle.udp.specs.Datagram.{UserDatagram}
 use Rattle.sockets.specs.Datagrams.{reception, after_reception}
-use Rattle.host.specs.Arrival.{fragment_outcome, MeetsSegment, arrival_by_route, segment_arrival, MeetsMessage, MeetsHeard, IsDelivered, foreseen_of, foreseen}
+use Rattle.host.specs.Arrival.{fragment_outcome, is_late_copy, pool_for, MeetsSegment, arrival_by_route, segment_arrival, MeetsMessage, MeetsHeard, IsDelivered, foreseen_of, foreseen}
 use Rattle.host.specs.Heard.{heard_by}
 use Rattle.host.proofs.Guarded.{meant_by}
 use Rattle.host.specs.HostView.{HostView}
@@ -210,7 +210,7 @@ heard-to_table from to out a h h' clock isn f answer own at carries = by_meaning
     by_meaning (Ok (Icmp c)) is meets = by_told (told_by c.message) c meets
     by_meaning (Ok (Other d)) is meets = Aside (ap (λ (w : HostView). w.sockets) meets.1)
     by_meaning (Ok (Udp r)) is meets = by_user (user-arrived (reception h.sockets r.datagram) h h' moment r.carrier.source r.datagram (quote_of r.carrier) meets.1)
-    by_meaning (Ok (UdpFragment d)) is meets = by_user (fragment-arrived (fragment_outcome moment d h.pool) h h' moment d answer meets)
+    by_meaning (Ok (UdpFragment d)) is meets = by_user (fragment-arrived (fragment_outcome moment d (pool_for h.sockets.manner.guards d h.pool)) (is_late_copy h moment d) h h' moment d answer meets)
     by_meaning (Err cause) is meets = Aside (ap (λ (w : HostView). w.sockets) meets.1)
 
 pub frame-to_table : (from to : Side) (out : Sent) (a : Addr) (h h' : HostView) (clock : Moment) (isn : ℕ) (f : Frame) (answer : Answer) → h.interface.addr ≡ h.sockets.addr → h.sockets.addr ≡ a → Carries a from to out f
@@ -284,7 +284,7 @@ frame-heard limit hs ts a b h h' other n bag trace clock isn place f answer is_l
     by_meaning (Ok (Icmp c)) is meets = by_told (told_by c.message) c meets
     by_meaning (Ok (Other d)) is meets = still (ap (λ (w : HostView). w.sockets) meets.1)
     by_meaning (Ok (Udp r)) is meets = by_user (user-arrived (reception h.sockets r.datagram) h h' moment r.carrier.source r.datagram (quote_of r.carrier) meets.1)
-    by_meaning (Ok (UdpFragment d)) is meets = by_user (fragment-arrived (fragment_outcome moment d h.pool) h h' moment d answer meets)
+    by_meaning (Ok (UdpFragment d)) is meets = by_user (fragment-arrived (fragment_outcome moment d (pool_for h.sockets.manner.guards d h.pool)) (is_late_copy h moment d) h h' moment d answer meets)
     by_meaning (Err cause) is meets = still (ap (λ (w : HostView). w.sockets) meets.1)
 
 -- and whatever the host answers

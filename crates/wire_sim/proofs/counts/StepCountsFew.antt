@@ -127,6 +127,7 @@ called-grows side (call.SetNoDelay id on) place i n answer routed now new sound 
 called-grows side (call.SetKeepAlive id every) place i n answer routed now new sound meets = kept-grows n side new i
 called-grows side (call.Close id) place i n answer routed now new sound meets = kept-grows n side new i
 called-grows side (call.Abort id) place i n answer routed now new sound meets = kept-grows n side new i
+called-grows side (call.GiveWay id) place i n answer routed now new sound meets = kept-grows n side new i
 called-grows side (call.State id) place i n answer routed now new sound meets = kept-grows n side new i
 called-grows side (call.Ready id) place i n answer routed now new sound meets = kept-grows n side new i
 called-grows side (call.Info id) place i n answer routed now new sound meets = kept-grows n side new i

@@ -7,6 +7,8 @@ use Rattle.sockets.specs.Ready.{readiness}
 use Rattle.sockets.specs.declared.role.Leave.TheVariants.{Close, Abort}
 use Rattle.sockets.specs.Calls.{unless_refused, bind_refusal, after_bind, listen_refusal, after_listen, accept_answer, after_accept, connect_refusal, after_connect, send_answer, after_send, after_recv, shutdown_refusal, after_shutdown, nodelay_refusal, after_nodelay, keepalive_refusal, after_keepalive, close_refusal, after_close, after_abort, state_answer, sockname_answer, peername_answer}
 use Rattle.sockets.specs.Datagrams.{sendto_answer, after_sendto, recvfrom_answer, after_recvfrom}
+use Rattle.sockets.specs.GiveWay.{after_giving_way}
+use Rattle.sockets.specs.Ids.{has_id}
 use Rattle.sockets.specs.SocketsView.{SocketsView}
 use Rattle.datagram_law.specs.Accepted.{Accepted}
 use Rattle.wire_sim.specs.declared.event.Call.{Call}
@@ -19,7 +21,7 @@ use Rattle.wire_sim.specs.Steps.{MeetsCall, recv_len}
 use Rattle.wire_sim.proofs.tables.CallsOnTable.{outcome}
 use Rattle.wire_sim.proofs.pairing.CallsAreMoves.{socket_outcome, recv_outcome, recvfrom_outcome}
 use Rattle.wire_sim.proofs.datagrams.TablesKeepToAccepted.{IsTableOf}
-use Rattle.wire_sim.proofs.datagrams.TablesOfCalls.{kept-made, kept-bind, kept-listen, kept-accept, kept-connect, kept-send, kept-recv, kept-shutdown, kept-nodelay, kept-keepalive, kept-leaving}
+use Rattle.wire_sim.proofs.datagrams.TablesOfCalls.{kept-made, kept-bind, kept-listen, kept-accept, kept-connect, kept-send, kept-recv, kept-shutdown, kept-nodelay, kept-keepalive, kept-leaving, kept-giving_way}
 use Rattle.wire_sim.proofs.datagrams.TablesOfDatagrams.{kept-sendto, kept-recvfrom}
 
 -- the table keeps to what was accepted with the call
@@ -110,6 +112,7 @@ call-kept own other routed now (call.Abort id) old new answer width numbered m t
       | inl x ↦ unadded own other (after_abort old id) new (kept-leaving own other old Abort id t) x.3
       | inr x ↦ unadded own other old new t x.3
     ]
+call-kept own other routed now (call.GiveWay id) old new answer width numbered m t = unadded own other (after_giving_way old (has_id id)) new (kept-giving_way own other old (has_id id) t) m.1
 call-kept own other routed now (call.State id) old new answer width numbered m t =
     elim (outcome (state_answer old id) (λ s. reply.State s) old old answer new m) [
       | inl x ↦ unadded own other old new t x.3

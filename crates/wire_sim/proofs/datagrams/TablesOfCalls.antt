@@ -21,13 +21,14 @@ use Rattle.sockets.specs.Calls.{of_socket, bound_of, last_port_after, IsMade, an
 use Rattle.sockets.specs.Entries.{is_socket, new_socket as new_entry, new_datagram_socket, with_role, role_after_bind, role_after_listen, role_after_connect, role_after_accept, role_after_leaving, role_after_listener_close, listener_close_fate_of, leaving_fate_of, entries_after_step}
 use Rattle.sockets.specs.Lists.{change_first}
 use Rattle.sockets.specs.Ports.{first_port, is_free_datagram_port}
+use Rattle.sockets.specs.GiveWay.{gives_way, after_giving_way}
 use Rattle.sockets.specs.SocketsView.{SocketsView, new_sockets, later_moment, role_of, with_socket, room_of}
 use Rattle.datagram_law.specs.Accepted.{Accepted, AreInTurn}
 use Rattle.datagram_law.specs.Sockets.{IsSocketOf}
 use Rattle.datagram_law.proofs.Keeping.{new}
 use Rattle.wire_sim.proofs.lists.FoundAfterChange.{All-find, All-changed, All-added, change-none}
 use Rattle.wire_sim.proofs.tables.CallsOnTable.{first_port-below}
-use Rattle.wire_sim.proofs.datagrams.TablesKeepToAccepted.{IsEntryOf, AreEntriesOf, IsTableOf, Keeps, keeps-connection, keeps-listening, keeps-connecting, keeps-accepting, keeps-forsaking, are-more, are-changed, are-settled, are-stepped}
+use Rattle.wire_sim.proofs.datagrams.TablesKeepToAccepted.{IsEntryOf, AreEntriesOf, IsTableOf, Keeps, keeps-connection, keeps-listening, keeps-connecting, keeps-accepting, keeps-forsaking, are-more, are-changed, are-settled, are-stepped, are-removed}
 
 -- nothing was accepted yet
 none-in_turn : AreInTurn []
@@ -183,6 +184,14 @@ kept-socket_left own other h how id t = by_role (role_of h id)
       in_turn = t.in_turn;
       sockets = are-settled own other h.addr (leaving_fate_of how h.kept role) (role_after_leaving how h.kept) (keeps-connection _) (is_socket id) h.entries t.sockets;
     }
+
+-- a connection gives way
+pub kept-giving_way : (own other : List Accepted) (h : SocketsView) (meant : Entry → Bool) → IsTableOf own other h → IsTableOf own other (after_giving_way h meant)
+kept-giving_way own other h meant t = record {
+  numbered = t.numbered;
+  in_turn = t.in_turn;
+  sockets = are-removed own other h.addr (gives_way meant) h.entries t.sockets;
+}
 
 pub kept-leaving : (own other : List Accepted) (h : SocketsView) (how : Leave) (id : SocketId) → IsTableOf own other h → IsTableOf own other (after_leaving h how id)
 kept-leaving own other h how id t =

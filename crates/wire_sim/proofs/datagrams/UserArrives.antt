@@ -1,6 +1,6 @@
 -- What a frame that carries what was accepted makes of the host that takes it: a datagram that is queued was accepted for this host, and what
 -- stays in the pool is of what was.
-use Rattle.std.proofs.Common.{◌≡◌, ◌⊎◌, inl, inr, ℕ, Bool, true, false, List, take, Option, Some, None, option_map, Result, Ok, Err, refl, sym, ◌∙◌, ap, subst}
+use Rattle.std.proofs.Common.{◌≡◌, ◌⊎◌, inl, inr, ℕ, ◌&&◌, Bool, true, false, cond, List, take, Option, Some, None, is_none, option_map, Result, Ok, Err, refl, sym, ◌∙◌, ap, subst}
 use Rattle.ipv4.specs.declared.addr.Addr.{Addr}
 use Rattle.ipv4.specs.declared.addr.Endpoint.{Endpoint}
 use Rattle.ipv4.specs.Datagram.{Datagram}
@@ -13,10 +13,10 @@ use Rattle.frames.specs.declared.meaning.Meaning.TheVariants.{Arp, Tcp, Icmp, Ud
 use Rattle.frames.specs.declared.meaning.ReceivedDatagram.{ReceivedDatagram}
 use Rattle.frames.proofs.Hearers.{users_from_others, users_are_carried, fragments_from_others}
 use Rattle.interface.specs.Ways.{is_routed}
-use Rattle.reassembly.specs.Events.Event.{Takes as taken}
+use Rattle.reassembly.specs.Events.Event.{Takes as taken, GivesWay}
 use Rattle.reassembly.specs.Fragments.{key_of, quote_of}
-use Rattle.reassembly.specs.Places.{after_take, outcome_at, place_for}
-use Rattle.reassembly.specs.Reassembly.{Outcome}
+use Rattle.reassembly.specs.Places.{after_take, outcome_at, place_for, without_oldest}
+use Rattle.reassembly.specs.Reassembly.{Outcome, Reassembly}
 use Rattle.reassembly.specs.Reassembly.Outcome.{Waits, Completes, GivesUp}
 use Rattle.udp.specs.declared.fault.UdpFault.{UdpFault}
 use Rattle.udp.specs.Datagram.{UserDatagram}
@@ -27,7 +27,7 @@ use Rattle.sockets.specs.Arrival.{Arrival, Becomes, Opens, NoRoom, Answers, arri
 use Rattle.sockets.specs.Datagrams.{reception, after_reception}
 use Rattle.sockets.specs.SocketsView.{SocketsView, later_moment}
 use Rattle.sockets.specs.Unreachable.{after_unreachable}
-use Rattle.host.specs.Arrival.{fragment_outcome, MeetsSegment, arrival_by_route, segment_arrival, MeetsMessage, MeetsHeard, MeetsFragment, IsDelivered, after_user_datagram, after_payload, after_outcome}
+use Rattle.host.specs.Arrival.{fragment_outcome, is_late_copy, pool_for, with_noted, MeetsSegment, arrival_by_route, segment_arrival, MeetsMessage, MeetsHeard, MeetsFragment, IsDelivered, after_user_datagram, after_payload, after_outcome}
 use Rattle.host.specs.Heard.{heard_by}
 use Rattle.host.proofs.Guarded.{meant_by}
 use Rattle.host.specs.HostView.{HostView, with_pool}
@@ -97,38 +97,58 @@ whole-sent : (other : List Accepted) (d : Datagram) (payload : List ℕ) (u : Us
 whole-sent other d payload u ours turn whole at read few =
     subst (λ (x : Addr). CameFrom other (record { addr = d.source; port = u.source }) (record { addr = x; port = u.destination }) u.payload) at (came other d payload u turn (whole few) read)
 
--- A fragment.
-fragment-takes : (other : List Accepted) (h h' : HostView) (moment : Moment) (d : Datagram) (answer : Result (Unit {0}) DropCause) → AreInTurn other → IsPoolOf other h.pool → IsOfOne other d → d.destination ≡ h.sockets.addr
-    → MeetsFragment (fragment_outcome moment d h.pool) h moment d answer h' → HostTakes other h h'
-fragment-takes other h h' moment d answer turn pool of at = by_place (place_for (key_of d) h.pool) refl
+-- A fragment. On guard the oldest of the pool may give way to it.
+made-room : (other : List Accepted) (guards : Bool) (d : Datagram) (pool : List (Option Reassembly)) → IsPoolOf other pool → IsPoolOf other (pool_for guards d pool)
+made-room other guards d pool of = by_test (guards && is_none (place_for (key_of d) pool))
   where
-    next : HostView
-    next = with_pool h (after_take moment d h.pool)
+    by_test : (b : Bool) → IsPoolOf other (cond b (without_oldest pool) pool)
+    by_test true = one_event other pool GivesWay of (tt {0})
+    by_test false = of
 
-    next_pool : IsPoolOf other (after_take moment d h.pool)
-    next_pool = one_event other h.pool (taken moment d) pool of
+fragment-takes : (other : List Accepted) (h h' : HostView) (moment : Moment) (d : Datagram) (answer : Result (Unit {0}) DropCause) → AreInTurn other → IsPoolOf other h.pool → IsOfOne other d → d.destination ≡ h.sockets.addr
+    → MeetsFragment (fragment_outcome moment d (pool_for h.sockets.manner.guards d h.pool)) (is_late_copy h moment d) h moment d answer h' → HostTakes other h h'
+fragment-takes other h h' moment d answer turn pool of at = by_place (place_for (key_of d) (pool_for h.sockets.manner.guards d h.pool)) (is_late_copy h moment d) refl
+  where
+    room : List (Option Reassembly)
+    room = pool_for h.sockets.manner.guards d h.pool
+
+    next : HostView
+    next = with_pool h (after_take moment d room)
+
+    with_room : IsPoolOf other room
+    with_room = made-room other h.sockets.manner.guards d h.pool pool
+
+    next_pool : IsPoolOf other (after_take moment d room)
+    next_pool = one_event other room (taken moment d) with_room of
+
+    noted : HostView
+    noted = with_noted next moment d
 
     -- the same table
-    from_next : HostTakes other next h' → HostTakes other h h'
+    from_next : HostTakes other noted h' → HostTakes other h h'
     from_next takes = record { table = takes.table; pool = takes.pool }
 
+    after_it : h' ≡ noted → HostTakes other h h'
+    after_it same = from_next (aside other noted h' (ap (λ (w : HostView). w.sockets) same) (ap (λ (w : HostView). w.pool) same) next_pool)
+
     still : h' ≡ next → HostTakes other h h'
-    still same = from_next (aside other next h' (ap (λ (w : HostView). w.sockets) same) (ap (λ (w : HostView). w.pool) same) next_pool)
+    still same = from_next (aside other noted h' (ap (λ (w : HostView). w.sockets) same) (ap (λ (w : HostView). w.pool) same) next_pool)
 
-    by_payload : (payload quote : List ℕ) → (AreFew other → IsWholeOfOne other d payload) → (r : Result UserDatagram UdpFault) → datagram_or_fault d.source d.destination payload ≡ r → h' ≡ after_payload r next moment d.source quote → HostTakes other h h'
+    by_payload : (payload quote : List ℕ) → (AreFew other → IsWholeOfOne other d payload) → (r : Result UserDatagram UdpFault) → datagram_or_fault d.source d.destination payload ≡ r → h' ≡ after_payload r noted moment d.source quote → HostTakes other h h'
     by_payload payload quote whole (Ok u) read becomes =
-        from_next (user-takes other (reception h.sockets u) next h' moment d.source u (take 68 quote) (whole-sent other d payload u h.sockets.addr turn whole at read) next_pool becomes)
-    by_payload payload quote whole (Err fault) read becomes = still becomes
+        from_next (user-takes other (reception h.sockets u) noted h' moment d.source u (take 68 quote) (whole-sent other d payload u h.sockets.addr turn whole at read) next_pool becomes)
+    by_payload payload quote whole (Err fault) read becomes = after_it becomes
 
-    by_outcome : (place : ℕ) → place_for (key_of d) h.pool ≡ Some place → (x : Outcome) → outcome_at moment d h.pool place ≡ x → h' ≡ after_outcome x next moment d → HostTakes other h h'
+    by_outcome : (place : ℕ) → place_for (key_of d) room ≡ Some place → (x : Outcome) → outcome_at moment d room place ≡ x → h' ≡ after_outcome x next moment d → HostTakes other h h'
     by_outcome place placed (Waits r) is becomes = still becomes
     by_outcome place placed GivesUp is becomes = still becomes
     by_outcome place placed (Completes payload quote) is becomes =
-        by_payload payload quote (λ few. completed other h.pool moment d place payload quote turn few pool of placed is) (datagram_or_fault d.source d.destination payload) refl becomes
+        by_payload payload quote (λ few. completed other room moment d place payload quote turn few with_room of placed is) (datagram_or_fault d.source d.destination payload) refl becomes
 
-    by_place : (o : Option ℕ) → place_for (key_of d) h.pool ≡ o → MeetsFragment (option_map (outcome_at moment d h.pool) o) h moment d answer h' → HostTakes other h h'
-    by_place None placed meets = aside other h h' (ap (λ (w : HostView). w.sockets) meets.1) (ap (λ (w : HostView). w.pool) meets.1) pool
-    by_place (Some place) placed meets = by_outcome place placed (outcome_at moment d h.pool place) refl meets.1
+    by_place : (o : Option ℕ) (late : Bool) → place_for (key_of d) room ≡ o → MeetsFragment (option_map (outcome_at moment d room) o) late h moment d answer h' → HostTakes other h h'
+    by_place None late placed meets = aside other h h' (ap (λ (w : HostView). w.sockets) meets.1) (ap (λ (w : HostView). w.pool) meets.1) pool
+    by_place (Some place) true placed meets = aside other h h' (ap (λ (w : HostView). w.sockets) meets.1) (ap (λ (w : HostView). w.pool) meets.1) pool
+    by_place (Some place) false placed meets = by_outcome place placed (outcome_at moment d room place) refl meets.1
 
 -- Whatever a frame is heard as.
 pub frame-takes : (other : List Accepted) (h h' : HostView) (clock : Moment) (isn : ℕ) (octets : List ℕ) (answer : Result (Unit {0}) DropCause) → h.interface.addr ≡ h.sockets.addr → AreInTurn other → IsPoolOf other h.pool → KeepsTo other octets

@@ -26,6 +26,8 @@ use Rattle.sockets.specs.Arrival.{local_end, peer_end, room_for}
 use Rattle.sockets.specs.Datagrams.{end_sent_from, sendto_answer, after_sendto, recvfrom_answer, after_recvfrom, after_reception}
 use Rattle.sockets.specs.Lists.{change_first}
 use Rattle.sockets.specs.Entries.{is_socket, is_between, with_role, role_after_sendto, role_after_recvfrom, role_after_segment, is_of_pair, sends, role_after_bind, role_after_listen, role_after_accept, role_after_send, role_after_recv, role_after_shutdown, role_after_nodelay, role_after_keepalive, role_after_leaving, leaving_fate_of, role_after_listener_close, listener_close_fate_of, role_after_tick, tick_fate_of, role_after_emission, emission_fate_of, entries_after_step}
+use Rattle.sockets.specs.GiveWay.{gives_way, after_giving_way}
+use Rattle.sockets.specs.Ids.{has_id}
 use Rattle.sockets.specs.SocketsView.{SocketsView, holder_id, later_moment, room_of}
 use Rattle.sockets.specs.Ticks as table_ticks
 use Rattle.sockets.specs.Lost.{give_up_fate_of, role_after_giving_up, after_giving_up}
@@ -60,7 +62,7 @@ use Rattle.wire_sim.proofs.openings.OpeningsAreBegun.{connecting-host, host-open
 use Rattle.wire_sim.proofs.openings.OctetsAreCovered.{as_list}
 use Rattle.wire_sim.proofs.tables.SegmentArrived.{Arrived, Ignored, Heard, Began}
 use Rattle.wire_sim.proofs.fairness.CountedAsTraced.{same_unfair}
-use Rattle.wire_sim.proofs.lists.FoundAfterChange.{All-at, find-added_none}
+use Rattle.wire_sim.proofs.lists.FoundAfterChange.{All-at, find-added_none, none-removed}
 use Rattle.wire_sim.proofs.openings.HeldIsOpened.{joined, unheld-changed, unheld-settled, unheld-heard, unheld-told, unheld-all, unheld-received, unheld_datagrams, unheld_given_up, unheld_bound_to, unheld_listening, unheld_accepted, unheld_ticked, unheld_sent, unheld_received, unheld_write_shut, unheld_delayed, unheld_asked, unheld_left, unheld_forsaken, unheld_emitted_at}
 use Rattle.wire_sim.proofs.tables.PairOfPorts.{unheld}
 use Rattle.wire_sim.proofs.carried.FramesCarry.{Carried}
@@ -195,6 +197,7 @@ call-keeps routed now (call.Abort id) answer own own' other m =
       | inl x ↦ keeps-next own (after_abort own id) own' x.3 (left-keeps own Abort id (not_refused (close_refusal own id) x.0 x.1))
       | inr x ↦ keeps-same own own' x.3
     ]
+call-keeps routed now (call.GiveWay id) answer own own' other m = keeps-next own (after_giving_way own (has_id id)) own' m.1 (λ pair none. none-removed (gives_way (has_id id)) (is_of_pair pair) own.entries none)
 call-keeps routed now (call.State id) answer own own' other m =
     elim (outcome (state_answer own id) (λ s. reply.State s) own own answer own' m) [
       | inl x ↦ keeps-same own own' x.3

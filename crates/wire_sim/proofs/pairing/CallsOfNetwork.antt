@@ -12,6 +12,8 @@ use Rattle.sockets.specs.declared.entry.SocketId.{SocketId}
 use Rattle.sockets.specs.declared.role.Leave.TheVariants.{Close, Abort}
 use Rattle.sockets.specs.Calls.{unless_refused, bind_refusal, after_bind, listen_refusal, after_listen, accept_answer, after_accept, connect_refusal, after_connect, pair_connected, send_answer, after_send, after_recv, shutdown_refusal, after_shutdown, nodelay_refusal, after_nodelay, keepalive_refusal, after_keepalive, close_refusal, after_close, after_abort, state_answer, sockname_answer, peername_answer}
 use Rattle.sockets.specs.Datagrams.{sendto_answer, after_sendto, recvfrom_answer, after_recvfrom}
+use Rattle.sockets.specs.GiveWay.{after_giving_way}
+use Rattle.sockets.specs.Ids.{has_id}
 use Rattle.sockets.specs.Entries.{is_socket, role_after_listen}
 use Rattle.sockets.specs.SocketsView.{SocketsView}
 use Rattle.sockets.specs.Sound.{IsSoundTable}
@@ -34,11 +36,11 @@ use Rattle.wire_sim.proofs.tables.CallsOnTable.{outcome, not_refused}
 use Rattle.wire_sim.proofs.tables.UnseenRoles.{quiet_listening}
 use Rattle.wire_sim.proofs.pairing.WorldAsPairings.{Bag, Projects}
 use Rattle.wire_sim.proofs.pairing.CallsAreMoves.{socket_outcome, recv_outcome, recvfrom_outcome, kept, changed, projects-bound, projects-accepted, projects-silent, call-sends, call-receives, call-ends, call-closes, taken-fit}
-use Rattle.wire_sim.proofs.pairing.CloseIsMoves.{call-leaves}
+use Rattle.wire_sim.proofs.pairing.CloseIsMoves.{call-leaves, projects-giving_way}
 use Rattle.wire_sim.proofs.pairing.ConnectIsMove.{IsFirst, projects-connects, projects-socket_made}
 use Rattle.wire_sim.proofs.pairing.DatagramsMoveNothing.{projects-sent_to, projects-received_from}
 use Rattle.wire_sim.proofs.pairing.WishesAreMoves.{projects-delayed, projects-asked}
-use Rattle.wire_sim.proofs.told.TraceAndOneMore.{IsQuiet, answered, tallies, tallies-counted, tallies-quiet, tallies-opened, quiet-everywhere, quiet-socket, quiet-bind, quiet-listen, quiet-accept, quiet-connect, quiet-state, quiet-sockname, quiet-peername, quiet-sendto, quiet-recvfrom, quiet-send_refused, quiet-recv_refused, quiet-shutdown_refused, quiet-close_refused, quiet-nodelay, quiet-keepalive, quiet-abort, quiet-ready, quiet-info}
+use Rattle.wire_sim.proofs.told.TraceAndOneMore.{IsQuiet, answered, tallies, tallies-counted, tallies-quiet, tallies-opened, quiet-everywhere, quiet-socket, quiet-bind, quiet-listen, quiet-accept, quiet-connect, quiet-state, quiet-sockname, quiet-peername, quiet-sendto, quiet-recvfrom, quiet-send_refused, quiet-recv_refused, quiet-shutdown_refused, quiet-close_refused, quiet-nodelay, quiet-keepalive, quiet-abort, quiet-ready, quiet-info, quiet-giving_way}
 
 -- What a call made of the network: nothing beside its host, a count, or an opening.
 pub data CallGoes (limit : ℕ) (hs ts : Side) (a b : Addr) (host' : HostView) (other : SocketsView) (n : NetworkView) (bag : Bag) (c : Call) (answer : Answer) (place : ℕ) (trace : List Happening) : Type 0 where
@@ -230,6 +232,9 @@ projects-called limit hs ts a b host host' other n bag place trace now (call.Abo
           subst (λ r. CallGoes limit hs ts a b host' other n bag (call.Abort id) r place trace) (sym x.2)
           (plain limit hs ts a b host' other n bag (call.Abort id) (reply.Refused x.0) place trace refl (λ i. quiet-abort hs id (reply.Refused x.0) i) (kept limit hs ts a b own host'.sockets other bag n.openings trace x.3 h))
     ]
+projects-called limit hs ts a b host host' other n bag place trace now (call.GiveWay id) answer sound opposite is_host is_other numbered fair m h =
+    plain limit hs ts a b host' other n bag (call.GiveWay id) answer place trace refl (λ i. quiet-giving_way hs id answer i)
+    (kept limit hs ts a b (after_giving_way host.sockets (has_id id)) host'.sockets other bag n.openings trace m.1 (projects-giving_way limit hs ts a b host.sockets other bag n.openings trace (has_id id) h))
 projects-called limit hs ts a b host host' other n bag place trace now (call.State id) answer sound opposite is_host is_other numbered fair m h =
     let own = host.sockets in
     elim (outcome (state_answer own id) (λ s. reply.State s) own own answer host'.sockets m) [

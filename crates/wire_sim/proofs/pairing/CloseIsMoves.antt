@@ -24,6 +24,7 @@ use Rattle.sockets.specs.declared.refusal.Refusal.TheVariants.{EBADF}
 use Rattle.sockets.specs.Calls.{close_refusal, after_socket_left, after_leaving}
 use Rattle.sockets.specs.Entries.{is_socket, is_kept, waits_at, leaving_event, role_after_leaving, leaving_fate_of, role_after_abort, abort_fate_of, role_after_listener_close, listener_close_fate_of, entries_after_step}
 use Rattle.sockets.specs.SocketsView.{SocketsView}
+use Rattle.sockets.specs.GiveWay.{gives_way, after_giving_way}
 use Rattle.sockets.specs.Sound.{IsSoundTable}
 use Rattle.stream_law.specs.ChannelViews.{SameStream}
 use Rattle.stream_law.specs.Pairing.{Pairing, Present, Departed, Meets, closes, rests, stops, leaves}
@@ -32,14 +33,15 @@ use Rattle.sides.specs.Sides.{other_side}
 use Rattle.wire_sim.specs.Tallies.{is_opening_of, is_opening_at}
 use Rattle.wire_sim.proofs.tables.CallsOnTable.{found_socket}
 use Rattle.wire_sim.proofs.tables.EntryChanges.{SameBut, SameTold, by_test, table-becomes, end-another, opened-kept}
-use Rattle.wire_sim.proofs.pairing.EndMoves.{pairing, EndGoes, moved}
+use Rattle.wire_sim.proofs.pairing.EndMoves.{pairing, EndGoes, moved, end-stays}
 use Rattle.wire_sim.proofs.lists.FoundAfterChange.{find-passes, find-missed}
 use Rattle.sockets.proofs.KeptEnds.{keeps-event}
+use Rattle.sockets.proofs.GivenRoom.{unremoved}
 use Rattle.tcp_state.proofs.Causes.{or_right}
 use Rattle.wire_sim.proofs.tables.EntryIsMade.{its_id}
 use Rattle.wire_sim.proofs.openings.OpeningIsFound.{opening-of_parts}
 use Rattle.wire_sim.proofs.pairing.WorldAsPairings.{told, Bag, Projects, projects-turned}
-use Rattle.wire_sim.proofs.pairing.CallsAreMoves.{projects-moved, sound_socket}
+use Rattle.wire_sim.proofs.pairing.CallsAreMoves.{projects-moved, projects-alike, sound_socket}
 use Rattle.wire_sim.proofs.pairing.TickIsMoves.{projects-settled}
 use Rattle.wire_sim.proofs.tables.TableById.{Account, role_at, found-role, Becomes, becomes-settled, settle, presence_in, end_with, end_at, IsOpened, IsNoted, MayOpen, IsTable, same_id}
 use Rattle.wire_sim.proofs.told.TraceAndOneMore.{answered}
@@ -236,3 +238,24 @@ call-leaves limit hs ts a b own other bag openings trace how id sound opposite a
         by_waiting : (test : Bool) → IsNoted hs a openings i (if test then role_after_abort own.kept r else r)
         by_waiting true = aborts i r m
         by_waiting false = m
+
+-- What gives way, if anything does, leaves its pairing.
+
+gone-connection : (limit : ℕ) (t : Account) (r : Role) → EndGoes limit (end_with (presence_in (Some r)) t) (end_with Departed t)
+gone-connection limit t (Connected c l) there out arrived = let was = pairing (end_with (Present c) t) there out arrived in moved limit was (pairing (end_with Departed t) there out arrived) (leaves was c t.closed refl (λ e. e))
+gone-connection limit t (Listener local backlog) there out arrived = end-stays limit (end_with Departed t) (end_with Departed t) refl there out arrived
+gone-connection limit t (Idle buffers bound) there out arrived = end-stays limit (end_with Departed t) (end_with Departed t) refl there out arrived
+gone-connection limit t (Datagrams bound socket) there out arrived = end-stays limit (end_with Departed t) (end_with Departed t) refl there out arrived
+
+pub projects-giving_way : (limit : ℕ) (hs ts : Side) (a b : Addr) (own other : SocketsView) (bag : Bag) (openings : List Opening) (trace : List Happening) (meant : Entry → Bool)
+    → Projects limit hs ts a b own other bag openings trace → Projects limit hs ts a b (after_giving_way own meant) other bag openings trace
+projects-giving_way limit hs ts a b own other bag openings trace meant h = by_found (find (gives_way meant) own.entries) refl
+  where
+    by_found : (o : Option Entry) → find (gives_way meant) own.entries ≡ o → Projects limit hs ts a b (after_giving_way own meant) other bag openings trace
+    by_found None none = projects-alike limit hs ts a b own (after_giving_way own meant) other bag openings trace refl refl (unremoved (gives_way meant) own.entries none) h
+    by_found (Some x) found =
+        let before : role_at own.entries x.id.0 ≡ Some x.role = found-role (gives_way meant) own.entries x h.own_table.sole found in
+        projects-moved limit hs ts a b own (after_giving_way own meant) other bag openings trace trace x.id None refl refl
+        (becomes-settled Removed (gives_way meant) (λ r. r) own.entries x h.own_table.sole found)
+        (λ role is. let bad : None ≡ Some role = is in cc) (λ i apart. refl) (λ none may. h.own_table.silent x.id none (inr (x.role, before))) (λ i. refl)
+        (subst (λ r. EndGoes limit (end_with (presence_in r) (told hs trace x.id)) (end_with Departed (told hs trace x.id))) (sym before) (gone-connection limit (told hs trace x.id) x.role)) h

@@ -19,7 +19,7 @@ use Rattle.sockets.specs.declared.datagrams.Reception.TheVariants as socket
 use Rattle.sockets.specs.Arrival.{Arrival, Becomes, Opens, NoRoom as NoRoomInTable, Answers}
 use Rattle.sockets.specs.Datagrams.{reception}
 use Rattle.sockets.specs.SocketsView.{later_moment}
-use Rattle.host.specs.Arrival.{MeetsFragment, MeetsHeard, MeetsMessage, MeetsSegment, fragment_outcome, queue_answer, segment_arrival, user_datagram_answer}
+use Rattle.host.specs.Arrival.{MeetsFragment, MeetsHeard, MeetsMessage, MeetsSegment, fragment_outcome, is_late_copy, pool_for, queue_answer, segment_arrival, user_datagram_answer}
 use Rattle.host.specs.Heard.{heard_by, guarded_by, is_barred}
 use Rattle.interface.specs.InterfaceView.{InterfaceView}
 use Rattle.tcp_halves.proofs.Choices.{and_false}
@@ -66,11 +66,12 @@ said-room (Tcp r) h moment isn cause new met = segment-room (segment_arrival h m
 said-room (Icmp c) h moment isn cause new met = message-room (told_by c.message) h moment c cause new met
 said-room (Udp r) h moment isn cause new met = user-room (reception h.sockets r.datagram) h r.carrier.source cause met.0
 said-room (Other d) h moment isn cause new met = queue-room (answer_result h.interface d.source) cause met.0
-said-room (UdpFragment d) h moment isn cause new met = by_outcome (fragment_outcome moment d h.pool) met
+said-room (UdpFragment d) h moment isn cause new met = by_outcome (fragment_outcome moment d (pool_for h.sockets.manner.guards d h.pool)) (is_late_copy h moment d) met
   where
-    by_outcome : (o : Option Outcome) → MeetsFragment o h moment d (Err cause) new → cause ≡ NoRoom
-    by_outcome None m = let is = m.0 in cc
-    by_outcome (Some x) m = let is = m.0 in cc
+    by_outcome : (o : Option Outcome) (late : Bool) → MeetsFragment o late h moment d (Err cause) new → cause ≡ NoRoom
+    by_outcome None late m = let is = m.0 in cc
+    by_outcome (Some x) true m = let is = m.0 in cc
+    by_outcome (Some x) false m = let is = m.0 in cc
 
 -- What it is answered.
 

@@ -31,7 +31,7 @@ use Rattle.interface.specs.Ways.{is_routed}
 use Rattle.reassembly.specs.declared.expired.Expired.{Expired}
 use Rattle.reassembly.specs.Fragments.{key_of, quote_of}
 use Rattle.reassembly.specs.Places.{after_take, expired, outcome_at, place_for}
-use Rattle.reassembly.specs.Reassembly.{Outcome}
+use Rattle.reassembly.specs.Reassembly.{Outcome, Reassembly}
 use Rattle.reassembly.specs.Reassembly.Outcome.{Waits as WaitsOn, Completes, GivesUp}
 use Rattle.sockets.specs.declared.datagrams.Reception.{Reception}
 use Rattle.sockets.specs.declared.datagrams.Reception.TheVariants as socket
@@ -41,7 +41,7 @@ use Rattle.sockets.specs.SocketsView.{later_moment}
 use Rattle.udp.specs.declared.fault.UdpFault.{UdpFault}
 use Rattle.udp.specs.Datagram.{UserDatagram}
 use Rattle.udp.specs.Reading.{datagram_or_fault}
-use Rattle.host.specs.Arrival.{MeetsFragment, MeetsHeard, MeetsMessage, MeetsSegment, after_outcome, after_payload, after_user_datagram, segment_arrival}
+use Rattle.host.specs.Arrival.{MeetsFragment, MeetsHeard, MeetsMessage, MeetsSegment, after_outcome, after_payload, after_user_datagram, is_late_copy, pool_for, segment_arrival, with_noted}
 use Rattle.host.specs.Heard.{heard_by}
 use Rattle.host.specs.ConfigView.{ConfigView}
 use Rattle.host.specs.Emission.{Emission, Replies, Sends, Asks as AsksFor, Nothing as NothingGoes, after_emission, emission, left_by}
@@ -167,14 +167,16 @@ stays-payload c (Ok u) h moment source quote s = stays-user c (reception h.socke
 stays-outcome : {knows : Neighbour → Type 0} (c : ConfigView) (o : Outcome) (h : HostView) (moment : Moment) (d : Datagram) → IsSideOf c knows h.interface → IsSideOf c knows (let after = after_outcome o h moment d in after.interface)
 stays-outcome c (WaitsOn r) h moment d s = s
 stays-outcome c GivesUp h moment d s = s
-stays-outcome c (Completes payload quote) h moment d s = stays-payload c (datagram_or_fault d.source d.destination payload) h moment d.source quote s
+stays-outcome c (Completes payload quote) h moment d s = stays-payload c (datagram_or_fault d.source d.destination payload) (with_noted h moment d) moment d.source quote s
 
-stays-fragment : {knows : Neighbour → Type 0} (c : ConfigView) (h : HostView) (moment : Moment) (d : Datagram) (answer : Result (Unit {0}) DropCause) (new : HostView) → IsSideOf c knows h.interface → (place : Option ℕ)
-    → MeetsFragment (option_map (outcome_at moment d h.pool) place) h moment d answer new → IsSideOf c knows new.interface
-stays-fragment c h moment d answer new s None met = to-new c h new met.1 s
-stays-fragment c h moment d answer new s (Some i) met =
-    let pool = after_take moment d h.pool in
-    to-new c (after_outcome (outcome_at moment d h.pool i) (with_pool h pool) moment d) new met.1 (stays-outcome c (outcome_at moment d h.pool i) (with_pool h pool) moment d s)
+stays-fragment : {knows : Neighbour → Type 0} (c : ConfigView) (h : HostView) (moment : Moment) (d : Datagram) (answer : Result (Unit {0}) DropCause) (new : HostView) → IsSideOf c knows h.interface → (place : Option ℕ) (late : Bool)
+    → MeetsFragment (option_map (outcome_at moment d (pool_for h.sockets.manner.guards d h.pool)) place) late h moment d answer new → IsSideOf c knows new.interface
+stays-fragment c h moment d answer new s None late met = to-new c h new met.1 s
+stays-fragment c h moment d answer new s (Some i) true met = to-new c h new met.1 s
+stays-fragment c h moment d answer new s (Some i) false met =
+    let room : List (Option Reassembly) = pool_for h.sockets.manner.guards d h.pool in
+    let pool = after_take moment d room in
+    to-new c (after_outcome (outcome_at moment d room i) (with_pool h pool) moment d) new met.1 (stays-outcome c (outcome_at moment d room i) (with_pool h pool) moment d s)
 
 -- a request for our address is answered by it
 asked-own : {knows : Neighbour → Type 0} (c : ConfigView) (i : InterfaceView) (p : ArpPacket) → IsSideOf c knows i → is_request_for i.addr p ≡ true → IsOwn c (reply.Arp (reply_to p i.mac))
@@ -199,7 +201,7 @@ stays-heard c h moment isn answer new s (Ok (Icmp m)) teaches met = stays-messag
 stays-heard c h moment isn answer new s (Ok (Udp r)) teaches met =
     to-new c (after_user_datagram (reception h.sockets r.datagram) h moment r.carrier.source r.datagram (quote_of r.carrier)) new met.1
     (stays-user c (reception h.sockets r.datagram) h moment r.carrier.source r.datagram (quote_of r.carrier) s)
-stays-heard c h moment isn answer new s (Ok (UdpFragment d)) teaches met = stays-fragment c h moment d answer new s (place_for (key_of d) h.pool) met
+stays-heard c h moment isn answer new s (Ok (UdpFragment d)) teaches met = stays-fragment c h moment d answer new s (place_for (key_of d) (pool_for h.sockets.manner.guards d h.pool)) (is_late_copy h moment d) met
 stays-heard c h moment isn answer new s (Ok (Other d)) teaches met =
     to-new c (with_interface h (owed (is_routed h.interface d.source) moment (reply.Error d.source ProtocolUnreachable (quote_of d)) h.interface)) new met.1 (stays-told c h moment d.source ProtocolUnreachable (quote_of d) s)
 stays-heard c h moment isn answer new s (Err cause) teaches met = to-new c h new met.1 s

@@ -9,10 +9,10 @@ use Rattle.ipv4.specs.declared.addr.Endpoint.{Endpoint}
 use Rattle.ipv4.specs.Datagram.{Datagram}
 use Rattle.reassembly.specs.declared.expired.Expired.{Expired}
 use Rattle.reassembly.specs.Events.{Event, after_event}
-use Rattle.reassembly.specs.Events.Event.{Takes, Ages}
+use Rattle.reassembly.specs.Events.Event.{Takes, Ages, GivesWay}
 use Rattle.reassembly.specs.Fragments.{key_of}
 use Rattle.reassembly.specs.Octets.{whole_of}
-use Rattle.reassembly.specs.Places.{after_take_at, after_time, expired, expired_of, is_over, outcome_at, place_for}
+use Rattle.reassembly.specs.Places.{after_take_at, after_time, expired, expired_of, is_over, oldest, outcome_at, place_for, without}
 use Rattle.reassembly.specs.Reassembly.{Reassembly, conflicts, continued, left, outcome, quoted, with_fragment}
 use Rattle.reassembly.specs.Reassembly.Outcome.{Waits, Completes, GivesUp}
 use Rattle.sockets.specs.declared.entry.SocketId.{SocketId}
@@ -98,10 +98,16 @@ from-aged source now (Some r) one = by_test (is_over now r)
 abbrev TakesFrom : Addr → Event → Type 0
 TakesFrom source (Takes now d) = d.source ≡ source
 TakesFrom source (Ages now) = Unit {0}
+TakesFrom source GivesWay = Unit {0}
+
+from-without : (source : Addr) (places : List (Option Reassembly)) (o : Option ℕ) → AreFrom source places → AreFrom source (without o places)
+from-without source places None all = all
+from-without source places (Some i) all = from-set source places i None all tt
 
 from-event : (source : Addr) (places : List (Option Reassembly)) (e : Event) → TakesFrom source e → AreFrom source places → AreFrom source (after_event places e)
 from-event source places (Takes now d) of all = from-taken source now d places (place_for (key_of d) places) of all
 from-event source places (Ages now) of all = All-map (IsFrom source) (after_time now) (from-aged source now) places all
+from-event source places GivesWay of all = from-without source places (oldest places) all
 
 from-events : (source : Addr) (places : List (Option Reassembly)) (events : List Event) → AllByRecursion (TakesFrom source) events → AreFrom source places → AreFrom source (fold after_event places events)
 from-events source places [] of all = all
@@ -202,6 +208,7 @@ pool-from source accepted places all pool =
     takes : (e : Event) → TakesOfOne accepted e → TakesFrom source e
     takes (Takes now d) one = of-one-from source accepted d (recursion_from_All (IsFromHere source) accepted all) one
     takes (Ages now) one = tt
+    takes GivesWay one = tt
 
 pub reports-from : (limit : ℕ) (w : WorldView) (run : IsReached limit w) (side : Side) (now : Moment)
     → AllByRecursion (λ (x : Expired). x.key.source ≡ addr_at w.network (other_side side)) (let h = host_of w.network side in expired now h.pool)

@@ -26,6 +26,7 @@ cloned (event.Call s (call.SetKeepAlive ia None)) (event.Call t (call.SetKeepAli
 cloned (event.Call s (call.SetKeepAlive ia (Some ea))) (event.Call t (call.SetKeepAlive ib None)) is = absurd is.1.1
 cloned (event.Call s (call.Close ia)) (event.Call t (call.Close ib)) is = (is.0, let e0 = is.1 in cc)
 cloned (event.Call s (call.Abort ia)) (event.Call t (call.Abort ib)) is = (is.0, let e0 = is.1 in cc)
+cloned (event.Call s (call.GiveWay ia)) (event.Call t (call.GiveWay ib)) is = (is.0, let e0 = is.1 in cc)
 cloned (event.Call s (call.State ia)) (event.Call t (call.State ib)) is = (is.0, let e0 = is.1 in cc)
 cloned (event.Call s (call.Ready ia)) (event.Call t (call.Ready ib)) is = (is.0, let e0 = is.1 in cc)
 cloned (event.Call s (call.Info ia)) (event.Call t (call.Info ib)) is = (is.0, let e0 = is.1 in cc)

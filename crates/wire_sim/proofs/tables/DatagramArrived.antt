@@ -1,5 +1,5 @@
 -- What a UDP datagram that arrived, whole or in fragments, makes of the table.
-use Rattle.std.proofs.Common.{◌≡◌, ℕ, List, Option, Some, None, Result, Ok, Err, take, ap}
+use Rattle.std.proofs.Common.{◌≡◌, ℕ, Bool, true, false, List, Option, Some, None, Result, Ok, Err, take, ap}
 use Rattle.ipv4.specs.declared.addr.Addr.{Addr}
 use Rattle.ipv4.specs.Datagram.{Datagram}
 use Rattle.clock.specs.declared.moment.Moment.{Moment}
@@ -14,7 +14,7 @@ use Rattle.sockets.specs.declared.datagrams.Reception.TheVariants.{Queued, NoRoo
 use Rattle.sockets.specs.Datagrams.{reception, after_reception}
 use Rattle.sockets.specs.SocketsView.{SocketsView}
 use Rattle.host.specs.HostView.{HostView, with_pool}
-use Rattle.host.specs.Arrival.{after_user_datagram, after_payload, after_outcome, MeetsFragment}
+use Rattle.host.specs.Arrival.{after_user_datagram, after_payload, after_outcome, MeetsFragment, pool_for, with_noted}
 use Rattle.reassembly.specs.Places.{after_take}
 
 -- the table is as it was, or a UDP socket received a datagram
@@ -29,15 +29,16 @@ user-arrived NoRoom h h' moment source d quote becomes = Kept (ap (λ (w : HostV
 user-arrived NoSocket h h' moment source d quote becomes = Kept (ap (λ (w : HostView). w.sockets) becomes)
 
 -- a fragment, by what it comes to
-pub fragment-arrived : (o : Option Outcome) (h h' : HostView) (moment : Moment) (d : Datagram) (answer : Result (Unit {0}) DropCause) → MeetsFragment o h moment d answer h' → UserArrived h.sockets h'.sockets
-fragment-arrived None h h' moment d answer meets = Kept (ap (λ (w : HostView). w.sockets) meets.1)
-fragment-arrived (Some outcome) h h' moment d answer meets = by_outcome outcome meets.1
+pub fragment-arrived : (o : Option Outcome) (late : Bool) (h h' : HostView) (moment : Moment) (d : Datagram) (answer : Result (Unit {0}) DropCause) → MeetsFragment o late h moment d answer h' → UserArrived h.sockets h'.sockets
+fragment-arrived None late h h' moment d answer meets = Kept (ap (λ (w : HostView). w.sockets) meets.1)
+fragment-arrived (Some outcome) true h h' moment d answer meets = Kept (ap (λ (w : HostView). w.sockets) meets.1)
+fragment-arrived (Some outcome) false h h' moment d answer meets = by_outcome outcome meets.1
   where
     next : HostView
-    next = with_pool h (after_take moment d h.pool)
+    next = with_pool h (after_take moment d (pool_for h.sockets.manner.guards d h.pool))
 
-    by_payload : (r : Result UserDatagram UdpFault) (quote : List ℕ) → h' ≡ after_payload r next moment d.source quote → UserArrived h.sockets h'.sockets
-    by_payload (Ok u) quote becomes = user-arrived (reception h.sockets u) next h' moment d.source u (take 68 quote) becomes
+    by_payload : (r : Result UserDatagram UdpFault) (quote : List ℕ) → h' ≡ after_payload r (with_noted next moment d) moment d.source quote → UserArrived h.sockets h'.sockets
+    by_payload (Ok u) quote becomes = user-arrived (reception h.sockets u) (with_noted next moment d) h' moment d.source u (take 68 quote) becomes
     by_payload (Err fault) quote becomes = Kept (ap (λ (w : HostView). w.sockets) becomes)
 
     by_outcome : (x : Outcome) → h' ≡ after_outcome x next moment d → UserArrived h.sockets h'.sockets

@@ -290,6 +290,10 @@ quiet-keepalive side id every a i = (refl, refl, refl, refl)
 pub quiet-abort : (side : Side) (id : SocketId) (a : Answer) (i : SocketId) → IsQuiet side i (answered side (call.Abort id) a)
 quiet-abort side id a i = (refl, refl, refl, refl)
 
+-- that a connection gives way, whatever is answered
+pub quiet-giving_way : (side : Side) (id : SocketId) (a : Answer) (i : SocketId) → IsQuiet side i (answered side (call.GiveWay id) a)
+quiet-giving_way side id a i = (refl, refl, refl, refl)
+
 -- a question for the state, whatever is answered
 pub quiet-state : (side : Side) (id : SocketId) (a : Answer) (i : SocketId) → IsQuiet side i (answered side (call.State id) a)
 quiet-state side id a i = (refl, refl, refl, refl)

@@ -91,6 +91,10 @@ impl Station {
             }
             Call::Close { id } => answered(host.close(*id), |()| Answer::Done),
             Call::Abort { id } => answered(host.abort(*id), |()| Answer::Done),
+            Call::GiveWay { id } => {
+                host.give_way(*id);
+                Answer::Done
+            }
             Call::State { id } => answered(host.state(*id), Answer::State),
             Call::Ready { id } => answered(host.ready(*id), Answer::Ready),
             Call::Info { id } => answered(host.info(*id), Answer::Info),

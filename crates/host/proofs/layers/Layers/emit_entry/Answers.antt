@@ -17,7 +17,7 @@ emit_at-requires-clause-due c =
 
 pub returns-clause-frame : goal.returns-clause-frame
 returns-clause-frame c =
-    let h : HostView = record { interface = c.self.inside.interface; sockets = c.self.inside.sockets; pool = c.self.inside.pool } in
+    let h : HostView = record { interface = c.self.inside.interface; sockets = c.self.inside.sockets; pool = c.self.inside.pool; lately = c.self.inside.lately } in
     let goes : Addr → Bool = goes_out_from h c.args.now in
     let first : IsNextAt h.sockets goes c.args.place c.args.outgoing =
     subst (λ (g : HostView). IsNextAt g.sockets (goes_out_from g c.args.now) c.args.place c.args.outgoing) (sym c.self.view_is) c.requires.first in

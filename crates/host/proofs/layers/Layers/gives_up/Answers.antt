@@ -20,7 +20,7 @@ given h moment = record {
 pub returns : goal.returns
 unfolding given
 returns c =
-    let h : HostView = record { interface = c.self.inside.interface; sockets = c.self.inside.sockets; pool = c.self.inside.pool } in
+    let h : HostView = record { interface = c.self.inside.interface; sockets = c.self.inside.sockets; pool = c.self.inside.pool; lately = c.self.inside.lately } in
     let now : Moment = c.later_moment-now.result in
     let table = c.given_up-table.ensures (lacks_hop h now) (λ addr answer called. search rules) in
     let own = c.given_up.ensures in

@@ -17,12 +17,13 @@ after h moment = record {
   interface = all_reported moment (interface_after_tick h.interface moment) (expired moment h.pool);
   sockets = table_after_tick h moment;
   pool = after_age moment h.pool;
+  lately = h.lately;
 }
 
 pub returns : goal.returns
 unfolding after
 returns c =
-    let h : HostView = record { interface = c.self.inside.interface; sockets = c.self.inside.sockets; pool = c.self.inside.pool } in
+    let h : HostView = record { interface = c.self.inside.interface; sockets = c.self.inside.sockets; pool = c.self.inside.pool; lately = c.self.inside.lately } in
     let now : Moment = c.later_moment-now.result in
     let given_up : c.give_up.new.self ≡ after_giving_up c.tick.new.self (lacks_hop h now) now = c.give_up.ensures (lacks_hop h now) (λ addr answer called. search rules) in
     let table : c.give_up.new.self ≡ table_after_tick h now = given_up ∙ ap (λ (t : SocketsView). after_giving_up t (lacks_hop h now) now) c.tick.ensures in
@@ -32,6 +33,6 @@ returns c =
     ∙ ap (λ (i : InterfaceView). all_reported now i c.deref.result.now) c.tick-2.ensures
     ∙ ap (λ (l : List Expired). all_reported now (interface_after_tick h.interface now) l) datagrams in
     let pool : c.age-expired.new.self ≡ after_age now h.pool = c.age-expired.ensures.pool in
-    let all : ◌≡◌ {A = HostView} (record { interface = c.report_expired.new.interface; sockets = c.give_up.new.self; pool = c.age-expired.new.self }) (after h now) =
-    λ i. record { interface = own i; sockets = table i; pool = pool i } in
+    let all : ◌≡◌ {A = HostView} (record { interface = c.report_expired.new.interface; sockets = c.give_up.new.self; pool = c.age-expired.new.self; lately = h.lately }) (after h now) =
+    λ i. record { interface = own i; sockets = table i; pool = pool i; lately = h.lately } in
     all ∙ ap (after h) c.later_moment-now.ensures ∙ ap (λ (g : HostView). after_tick g c.args.now) c.self.view_is

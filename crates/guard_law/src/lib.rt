@@ -1,0 +1,4 @@
+//! What a host on its guard gives those that open a connection, over definitions alone: what it answered within a second keeps its place.
+#![tactic(auto)]
+
+pub mod laws;
