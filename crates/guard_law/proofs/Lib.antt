@@ -1,2 +1,3 @@
 mod Opening
 mod Seconds
+mod Wanting

@@ -1,1 +1,2 @@
+pub mod Wanting
 pub mod Waited
