@@ -1,3 +1,4 @@
+mod Nobody
 mod Opening
 mod Seconds
 mod Wanting

@@ -2,16 +2,21 @@
 
 ghost use Rattle.std.specs.Prelude.{◌≡◌, ◌⊎◌, ℕ, ◌≤◌, ◌<◌, ◌^◌, false, true, List, Contains, count_by, find, length, is_some, Some, Ok};
 ghost use Rattle.clock.specs.declared.moment.Moment.{Moment};
+ghost use Rattle.clock.specs.Moments.{has_come};
 ghost use Rattle.frames.specs.declared.meaning.Meaning.TheVariants.{Tcp};
 ghost use Rattle.frames.specs.declared.meaning.ReceivedSegment.{ReceivedSegment};
 ghost use Rattle.interface.specs.Ways.{is_routed};
 ghost use Rattle.ipv4.specs.declared.addr.Addr.{Addr};
 ghost use Rattle.ipv4.specs.declared.addr.Endpoint.{Endpoint};
 ghost use Rattle.tcp_segment.specs.Segment.{Segment};
+ghost use Rattle.tcp_segment.specs.Wire.{past};
 ghost use Rattle.tcp_halves.specs.Halves.{Room};
 ghost use Rattle.tcp_state.specs.Arrival.{opened_passively};
 ghost use Rattle.tcp_state.specs.Edges.{Event};
-ghost use Rattle.tcp_state.specs.Way.{is_unanswered};
+ghost use Rattle.tcp_state.specs.Timing.{after_tick};
+ghost use Rattle.tcp_state.specs.View.{View, is_syn_received, is_time_wait};
+ghost use Rattle.tcp_state.specs.Way.{is_unanswered, lies_past};
+ghost use Rattle.tcp_state.specs.Way as of_connection;
 ghost use Rattle.sockets.specs.declared.entry.Entry.{Entry};
 ghost use Rattle.sockets.specs.Arrival.{is_opening};
 ghost use Rattle.sockets.specs.Calls.{is_table_full};
@@ -29,6 +34,14 @@ ghost use Rattle.guard_law.specs.Wanting.{ComesTo, IsOnGuard};
 /// happened in between. For its retransmission timer begins as its SYN-ACK goes out, for a second, and only a tick that has come to it counts as an expiry.
 pub fn a_syn_ack_has_a_second()
     ensures { (room : Room) (local peer : Endpoint) (isn : ℕ) (syn : Segment) (opened : Moment) (events : List Event) → isn < 2 ^ 32 → is_unanswered (after_all (opened_passively room local peer isn syn opened) events) ≡ true → HasWaited events }
+{}
+
+/// A connection that a listener opened does count as unanswered as soon as a tick comes to its retransmission timer, at each of its twelve expiries. One in TIME-WAIT counts as left from its
+/// beginning where its caller closed it; and a SYN lies past all that was heard on it whose number stands at RCV.NXT, or less than 2^31 past it.
+pub fn what_may_give_way_counts()
+    ensures unanswered { (v : View) (now : Moment) → v.passive ≡ true → is_syn_received v.state ≡ true → has_come v.timers.retransmission now ≡ true → v.resend.expiries < 12 → is_unanswered (after_tick v now) ≡ true }
+    ensures left { (v : View) → is_time_wait v.state ≡ true → v.released ≡ true → of_connection.left_since v ≡ Some v.since }
+    ensures past { (v : View) (s : Segment) → past s.number v.receiving.rnext < 2 ^ 31 → lies_past v s ≡ true }
 {}
 
 /// On guard something gives way wherever room is wanting and something may. To a SYN whose listener's backlog is full, where one that waits there is unanswered; where the table is full, and the
