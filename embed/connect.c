@@ -19,7 +19,7 @@ static void begin(struct tap *tap)
     int64_t done = id < 0 ? id : bind_dynamic(&tap->host, (uint64_t)id, tap->options.addr, &peer);
     if (done >= 0) {
         const bool opens = host_would_connect(&tap->host, (uint64_t)id, peer.addr, peer.port, pair) == 1;
-        done = host_connect(&tap->host, tap->now, opens ? fresh_isn(pair) : 0, (uint64_t)id, peer.addr, peer.port);
+        done = tap_connect(tap, opens ? fresh_isn(pair) : 0, (uint64_t)id, &peer);
     }
     if (done < 0) {
         fail(tap, "connect", host_refusal_name(done));
@@ -49,7 +49,7 @@ static size_t wants(struct tap *tap, struct pollfd *polled)
 
 static void give_up(struct tap *tap, const char *what, const char *why)
 {
-    host_close(&tap->host, joint.id);
+    tap_close(tap, joint.id);
     fail(tap, what, why);
 }
 
@@ -73,7 +73,7 @@ static void ending_step(struct tap *tap)
         lingers = later(tap->now, LINGER);
     }
     if (now == HOST_STATE_CLOSED || (lingers != 0 && lingers <= tap->now)) {
-        const int64_t last = host_shutdown_write(&tap->host, joint.id);
+        const int64_t last = tap_shutdown_write(tap, joint.id);
         if (last == HOST_ECONNRESET || last == HOST_ETIMEDOUT) {
             fail(tap, "connection", host_refusal_name(last));
         } else {
@@ -128,7 +128,7 @@ static uint64_t deadline(struct tap *tap)
 /* The peer is told that the run ends; where the connection is over already, nothing is. */
 static void end(struct tap *tap)
 {
-    host_close(&tap->host, joint.id);
+    tap_close(tap, joint.id);
 }
 
 static uint64_t connection(size_t place)

@@ -59,16 +59,15 @@ static struct joint *joint_of(uint64_t id)
 
 static bool accept_step(struct tap *tap, size_t i)
 {
-    struct host_endpoint peer;
     struct joint *place = joint_of(0);
-    const int64_t id = place == NULL ? HOST_EAGAIN : host_accept(&tap->host, listeners[i], &peer);
+    const int64_t id = place == NULL ? HOST_EAGAIN : tap_accept(tap, listeners[i]);
     if (id < 0) {
         return false;
     }
     const int opened = open_there(tap->options.forwards[i].to);
     if (opened < 0) {
         tell(tap, "refused", (uint64_t)id, strerror(errno));
-        host_close(&tap->host, (uint64_t)id);
+        tap_close(tap, (uint64_t)id);
         return true;
     }
     tell(tap, "accepted", (uint64_t)id, "");
@@ -87,9 +86,9 @@ static void joint_end(struct joint *joint, struct tap *tap, bool resets, const c
     close(joint->from);
     tell(tap, "ended", joint->id, why);
     if (resets) {
-        host_abort(&tap->host, joint->id);
+        tap_abort(tap, joint->id);
     } else {
-        host_close(&tap->host, joint->id);
+        tap_close(tap, joint->id);
     }
     joint->id = 0;
 }

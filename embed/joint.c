@@ -115,7 +115,7 @@ static enum joint_state send_step(struct joint *joint, struct tap *tap)
 {
     struct passage *up = &joint->up;
     if (has_octets(up)) {
-        const int64_t taken = host_send(&tap->host, joint->id, up->octets + up->from, up->to - up->from);
+        const int64_t taken = tap_send(tap, joint->id, up->octets + up->from, up->to - up->from);
         if (taken < 0) {
             return taken == HOST_EAGAIN ? JOINT_GOES_ON : host_failed(joint, taken);
         }
@@ -123,7 +123,7 @@ static enum joint_state send_step(struct joint *joint, struct tap *tap)
         joint->moved = tap->now;
     }
     if (up->ended && !has_octets(up) && !up->told) {
-        const int64_t done = host_shutdown_write(&tap->host, joint->id);
+        const int64_t done = tap_shutdown_write(tap, joint->id);
         up->told = done == 0;
         return done == 0 ? JOINT_GOES_ON : host_failed(joint, done);
     }
@@ -137,7 +137,7 @@ static enum joint_state recv_step(struct joint *joint, struct tap *tap)
     if (!has_room(down)) {
         return JOINT_GOES_ON;
     }
-    const int64_t len = host_recv(&tap->host, joint->id, down->octets, sizeof down->octets);
+    const int64_t len = tap_recv(tap, joint->id, down->octets, sizeof down->octets);
     if (len < 0) {
         return len == HOST_EAGAIN ? JOINT_GOES_ON : host_failed(joint, len);
     }

@@ -160,12 +160,17 @@ static void side_put(struct side *side, uint64_t now, const uint8_t *frame, size
     }
 }
 
-static void record(const struct link *link, const uint8_t *frame, size_t len)
+uint64_t wall_clock(void)
 {
     struct timespec at;
+    clock_gettime(CLOCK_REALTIME, &at);
+    return (uint64_t)at.tv_sec * 1000000 + (uint64_t)at.tv_nsec / 1000;
+}
+
+static void record(const struct link *link, const uint8_t *frame, size_t len)
+{
     if (link->capture != NULL) {
-        clock_gettime(CLOCK_REALTIME, &at);
-        pcap_add(link->capture, (uint64_t)at.tv_sec * 1000000 + (uint64_t)at.tv_nsec / 1000, frame, len);
+        pcap_add(link->capture, wall_clock(), frame, len);
     }
 }
 

@@ -1,4 +1,5 @@
-"""The checks of embed/try-linux: Linux's sockets and programs converse with embed/tap. They run in the namespace that try-linux made.
+"""The checks of embed/try-linux: Linux's sockets and programs converse with embed/tap. They run in the namespace that try-linux made. Behind each the law of
+one host is checked on what was captured and logged (linux_law.py).
 
 linux_checks.py TAP DEVICE FOLDER WORD LONG RECOVERY: the program, its device, where captures go, a word that the names of the checks must have, or '',
 whether the long checks are made and no others: long, or '', and how the program repairs losses where a check doesn't say so itself: plain, newreno
@@ -23,8 +24,10 @@ import threading
 import time
 
 import linux_guards
+import linux_law
 import linux_pair
-from host import Host, Kind, Ready, State
+from host import Host, Kind, Ready, Recovery, State
+from linux_logged import LoggedHost
 
 OURS = "10.0.0.2"  # the host's address
 LINUX = "10.0.0.1"  # Linux's
@@ -37,6 +40,8 @@ LONG, LONGEST = 300, 3000  # how many seconds a check may take, and one that is 
 program, device, folder, word, is_long, recovery = sys.argv[1:]
 rows = []
 captures = []
+altered = []  # captures that have frames with wrong sums
+logged = []  # of each check that goes on the captures with their logs
 
 
 class Wrong(Exception):
@@ -55,10 +60,20 @@ def octets(count):
 # ---- The program
 
 
-def command(*words):
+def next_capture():
+    """Where the next capture goes, and its log, or None where none is kept."""
     capture = os.path.join(folder, f"{len(captures):02}.pcap")
     captures.append(capture)
-    return [program, "--tap", device, "--addr", OURS + "/24", "--recovery", recovery, "--pcap", capture, *map(str, words)]
+    if not logged:
+        return capture, None
+    logged[-1].append((capture, os.path.join(folder, f"{len(captures) - 1:02}.log")))
+    return logged[-1][-1]
+
+
+def command(*words):
+    capture, log = next_capture()
+    logs = [] if log is None else ["--log", log]
+    return [program, "--tap", device, "--addr", OURS + "/24", "--recovery", recovery, "--pcap", capture, *logs, *map(str, words)]
 
 
 def read_about_device(name):
@@ -208,15 +223,21 @@ def segment_in(frame, port):
 class OwnHost:
     """A host on the device in this process, in a `with`: its clock begins at 0, and `run` lets it go on. Each frame takes `late` seconds, either way."""
 
-    def __init__(self, late=0.0, guards=True):
-        self.late, self.guards, self.going, self.coming = late, guards, collections.deque(), collections.deque()
+    def __init__(self, late=0.0, guards=True, **options):
+        self.late, self.options, self.going, self.coming = late, {"guards": guards, **options}, collections.deque(), collections.deque()
 
     def __enter__(self):
         self.device = os.open("/dev/net/tun", os.O_RDWR | os.O_NONBLOCK)
         fcntl.ioctl(self.device, 0x400454CA, struct.pack("16sH", device.encode(), 0x1002))  # TUNSETIFF; IFF_TAP, IFF_NO_PI
         await_carrier()
-        self.host, self.began = Host(MAC, OURS, {"10.0.0.0/24": None}, guards=self.guards), time.monotonic()
+        self.host, self.began = self.made(), time.monotonic()
         return self
+
+    def made(self):
+        routes = {"10.0.0.0/24": None}
+        if not logged:
+            return Host(MAC, OURS, routes, **self.options)
+        return LoggedHost(MAC, OURS, routes, *next_capture(), **self.options)
 
     def __exit__(self, *_):
         os.close(self.device)
@@ -422,27 +443,44 @@ class ReadyEcho:
             want(self.waiting.get(id), f"a socket is forgotten: {id}, {ready}")
 
 
-def by_readiness(count, size):
+def echoes(own, count, size):
     """So many connections at once, each echoed by a program that asks what is ready."""
-    with OwnHost() as own:
-        echo_of, came = ReadyEcho(own), []
+    echo_of, came = ReadyEcho(own), []
 
-        def client(number):
-            with connected(7) as connection:
-                sender = threading.Thread(target=lambda: (connection.sendall(octets(size + number)), connection.shutdown(socket.SHUT_WR)))
-                sender.start()
-                came.append(read_to_end(connection) == octets(size + number))
-                sender.join()
+    def client(number):
+        with connected(7) as connection:
+            connection.settimeout(60)
+            sender = threading.Thread(target=lambda: (connection.sendall(octets(size + number)), connection.shutdown(socket.SHUT_WR)))
+            sender.start()
+            came.append(read_to_end(connection) == octets(size + number))
+            sender.join()
 
-        clients = [threading.Thread(target=client, args=(number,)) for number in range(count)]
-        for each in clients:
-            each.start()
-        for _ in own.run(until=lambda: len(came) == count, hear=echo_of.hear, seconds=60):
-            pass
-        for each in clients:
-            each.join()
+    clients = [threading.Thread(target=client, args=(number,)) for number in range(count)]
+    for each in clients:
+        each.start()
+    for _ in own.run(until=lambda: len(came) == count, hear=echo_of.hear, seconds=60):
+        pass
+    for each in clients:
+        each.join()
     want(all(came) and echo_of.ended == count, f"{sum(came)} come back equal, {echo_of.ended} end")
     return f"{count} echoes of {size:,} octets and more"
+
+
+def by_readiness(count, size):
+    with OwnHost() as own:
+        return echoes(own, count, size)
+
+
+def over_unruly_network(count, size, share, late):
+    """Of the datagrams of each way such a share is lost, as many are damaged, as many come twice, and each is late by up to so many seconds."""
+    with OwnHost(recovery=Recovery.SELECTIVE, first_segments=10, least_timeout=200, first_threshold=1 << 30) as own:
+        own.going, own.coming = (linux_law.UnrulyWay(seed, share, late) for seed in ("there", "back"))
+        altered.append(captures[-1])
+        said = echoes(own, count, size)
+        counts = own.host.counters()
+    damaged = counts.ip_header + counts.ip_sum + counts.upper_header + counts.upper_sum
+    want(damaged > 0, "no damaged frame came")
+    return f"{said}; {counts.frames_in:,} frames in, {damaged:,} of them damaged, {counts.frames_out:,} out"
 
 
 def flood_of_openings():
@@ -825,7 +863,7 @@ def to_host(size, *words, send=socket.socket.sendall):
                 send(connection, data)
                 connection.shutdown(socket.SHUT_WR)
                 want(read_to_end(connection) == b"", "octets of an empty input")
-            status = tap.result(20)
+            status = tap.result(LONG // 2)  # Linux still sends what it has taken, and waits longer for each loss of the same segment
         output.seek(0)
         want(status == (0, "") and output.read() == data, f"other octets come, or {status}")
     return "equal"
@@ -897,8 +935,23 @@ def to_host_in_turn(size, *words):
     return to_host(size, *words, send=send_in_turn)
 
 
-def to_host_late(size):
-    """Nobody takes what the program reads for a minute: the host's window closes, and Linux probes it."""
+def among_forged(size):
+    with linux_law.frames_beside(device, linux_law.forged) as sent:
+        result = to_host_in_turn(size)
+    altered.append(captures[-1])
+    want(len(sent) > 1000, f"{len(sent)} forged segments came")
+    return f"{result}; {len(sent):,} forged"
+
+
+def among_late_copies(size, *words):
+    with linux_law.frames_beside(device, linux_law.LateCopies(size, 7)) as sent:
+        result = to_host(size, *words)
+    want(len(sent) > 100, f"{len(sent)} copies came")
+    return f"{result}; {len(sent):,} copies"
+
+
+def to_host_late(size, seconds):
+    """Nobody takes what the program reads for so long: the host's window closes, and Linux probes it."""
     data = octets(size)
     with listener() as server:
         words = ["--patience", 200, "--connect", LINUX, server.getsockname()[1]]
@@ -907,7 +960,7 @@ def to_host_late(size):
                 connection.settimeout(LONG)
                 sender = threading.Thread(target=lambda: (connection.sendall(data), connection.shutdown(socket.SHUT_WR)), daemon=True)
                 sender.start()
-                time.sleep(60)
+                time.sleep(seconds)
                 want(sender.is_alive(), "Linux has sent all before anything is read")
                 came = tap.process.stdout.read()
                 sender.join()
@@ -1080,19 +1133,31 @@ def forward_server_reset():
     return "ECONNRESET told to the client"
 
 
+def changes_refused():
+    logged.append([])
+    try:
+        to_host(MEGABYTE, "--lose", "in:11")
+    finally:
+        ((capture, log),) = logged.pop()
+    are_refused, said = linux_law.refused_changes(capture, log)
+    want(are_refused, said)
+    os.remove(log)
+    return said.splitlines()[-1]
+
+
 BAD = re.compile(rb"\(incorrect|bad cksum|bad udp cksum|bad icmp|wrong icmp cksum|\[\|")
 
 
 def captures_read():
-    frames = 0
-    for capture in captures:
+    frames, unaltered = 0, [capture for capture in captures if capture not in altered]
+    for capture in unaltered:
         done = subprocess.run(["tcpdump", "-nn", "-vv", "-r", capture], capture_output=True, timeout=120)
         want(done.returncode == 0, done.stderr.decode())
         bad = BAD.search(done.stdout)
         want(not bad, f"{capture}: {bad and done.stdout[bad.start() - 300:bad.end() + 100]}")
         counted = subprocess.run(["tcpdump", "-nn", "--count", "-r", capture], capture_output=True, text=True, timeout=120)
         frames += int((re.search(r"(\d+) packet", counted.stdout) or re.search(r"(\d+)", "0")).group(1))
-    return f"{len(captures)} captures, {frames:,} frames, no bad checksum"
+    return f"{len(unaltered)} captures, {frames:,} frames, no bad checksum"
 
 
 CHECKS = [
@@ -1146,7 +1211,12 @@ CHECKS = [
     ("100 MB from Linux to Linux, one frame in 100 lost at random", linux_alone, (100 * MEGABYTE, 100), ""),
     ("1 MB from the host, Linux doesn't read for a minute", from_host_late, (MEGABYTE, 65536), ""),
     ("100 MB from the host, Linux doesn't read for a minute", from_host_late, (100 * MEGABYTE, 0), ""),
-    ("100 MB to the host, which doesn't read for a minute", to_host_late, (100 * MEGABYTE,), ""),
+    ("100 MB to the host, which doesn't read for a minute", to_host_late, (100 * MEGABYTE, 60), ""),
+    ("10 MB to the host, which doesn't read for ten seconds", to_host_late, (10 * MEGABYTE, 10), ""),
+    ("1 MB to the host, one in flight, among forged segments", among_forged, (MEGABYTE,), ""),
+    ("1 MB to the host, every 3rd frame in lost, each again in another order", among_late_copies, (MEGABYTE, "--lose", "in:3"), ""),
+    ("4 echoes of 500 kB, 2 % of frames lost, 2 % damaged, 2 % twice, each up to 5 ms late", over_unruly_network, (4, 500_000, 0.02, 0.005), ""),
+    ("the law of one host: a capture or a log that is changed is refused", changes_refused, (), ""),
     ("window scale: what TCP_INFO has", scaled, (), ""),
     ("window scale: --no-scale", not_scaled, (), ""),
     ("window scale: 10 MB to the host, Linux without the option", not_scaled_by_linux, (to_host, 10 * MEGABYTE), ""),
@@ -1174,6 +1244,19 @@ LONG_CHECKS = [
 ]
 
 
+def captured(name, body, arguments):
+    """What a check says, and the captures of its runs with their logs. Of 100 MB, whose log has 200 MB, and whose segments are counted as they cross the
+    device, there is no log."""
+    if name.startswith("100 MB"):
+        return body(*arguments), []
+    logged.append([])
+    try:
+        result = body(*arguments)
+    finally:
+        pairs = logged.pop()
+    return result, pairs
+
+
 def on_alarm(*_):
     raise Wrong("it takes too long")
 
@@ -1182,11 +1265,13 @@ def check(name, body, arguments, remark):
     began = time.monotonic()
     signal.alarm(LONGEST if is_long else LONG)
     try:
-        holds, result = True, body(*arguments)
-    except (Wrong, OSError, subprocess.SubprocessError) as fault:
+        result, pairs = captured(name, body, arguments)
+        seconds = time.monotonic() - began
+        holds, result = True, result + linux_law.held(pairs)
+    except (Wrong, linux_law.Broken, OSError, subprocess.SubprocessError) as fault:
+        seconds = time.monotonic() - began
         holds, result = False, f"{type(fault).__name__}: {fault}"
     signal.alarm(0)
-    seconds = time.monotonic() - began
     rows.append((holds, name, result, seconds, remark))
     print(f"{'ok   ' if holds else 'WRONG'} {seconds:6.1f} s  {name}: {result}", flush=True)
 

@@ -39,6 +39,8 @@ static const char help[] =
     "  --repeat [in:|out:]N       every N-th comes twice\n"
     "  --delay [in:|out:]MS       each is late by so many milliseconds\n"
     "  --pcap FILE                writes what crosses the device as a capture for tcpdump and Wireshark\n"
+    "  --log FILE                 writes the socket calls that open, end or move octets, a line each, for tools/check-capture; the capture is then of\n"
+    "                             what the host is given and gives, whatever is lost, late or twice on its way\n"
     "\n"
     "Others:\n"
     "  --openings N               takes at most N connections a second; a SYN beyond them is passed over, and comes again\n"
@@ -162,7 +164,7 @@ static void read_forward(struct options *options, const char *port, const char *
     forward->to.port = read_port("--forward", strrchr(to, ':') + 1);
 }
 
-enum { TAP = 1, TUN, ADDR, GATEWAY, MAC, NO_SCALE, RECOVERY, CONNECT, FORWARD, SOURCE, LOSE, DROP, REPEAT, DELAY, PCAP, OPENINGS, IDLE, PATIENCE, STATS, VERBOSE, HELP };
+enum { TAP = 1, TUN, ADDR, GATEWAY, MAC, NO_SCALE, RECOVERY, CONNECT, FORWARD, SOURCE, LOSE, DROP, REPEAT, DELAY, PCAP, OPENINGS, IDLE, PATIENCE, STATS, LOG, VERBOSE, HELP };
 
 static const struct option words[] = {
     {"tap", required_argument, NULL, TAP},           {"tun", required_argument, NULL, TUN},
@@ -175,6 +177,7 @@ static const struct option words[] = {
     {"delay", required_argument, NULL, DELAY},       {"pcap", required_argument, NULL, PCAP},     {"idle", required_argument, NULL, IDLE},
     {"patience", required_argument, NULL, PATIENCE}, {"verbose", no_argument, NULL, VERBOSE},     {"help", no_argument, NULL, HELP},
     {"openings", required_argument, NULL, OPENINGS}, {"stats", required_argument, NULL, STATS},
+    {"log", required_argument, NULL, LOG},
     {NULL, 0, NULL, 0},
 };
 
@@ -210,6 +213,9 @@ static void read_trial(struct options *options, int which)
         break;
     case PCAP:
         options->capture = optarg;
+        break;
+    case LOG:
+        options->log = optarg;
         break;
     case SOURCE:
         options->source = read_number("--source", optarg, 1, 1000000000000);
@@ -297,6 +303,9 @@ static void complete(struct options *options)
     }
     if (options->connects && options->forward_count != 0) {
         usage_fault("--connect and --forward exclude each other");
+    }
+    if (options->log != NULL && options->capture == NULL) {
+        usage_fault("--log goes with --pcap alone");
     }
     if (options->source != 0 && (options->connects || options->forward_count != 0)) {
         usage_fault("--source goes with the services alone");

@@ -51,13 +51,13 @@ static size_t wants(struct tap *tap, struct pollfd *polled)
 static bool datagram_step(struct tap *tap)
 {
     if (!at.is_waiting) {
-        const int64_t len = host_recvfrom(&tap->host, at.datagrams, at.datagram, sizeof at.datagram, &at.from);
+        const int64_t len = tap_recvfrom(tap, at.datagrams, at.datagram, sizeof at.datagram, &at.from);
         if (len < 0) {
             return false;
         }
         at.waits = (size_t)len;
     }
-    at.is_waiting = host_sendto(&tap->host, at.datagrams, at.from.addr, at.from.port, at.datagram, at.waits) == HOST_EAGAIN;
+    at.is_waiting = tap_sendto(tap, at.datagrams, &at.from, at.datagram, at.waits) == HOST_EAGAIN;
     return !at.is_waiting;
 }
 
@@ -83,7 +83,7 @@ static int64_t take(struct served *served, struct tap *tap)
     if (served->ended || (served->service == ECHO && served->from < served->to)) {
         return HOST_EAGAIN;
     }
-    const int64_t len = host_recv(&tap->host, served->id, room, sizeof thrown);
+    const int64_t len = tap_recv(tap, served->id, room, sizeof thrown);
     served->ended = len == 0;
     if (len >= 0 && served->service == ECHO) {
         served->from = 0;
@@ -99,13 +99,13 @@ static int64_t give(struct served *served, struct tap *tap)
         fill(served, tap->options.source);
     }
     if (served->from < served->to) {
-        const int64_t len = host_send(&tap->host, served->id, served->octets + served->from, served->to - served->from);
+        const int64_t len = tap_send(tap, served->id, served->octets + served->from, served->to - served->from);
         served->from += len > 0 ? (size_t)len : 0;
         return len;
     }
     if (!served->shut && (served->ended || served->service == SOURCE)) {
         served->shut = true;
-        return host_shutdown_write(&tap->host, served->id);
+        return tap_shutdown_write(tap, served->id);
     }
     return HOST_EAGAIN;
 }
@@ -114,7 +114,7 @@ static int64_t give(struct served *served, struct tap *tap)
 static void end_one(struct served *served, struct tap *tap, const char *why, bool is_reset)
 {
     tell(tap, "ended", served->id, why);
-    (is_reset ? host_abort : host_close)(&tap->host, served->id);
+    (is_reset ? tap_abort : tap_close)(tap, served->id);
     served->id = 0;
 }
 
@@ -152,9 +152,8 @@ static struct served *served_as(uint64_t id)
 static bool accept_step(struct tap *tap, enum service service)
 {
     static const char *const names[SERVICES] = {"echo", "discard", "source"};
-    struct host_endpoint peer;
     struct served *place = served_as(0);
-    const int64_t id = at.listeners[service] == 0 || place == NULL ? HOST_EAGAIN : host_accept(&tap->host, at.listeners[service], &peer);
+    const int64_t id = at.listeners[service] == 0 || place == NULL ? HOST_EAGAIN : tap_accept(tap, at.listeners[service]);
     if (id < 0) {
         return false;
     }

@@ -123,16 +123,27 @@ static int open_device(struct tap *tap)
     return options->tun == NULL ? link_open(&tap->link, options->tap) : link_open_tun(&tap->link, options->tun, options->mac);
 }
 
+static bool open_capture(struct tap *tap)
+{
+    const struct options *options = &tap->options;
+    if (options->capture != NULL && (tap->capture = pcap_begin(options->capture)) == NULL) {
+        fail(tap, options->capture, strerror(errno));
+        return false;
+    }
+    if (options->log != NULL && !log_begin(tap, options->log)) {
+        fail(tap, options->log, strerror(errno));
+        return false;
+    }
+    tap->link.capture = options->log == NULL ? tap->capture : NULL;
+    return true;
+}
+
 static bool open_link(struct tap *tap)
 {
     tap->link.in.faults = tap->options.in;
     tap->link.out.faults = tap->options.out;
-    if (tap->options.capture != NULL) {
-        tap->link.capture = pcap_begin(tap->options.capture);
-        if (tap->link.capture == NULL) {
-            fail(tap, tap->options.capture, strerror(errno));
-            return false;
-        }
+    if (!open_capture(tap)) {
+        return false;
     }
     if (open_device(tap) != 0) {
         fail(tap, tap->options.device, strerror(errno));
@@ -146,7 +157,7 @@ static void send_one(struct tap *tap, const uint8_t *frame, size_t len)
 {
     uint8_t reply[ARP_SIZE];
     if (link_answers(&tap->link, frame, len, reply)) {
-        host_deliver(&tap->host, tap->now, 0, reply, sizeof reply);
+        tap_deliver(tap, 0, reply, sizeof reply);
     } else {
         link_send(&tap->link, tap->now, frame, len);
     }
@@ -157,7 +168,7 @@ static bool drain(struct tap *tap)
 {
     uint8_t frame[HOST_FRAME_SIZE];
     for (int sent = 0; sent < SENT_MOST; sent++) {
-        const int64_t len = host_next_frame(&tap->host, tap->now, frame);
+        const int64_t len = tap_next_frame(tap, frame);
         if (len <= 0) {
             return true;
         }
@@ -202,7 +213,7 @@ static void hear_one(struct tap *tap, const uint8_t *frame, size_t len)
     struct host_endpoint pair[2];
     const bool opens = host_would_open(&tap->host, frame, len, pair) == 1;
     if (!opens || may_open(tap)) {
-        host_deliver(&tap->host, tap->now, opens ? fresh_isn(pair) : 0, frame, len);
+        tap_deliver(tap, opens ? fresh_isn(pair) : 0, frame, len);
     }
 }
 
@@ -265,8 +276,11 @@ static void wait_until(struct tap *tap, struct pollfd *polled, size_t count, uin
     const uint64_t now = clock_now();
     const uint64_t wait = moment <= now ? 0 : moment - now;
     const struct timespec time = {(time_t)(wait / 1000), (long)(wait % 1000) * 1000000};
-    if (tap->link.capture != NULL) {
-        fflush(tap->link.capture);
+    if (tap->capture != NULL) {
+        fflush(tap->capture);
+    }
+    if (tap->log.calls != NULL) {
+        fflush(tap->log.calls);
     }
     if (ppoll(polled, count, moment == NEVER ? NULL : &time, waiting) < 0) {
         for (size_t i = 0; i < count; i++) {
@@ -292,15 +306,13 @@ static void run(struct tap *tap, const struct work *work, const sigset_t *waitin
     }
 }
 
-static void close_capture(struct tap *tap)
+/* Closes a capture or a log, where there is one; tells where it isn't whole. */
+static void close_file(struct tap *tap, FILE *file, const char *path, const char *fault)
 {
-    FILE *capture = tap->link.capture;
-    if (capture == NULL) {
-        return;
-    }
-    const bool is_whole = ferror(capture) == 0;
-    if (fclose(capture) != 0 || !is_whole) {
-        fail(tap, tap->options.capture, "the capture isn't whole");
+    const bool is_whole = file == NULL || ferror(file) == 0;
+    if (file != NULL && (fclose(file) != 0 || !is_whole)) {
+        fprintf(stderr, "tap: %s: %s\n", path, fault);
+        tap->status = 1;
     }
 }
 
@@ -334,7 +346,8 @@ int main(int argc, char **argv)
     if (tap.options.verbose) {
         print_counters(&tap);
     }
-    close_capture(&tap);
+    close_file(&tap, tap.capture, tap.options.capture, "the capture isn't whole");
+    close_file(&tap, tap.log.calls, tap.options.log, "the log isn't whole");
     link_close(&tap.link);
     host_free(&tap.host);
     return tap.status;

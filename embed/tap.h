@@ -67,6 +67,8 @@ void link_send(struct link *link, uint64_t now, const uint8_t *frame, size_t len
 void link_flush(struct link *link, uint64_t now);
 /* When the first of the frames that wait is due, or NEVER. */
 uint64_t link_deadline(const struct link *link);
+/* The moment in microseconds, as captures have it. */
+uint64_t wall_clock(void);
 
 /* A port of the host, and the endpoint of the system's to which its connections are joined. */
 struct forward {
@@ -76,7 +78,7 @@ struct forward {
 
 struct options {
     const char *tap, *tun;        /* the device by either option; the other is NULL */
-    const char *device, *capture;
+    const char *device, *capture, *log;
     uint8_t mac[6];
     bool has_mac, no_scale, verbose;
     uint8_t recovery;             /* HOST_RECOVERY_PLAIN, with timeouts of a second at least, or another */
@@ -96,11 +98,19 @@ struct options {
 /* The words of the command line. A fault ends the program with status 2, --help with 0. */
 void options_read(struct options *options, int argc, char **argv);
 
+/* The socket calls of a run, a line each (NULL: they aren't noted), and how many frames the capture has so far. */
+struct log {
+    FILE *calls;
+    uint64_t frames;
+};
+
 /* All of a run. `status` is what the program ends with, -1 while it goes on. */
 struct tap {
     struct options options;
     struct host host;
     struct link link;
+    FILE *capture;                /* or NULL. It is taken at the device, and where calls are noted at the host */
+    struct log log;
     uint64_t now;
     int status;
     struct pollfd *polled;        /* what the work waits for, after the device's own place */
@@ -133,6 +143,20 @@ void tell(const struct tap *tap, const char *what, uint64_t id, const char *more
 void print_counters(struct tap *tap);
 /* The same, and a line for each connection. */
 void print_stats(struct tap *tap, const struct work *work);
+/* Begins the log in a file of this name: false, and errno, where it can't. A failure behind it shows when the file is closed. */
+bool log_begin(struct tap *tap, const char *path);
+/* As the calls of the host, each noted where there is a log; so are the frames that it is given and gives. */
+void tap_deliver(struct tap *tap, uint32_t isn, const uint8_t *frame, size_t len);
+int64_t tap_next_frame(struct tap *tap, uint8_t frame[HOST_FRAME_SIZE]);
+int64_t tap_accept(struct tap *tap, uint64_t listener);
+int64_t tap_connect(struct tap *tap, uint32_t isn, uint64_t id, const struct host_endpoint *peer);
+int64_t tap_send(struct tap *tap, uint64_t id, const uint8_t *octets, size_t len);
+int64_t tap_recv(struct tap *tap, uint64_t id, uint8_t *buffer, size_t len);
+int64_t tap_shutdown_write(struct tap *tap, uint64_t id);
+void tap_close(struct tap *tap, uint64_t id);
+void tap_abort(struct tap *tap, uint64_t id);
+int64_t tap_sendto(struct tap *tap, uint64_t id, const struct host_endpoint *peer, const uint8_t *octets, size_t len);
+int64_t tap_recvfrom(struct tap *tap, uint64_t id, uint8_t *buffer, size_t len, struct host_endpoint *from);
 /* A listener of the host at this port: its id; 0 after `fail`. */
 uint64_t listen_at(struct tap *tap, uint16_t port);
 /* What a socket is ready for: HOST_READY_ bits, none where there is no such socket. */
