@@ -10,13 +10,13 @@ use Rattle.reassembly.specs.Reassembly.{Reassembly}
 use Rattle.sockets.specs.SocketsView.{SocketsView, new_sockets}
 use Rattle.host.specs.ConfigView.{ConfigView, IsConfig}
 use Rattle.host.specs.HostView.{HostView, new_host}
-use Rattle.host.specs.Runs.{HasRun}
+use Rattle.host.specs.Runs.{HasRunOnOctets}
 use Rattle.host.proofs.Ran.{run-begins}
 
 pub run-made : {E F G : Type 0} (c : ConfigView) (mac : Mac) (addr : Addr) (routes : List Route) (manner : Manner) (frames : Result InterfaceView E) (table : Result SocketsView F)
     → (places : Result (List (Option Reassembly)) G) → IsConfig c → mac ≡ c.mac → addr ≡ c.addr → routes ≡ c.routes → manner ≡ c.manner
     → IfOk frames (λ x. x ≡ fresh mac addr routes) → IfOk table (λ t. t ≡ new_sockets addr manner) → IfOk places (λ y. y ≡ replicate 4 None)
-    → IfOk frames (λ x. IfOk table (λ t. IfOk places (λ y. HasRun (record { interface = x; sockets = t; pool = y; lately = [] }))))
+    → IfOk frames (λ x. IfOk table (λ t. IfOk places (λ y. HasRunOnOctets (record { interface = x; sockets = t; pool = y; lately = [] }))))
 run-made c mac addr routes manner (Ok x) (Ok t) (Ok y) set_up is_mac is_addr is_routes is_manner is_x is_table is_y =
     let is : ◌≡◌ {A = HostView} (record { interface = x; sockets = t; pool = y; lately = [] }) (new_host c) = cc in
     run-begins c _ set_up is

@@ -19,7 +19,7 @@ use Rattle.sockets.specs.Timing as timing
 use Rattle.sockets.specs.Timing.{EachKeepsTime}
 use Rattle.host.specs.ConfigView.{ConfigView, IsConfig}
 use Rattle.host.specs.HostView.{HostView, new_host, with_sockets}
-use Rattle.host.specs.Runs.{Event, Calls, IsAsked, IsCall, IsNumbered, Makes, Runs, Begins, GoesOn, HasRun}
+use Rattle.host.specs.Runs.{Event, Calls, IsAsked, IsCall, IsNumbered, IsOfOctets, Makes, Runs, Begins, GoesOn, HasRun, HasRunOnOctets}
 use Rattle.host.specs.Sound.{IsSoundHost}
 use Rattle.host.proofs.Causes.{all-behind, run-stands}
 use Rattle.host.proofs.FrameSide.{run-side}
@@ -27,33 +27,36 @@ use Rattle.host.proofs.Tables.{run-addr, run-manner, run-reached, run-ordered, r
 
 -- Nothing happened to it ..
 
-pub run-begins : (c : ConfigView) (h : HostView) → IsConfig c → h ≡ new_host c → HasRun h
-run-begins c h set_up is = record { config = c; set_up = set_up; events = []; asked = tt; runs = subst (Runs c []) (sym is) Begins }
+pub run-begins : (c : ConfigView) (h : HostView) → IsConfig c → h ≡ new_host c → HasRunOnOctets h
+run-begins c h set_up is = record { run = record { config = c; set_up = set_up; events = []; asked = tt; runs = subst (Runs c []) (sym is) Begins }; octets = tt }
 
 -- .. or one event more.
 
-run-on : (event : Event) (old new : HostView) → IsSoundHost old → (run : HasRun old) → IsNumbered event → IsAsked run.config event → Makes event old new → HasRun new
-run-on event old new sound run small may makes = record {
-  config = run.config;
-  set_up = run.set_up;
-  events = run.events ++ event ∷ [];
-  asked = all-behind (IsAsked run.config) run.events event run.asked may;
-  runs = GoesOn run.events event old new run.runs sound small makes;
+run-on : (event : Event) (old new : HostView) → IsSoundHost old → (ran : HasRunOnOctets old) → IsNumbered event → IsOfOctets event → IsAsked ran.run.config event → Makes event old new → HasRunOnOctets new
+run-on event old new sound ran small octets may makes = let run : HasRun old = ran.run in record {
+  run = record {
+    config = run.config;
+    set_up = run.set_up;
+    events = run.events ++ event ∷ [];
+    asked = all-behind (IsAsked run.config) run.events event run.asked may;
+    runs = GoesOn run.events event old new run.runs sound small makes;
+  };
+  octets = all-behind IsOfOctets run.events event ran.octets octets;
 }
 
 -- It finds the layers of a host that is sound.
-pub ran : {old host : HostView} (event : Event) (new : HostView) → old ≡ host → IsSoundHost host → HasRun old → IsNumbered event → ((c : ConfigView) → IsAsked c event) → Makes event old new → HasRun new
-ran {old = old} event new is sound run small may makes = run-on event old new (subst IsSoundHost (sym is) sound) run small (may run.config) makes
+pub ran : {old host : HostView} (event : Event) (new : HostView) → old ≡ host → IsSoundHost host → HasRunOnOctets old → IsNumbered event → IsOfOctets event → ((c : ConfigView) → IsAsked c event) → Makes event old new → HasRunOnOctets new
+ran {old = old} event new is sound so small octets may makes = run-on event old new (subst IsSoundHost (sym is) sound) so small octets (may so.run.config) makes
 
 -- A call makes one event of the table, where it isn't refused, and asks the host's own routes.
-pub called : {T : Type 0} {old layers host : HostView} (r : Result T Refusal) (call : table.Event) (new : SocketsView) → old ≡ layers → layers ≡ host → IsSoundHost host → HasRun layers
+pub called : {T : Type 0} {old layers host : HostView} (r : Result T Refusal) (call : table.Event) (new : SocketsView) → old ≡ layers → layers ≡ host → IsSoundHost host → HasRunOnOctets layers
     → timing.IsNumbered call → IsCall old.interface.routes call → (is_ok r ≡ true → IsAllowed old.sockets call) → OnOk r (new ≡ table.after_event old.sockets call) → OnErr r (new ≡ old.sockets)
-    → HasRun (with_sockets old new)
+    → HasRunOnOctets (with_sockets old new)
 called {old = old} (Ok value) call new opened is sound run small own allowed made same =
-    let so : HasRun old = subst HasRun (sym opened) run in
-    let keeps = run-side so.config so.events old so.runs in
-    run-on (Calls call) old (with_sockets old new) (subst IsSoundHost (sym (opened ∙ is)) sound) so small (subst (λ (routes : List Route). IsCall routes call) keeps.same own) (allowed refl, ap (with_sockets old) made)
-called {old = old} (Err refusal) call new opened is sound run small own allowed made same = subst HasRun (sym opened ∙ sym (ap (with_sockets old) same)) run
+    let so : HasRunOnOctets old = subst HasRunOnOctets (sym opened) run in
+    let keeps = run-side so.run.config so.run.events old so.run.runs in
+    run-on (Calls call) old (with_sockets old new) (subst IsSoundHost (sym (opened ∙ is)) sound) so small tt (subst (λ (routes : List Route). IsCall routes call) keeps.same own) (allowed refl, ap (with_sockets old) made)
+called {old = old} (Err refusal) call new opened is sound run small own allowed made same = subst HasRunOnOctets (sym opened ∙ sym (ap (with_sockets old) same)) run
 
 -- that it isn't, by its refusal ..
 pub unrefused : {T : Type 0} (r : Result T Refusal) (refusal : Option Refusal) → result_err r ≡ refusal → is_ok r ≡ true → refusal ≡ None
@@ -70,8 +73,8 @@ has-place : (r : Result SocketId Refusal) (full : Bool) → (r ≡ Err EMFILE) �
 has-place r false is fine = refl
 has-place r true is fine = let refused : r ≡ Err EMFILE = is.1 refl in let no = sym (ap is_ok refused) ∙ fine in cc
 
-pub made : {old layers host : HostView} (r : Result SocketId Refusal) (kind : Kind) (new : SocketsView) → old ≡ layers → layers ≡ host → IsSoundHost host → HasRun layers
-    → (r ≡ Err EMFILE) ↔ IsTrue (is_table_full old.sockets) → IfOk r (λ id. (id.0 ≡ old.sockets.last_id + 1) × IsMade kind old.sockets new) → OnErr r (new ≡ old.sockets) → HasRun (with_sockets old new)
+pub made : {old layers host : HostView} (r : Result SocketId Refusal) (kind : Kind) (new : SocketsView) → old ≡ layers → layers ≡ host → IsSoundHost host → HasRunOnOctets layers
+    → (r ≡ Err EMFILE) ↔ IsTrue (is_table_full old.sockets) → IfOk r (λ id. (id.0 ≡ old.sockets.last_id + 1) × IsMade kind old.sockets new) → OnErr r (new ≡ old.sockets) → HasRunOnOctets (with_sockets old new)
 made {old = old} (Ok id) Tcp new opened is sound run full new_one same =
     called (Ok id) (table.Makes (room_of old.sockets.manner)) new opened is sound run tt tt (has-place (Ok id) (is_table_full old.sockets) full) new_one.1 tt
 made {old = old} (Ok id) Udp new opened is sound run full new_one same =

@@ -1,5 +1,5 @@
 -- What may happen to a host, one event after another, and what was delivered to it by then.
-use Rattle.std.specs.Prelude.{◌≡◌, ℕ, ◌≤◌, ◌<◌, ◌^◌, List, [], ◌∷◌, ◌++◌, Contains, is_some, Result, Ok}
+use Rattle.std.specs.Prelude.{◌≡◌, ℕ, ◌≤◌, ◌<◌, ◌^◌, List, [], ◌∷◌, ◌++◌, All, Contains, is_some, Result, Ok}
 use Rattle.std.specs.List.{AllByRecursion}
 use Rattle.clock.specs.declared.moment.Moment.{Moment}
 use Rattle.frames.specs.declared.drop.DropCause.{DropCause}
@@ -96,6 +96,13 @@ IsAsked c (Ticks now) = Unit {0}
 IsAsked c (Delivers now isn octets) = Unit {0}
 IsAsked c (Emits now) = Unit {0}
 
+-- what is delivered is octets
+abbrev pub IsOfOctets : Event → Type 0
+IsOfOctets (Delivers now isn octets) = All (λ octet. octet < 256) octets
+IsOfOctets (Calls call) = Unit {0}
+IsOfOctets (Ticks now) = Unit {0}
+IsOfOctets (Emits now) = Unit {0}
+
 -- A list of events that may be asked of it leads to this host, from one of a set-up on which nothing happened. `Host::sound` says so of every host.
 pub record HasRun (h : HostView) : Type 0 where
   pub config : ConfigView
@@ -103,6 +110,11 @@ pub record HasRun (h : HostView) : Type 0 where
   pub events : List Event
   pub asked : AllByRecursion (IsAsked config) events
   pub runs : Runs config events h
+
+-- .. and all that they deliver is octets. `Host::sound` says so too.
+pub record HasRunOnOctets (h : HostView) : Type 0 where
+  pub run : HasRun h
+  pub octets : AllByRecursion IsOfOctets run.events
 
 -- one of these events was the delivery of octets that are this to a host of this set-up
 pub record WasHeard (c : ConfigView) (events : List Event) (meaning : Meaning) : Type 0 where

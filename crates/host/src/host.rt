@@ -26,21 +26,21 @@ pub struct Host {
 
 impl Model for Host {
     ghost use Rattle.host.specs.HostView.{HostView};
-    ghost use Rattle.host.specs.Runs.{HasRun};
+    ghost use Rattle.host.specs.Runs.{HasRunOnOctets};
 
     ghost Value = { HostView };
 
     ghost view = { λ h. h.layers };
 
     // There is no host but one that a list of events led to.
-    ghost invariant = { λ h. HasRun h.layers };
+    ghost invariant = { λ h. HasRunOnOctets h.layers };
 }
 
 impl Host {
     ghost use Rattle.host.specs.HostView.{new_host};
     ghost use Rattle.host.specs.Arrival.{IsDelivered, foreseen};
     ghost use Rattle.host.specs.Emission.{emission_len, after_emission, emission_front};
-    ghost use Rattle.host.specs.Runs.{HasRun};
+    ghost use Rattle.host.specs.Runs.{HasRun, HasRunOnOctets};
     ghost use Rattle.host.specs.Sound.{IsSoundHost};
     ghost use Rattle.host.specs.Ticks.{after_tick, least_deadline};
     ghost use Rattle.sockets.specs.SocketsView.{holder_id};
@@ -69,7 +69,7 @@ impl Host {
         sockets: Result<Sockets, AllocError>,
         pool: Result<Pool, PoolFault>,
     ) -> Result<Host, Refusal>
-        requires { IfOk interface (λ frames. IfOk sockets (λ table. IfOk pool (λ places. HasRun (record { interface = frames; sockets = table; pool = places; lately = [] })))) }
+        requires { IfOk interface (λ frames. IfOk sockets (λ table. IfOk pool (λ places. HasRunOnOctets (record { interface = frames; sockets = table; pool = places; lately = [] })))) }
         ensures { MatchResult interface
             (λ frames. MatchResult sockets
             (λ table. MatchResult pool (λ places. result ≡ Ok (record { interface = frames; sockets = table; pool = places; lately = [] })) (λ refused. result ≡ Err Refusal.ENOMEM))
@@ -176,6 +176,7 @@ impl Host {
     pub fn sound(&self)
         ensures sound { IsSoundHost self.now }
         ensures run { HasRun self.now }
+        ensures octets { HasRunOnOctets self.now }
         ensures reached { IsReached self.now.sockets }
         ensures ordered { IsOrdered self.now.sockets }
         ensures over { NoneIsOver self.now.sockets }
