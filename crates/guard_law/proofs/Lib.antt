@@ -1,4 +1,4 @@
 mod Nobody
-mod Opening
+pub mod Opening
 mod Seconds
 mod Wanting

@@ -1,7 +1,10 @@
 //! The handle: one pointer, to a host on the heap or to none.
 
-ghost use Rattle.std.specs.Prelude.{◌≡◌, Option, None, Some, option_map};
+ghost use Rattle.std.specs.Prelude.{◌≡◌, MatchOption, Option, None, Some, option_map};
 ghost use Rattle.host.specs.HostView.{HostView};
+ghost use Rattle.host.specs.Runs.{HasRunOnOctets};
+ghost use Rattle.host_law.specs.History.{history};
+ghost use Rattle.host_law.specs.HostLaw.{HostLaw};
 ghost use Rattle.std.specs.Fn.{FnOnceReturnsAtMut};
 ghost use Rattle.counters.specs.declared.counters.Counters.{Counters};
 ghost use Rattle.hostc.specs.Calls.{Asks};
@@ -10,6 +13,7 @@ ghost use Rattle.hostc.specs.Held.{held};
 use crate::counted::Counted;
 use crate::parts::Parts;
 use host::{Host, Refusal};
+use host_law::laws::every_run_of_a_host;
 use std::alloc::Global;
 use std::marker::Model;
 use std::mem::replace;
@@ -85,6 +89,18 @@ impl Handle {
         let answer = call(&mut kept.host);
         self.put(alloc, kept);
         answer
+    }
+
+    /// The law of one host holds of the host that it holds (`docs/HOST_LAW.md`): a run led to that one, whose frames were of octets. It changes nothing.
+    pub fn lawful(&mut self, alloc: Global)
+        ensures law { MatchOption self.old.host (self.new.host ≡ None) (λ h. (self.new.host ≡ Some h) × (was : HasRunOnOctets h) × HostLaw was.run.config h (history was.run.runs)) }
+        ensures counters { self.new.counters ≡ self.old.counters }
+    {
+        if let Some(kept) = self.take(alloc) {
+            kept.host.sound();
+            every_run_of_a_host();
+            self.put(alloc, kept);
+        }
     }
 
     /// Puts a host in, with its counters. One that it held is gone.

@@ -1,0 +1,9 @@
+pub mod History
+pub mod Callers
+pub mod Positions
+pub mod Frames
+pub mod Coming
+pub mod Going
+pub mod Apart
+pub mod Datagrams
+pub mod HostLaw
