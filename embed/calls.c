@@ -3,8 +3,7 @@
 
 #include <inttypes.h>
 
-/* Octets that `host_send` takes before the peer has acknowledged some: where both SYNs had the window scale option, and else (host.h). */
-enum { SCALED_BUFFER = 1048576, PLAIN_BUFFER = 65535 };
+enum { PLAIN_BUFFER = 65535 }; /* octets of a buffer that are used at most where not both SYNs had the window scale option (host.h) */
 
 enum { TEXT_MOST = 4096 };    /* digits that are written at once */
 
@@ -101,13 +100,15 @@ static void note_ends(struct tap *tap, const char *call, uint64_t id, const stru
 bool log_begin(struct tap *tap, const char *path)
 {
     const uint8_t *mac = tap->options.mac;
+    const uint32_t buffer = tap->options.buffer;
     tap->log.calls = fopen(path, "w");
     if (tap->log.calls == NULL) {
         return false;
     }
     fprintf(tap->log.calls, "host %02x:%02x:%02x:%02x:%02x:%02x", mac[0], mac[1], mac[2], mac[3], mac[4], mac[5]);
     put_addr(tap->log.calls, tap->options.addr);
-    fprintf(tap->log.calls, " buffers %d %d\n", SCALED_BUFFER, PLAIN_BUFFER);
+    /* octets that host_send takes before the peer has acknowledged some, with window scale and without */
+    fprintf(tap->log.calls, " buffers %" PRIu32 " %" PRIu32 "\n", buffer, buffer < PLAIN_BUFFER ? buffer : PLAIN_BUFFER);
     return true;
 }
 

@@ -3,15 +3,21 @@
 
 #include <arpa/inet.h>
 #include <errno.h>
+#include <stdlib.h>
 #include <string.h>
 #include <sys/socket.h>
 #include <unistd.h>
 
 static uint64_t listeners[FORWARDS];
-static struct joint joints[CONNECTIONS];      /* id 0: none */
+static struct joint *joints;                  /* a place for each entry of the host; id 0: none */
+static size_t used;                           /* how many of them were ever in use; no other is looked at */
 
 static void begin(struct tap *tap)
 {
+    joints = calloc(tap->options.entries, sizeof *joints);
+    if (joints == NULL) {
+        fail(tap, "the connections", strerror(ENOMEM));
+    }
     for (size_t i = 0; i < tap->options.forward_count && tap->status < 0; i++) {
         listeners[i] = listen_at(tap, tap->options.forwards[i].port);
     }
@@ -21,7 +27,7 @@ static size_t wants(struct tap *tap, struct pollfd *polled)
 {
     size_t count = 0;
     (void)tap;
-    for (size_t i = 0; i < CONNECTIONS; i++) {
+    for (size_t i = 0; i < used; i++) {
         if (joints[i].id != 0) {
             count = joint_wants(&joints[i], polled, count);
         }
@@ -46,10 +52,10 @@ static int open_there(struct host_endpoint there)
     return opened;
 }
 
-/* The joint of this connection; of id 0 a free place. NULL where there is none. */
+/* The joint of this connection, and of id 0 a place that is free again. NULL where there is none. */
 static struct joint *joint_of(uint64_t id)
 {
-    for (size_t i = 0; i < CONNECTIONS; i++) {
+    for (size_t i = 0; i < used; i++) {
         if (joints[i].id == id) {
             return &joints[i];
         }
@@ -57,9 +63,16 @@ static struct joint *joint_of(uint64_t id)
     return NULL;
 }
 
-static bool accept_step(struct tap *tap, size_t i)
+/* A free place, or NULL. */
+static struct joint *free_place(const struct tap *tap)
 {
     struct joint *place = joint_of(0);
+    return place != NULL ? place : used < tap->options.entries ? &joints[used++] : NULL;
+}
+
+static bool accept_step(struct tap *tap, size_t i)
+{
+    struct joint *place = free_place(tap);
     const int64_t id = place == NULL ? HOST_EAGAIN : tap_accept(tap, listeners[i]);
     if (id < 0) {
         return false;
@@ -126,7 +139,7 @@ static void ready_step(struct tap *tap, uint64_t id, uint32_t bits)
 static void step(struct tap *tap)
 {
     uint32_t bits;
-    for (size_t i = 0; i < CONNECTIONS; i++) {
+    for (size_t i = 0; i < used; i++) {
         if (joints[i].id != 0) {
             joint_answer(&joints[i], tap->polled);
             if (joint_is_due(&joints[i], tap)) {
@@ -137,7 +150,7 @@ static void step(struct tap *tap)
     for (uint64_t id = 0; next_ready(tap, &id, &bits);) {
         ready_step(tap, id, bits);
     }
-    for (size_t i = 0; i < CONNECTIONS; i++) {
+    for (size_t i = 0; i < used; i++) {
         if (joints[i].id != 0 && later(joints[i].moved, tap->options.idle) <= tap->now) {
             joint_end(&joints[i], tap, true, "idle");
         }
@@ -147,7 +160,7 @@ static void step(struct tap *tap)
 static uint64_t deadline(struct tap *tap)
 {
     uint64_t least = NEVER;
-    for (size_t i = 0; i < CONNECTIONS; i++) {
+    for (size_t i = 0; i < used; i++) {
         const uint64_t due = joints[i].id == 0 ? NEVER : later(joints[i].moved, tap->options.idle);
         least = due < least ? due : least;
     }
@@ -156,16 +169,19 @@ static uint64_t deadline(struct tap *tap)
 
 static void end(struct tap *tap)
 {
-    for (size_t i = 0; i < CONNECTIONS; i++) {
+    for (size_t i = 0; i < used; i++) {
         if (joints[i].id != 0) {
             joint_end(&joints[i], tap, true, "the program ends");
         }
     }
+    free(joints);
+    joints = NULL;
+    used = 0;
 }
 
 static uint64_t connection(size_t place)
 {
-    return joints[place].id;
+    return place < used ? joints[place].id : 0;
 }
 
 const struct work forwarding = {begin, wants, step, deadline, end, connection};

@@ -30,14 +30,15 @@
  * THREADS. A handle is used by one thread at a time. It may be handed to another thread, under a lock, as any memory of malloc; no proof speaks of
  * threads. Handles share nothing, so each may have a thread of its own. Make no call in a signal handler, nor in the forked child of a process with threads.
  *
- * MEMORY. The library takes memory of malloc and realloc and gives it back by free: in host_new and host_new_with (some 610 kB), in host_socket
+ * MEMORY. The library takes memory of malloc and realloc and gives it back by free: in host_new and host_new_with (some 660 kB), in host_socket
  * and in a host_deliver that opens a connection (2,097,152 octets for a connection, 134,142 for a UDP socket: its two buffers). No other call takes
  * any. So a host takes some 135 MB at the most. It writes to a page of a connection's buffers only as octets pass through that page: where the system
- * gives memory page by page, an idle connection costs next to none. Where malloc gives memory that is there at once, as on a machine
- * without virtual memory, have the option off (no_window_scale of struct host_config): then a connection takes 131,070 octets, and a host some 9.2 MB
- * at the most; so does a connection whose peer's SYN is without the option, in host_deliver. Of the stack no call wants more than 8 kB. Where memory is
- * refused the call is refused (HOST_ENOMEM, HOST_DROP_NO_ROOM), and the program goes on. host_free gives all of it back. Of the C library the calls use
- * these three and memcpy, memmove, memset and memcmp, and no variable of their own outlives a call.
+ * gives memory page by page, an idle connection costs next to none. These are the numbers of a host of the usual sizes: those that struct host_config
+ * names may be smaller or larger, and docs/EMBEDDING.md says what each costs. Where malloc gives memory that is there at once, as on a machine
+ * without virtual memory, name a smaller `buffer`, of which a connection takes twice as many octets, or have the option off (no_window_scale): then a
+ * connection takes 131,070 octets at most, and a host some 9.2 MB; so does a connection whose peer's SYN is without the option, in host_deliver. Of the
+ * stack no call wants more than 8 kB. Where memory is refused the call is refused (HOST_ENOMEM, HOST_DROP_NO_ROOM), and the program goes on. host_free
+ * gives all of it back. Of the C library the calls use these three and memcpy, memmove, memset and memcmp, and no variable of their own outlives a call.
  */
 #ifndef HOST_H
 #define HOST_H
@@ -61,7 +62,7 @@ extern "C" {
 #define HOST_FRAME_SIZE 1514
 /* The most octets of a datagram's data. */
 #define HOST_DATAGRAM_SIZE 65507
-/* The most routes of a host, the most of its sockets and connections, and the largest backlog. */
+/* The most routes of a host, the most of its sockets and connections where its config says no other number, and the largest backlog. */
 #define HOST_ROUTES 32
 #define HOST_ENTRIES 64
 #define HOST_BACKLOG 8
@@ -175,6 +176,11 @@ struct host_route {
  *
  *     .recovery = HOST_RECOVERY_SELECTIVE, .first_segments = 10, .least_timeout = 200, .first_threshold = 1 << 30, .guards = 1
  *
+ * The members behind `guards` are its sizes, which it keeps: how much it has room for, and so how much memory it takes. 0 is the usual, and another
+ * number that is out of its range is refused (HOST_EINVAL). A small machine may want
+ *
+ *     .replies = 4, .no_reassembly = 1, .entries = 8, .buffer = 4096, .neighbours = 8
+ *
  * A later header may have more members behind these. By its size a program of today is understood by a later library, and a later program by this one
  * where it leaves them 0. */
 struct host_config {
@@ -183,14 +189,21 @@ struct host_config {
     size_t count;
     uint32_t addr;
     uint8_t mac[6];
-    uint8_t no_window_scale;         /* 1: no window scale option (RFC 7323 section 2); a connection holds 65,535 octets each way, else 1,048,576 */
+    uint8_t no_window_scale;         /* 1: no window scale option (RFC 7323 section 2): a connection holds 65,535 octets each way at most */
     uint8_t minshall;                /* 1: a small segment waits for a small one only, and the FIN goes with the last octets (RFC 9293 appendix A.3) */
     uint8_t recovery;                /* how losses are repaired: HOST_RECOVERY_PLAIN, HOST_RECOVERY_NEW_RENO or HOST_RECOVERY_SELECTIVE */
     uint8_t first_segments;          /* the first congestion window in segments, 1 to 10 (RFC 6928); 0: two to four, by their size (RFC 5681 section 3.1) */
     uint16_t least_timeout;          /* the least retransmission timeout in milliseconds, 200 to 1,000; 0: 1,000 (RFC 6298 section 2.4) */
     uint32_t first_threshold;        /* the first slow start threshold in octets, 65,535 to 1,073,741,824; 0: 65,535 (RFC 5681 section 3.1) */
     uint8_t guards;                  /* 1: on its guard against what isn't right (RFC 5961, RFC 1122 section 3.2.1.3) */
-    uint8_t zero[3];                 /* 0 */
+    uint8_t replies;                 /* how many control replies wait at most (ARP, ICMP, resets), 1 to 64; 0: 16 */
+    uint8_t no_reassembly;           /* 1: no datagram that comes in fragments is put together */
+    uint8_t reassemblies;            /* how many are put together at a time, 1 to 16; 0: 4 */
+    uint32_t entries;                /* sockets and connections at most, those among them that still end, 1 to 16,384; 0: HOST_ENTRIES */
+    uint32_t buffer;                 /* octets that a connection holds each way, 2,048 to 1,048,576; 0: 1,048,576. Unscaled windows use 65,535 at most */
+    uint16_t neighbours;             /* how many neighbours on the link are known at most, 8 to 4,096; 0: 64 */
+    uint16_t reassembly_octets;      /* the longest payload that is put together, in octets, its UDP header among them, 1,480 to 65,515; 0: 65,515 */
+    uint8_t zero[4];                 /* 0 */
 };
 
 /* A connection as it stands. `size` is sizeof (struct host_info); all others are the library's to write. Lengths are octets; of a timer or a
@@ -240,9 +253,9 @@ struct host_counters {
     int64_t upper_sum;          /* HOST_DROP_UPPER_SUM, */
     int64_t fragment;           /* and HOST_DROP_FRAGMENT; those of HOST_DROP_NO_ROOM by what there was none of: */
     int64_t backlog;            /* a place at the listener, whose backlog waits, */
-    int64_t table;              /* a place among HOST_ENTRIES, or an id, */
+    int64_t table;              /* a place among the entries, or an id, */
     int64_t memory;             /* memory for a connection, */
-    int64_t replies;            /* a place among the 16 control replies, */
+    int64_t replies;            /* a place among the control replies, */
     int64_t queue;              /* room in the queue of a UDP socket, */
     int64_t reassembly;         /* a place for the datagram of a fragment, */
     int64_t route;              /* and a route to the source of a SYN; */
@@ -258,11 +271,15 @@ typedef char host_counters_has_its_form[sizeof(struct host_counters) == 24 * 8 &
 typedef char host_info_has_its_form[sizeof(struct host_info) == 23 * 8 && offsetof(struct host_info, state) == 8 ? 1 : -1];
 
 /* So the library finds it. */
-typedef char host_config_has_its_form[sizeof(struct host_config) == 48 && offsetof(struct host_config, addr) == 24 &&
+typedef char host_config_has_its_form[sizeof(struct host_config) == 64 && offsetof(struct host_config, addr) == 24 &&
                                               offsetof(struct host_config, no_window_scale) == 34 && offsetof(struct host_config, minshall) == 35 &&
                                               offsetof(struct host_config, recovery) == 36 && offsetof(struct host_config, first_segments) == 37 &&
                                               offsetof(struct host_config, least_timeout) == 38 && offsetof(struct host_config, first_threshold) == 40 &&
-                                              offsetof(struct host_config, guards) == 44
+                                              offsetof(struct host_config, guards) == 44 && offsetof(struct host_config, replies) == 45 &&
+                                              offsetof(struct host_config, no_reassembly) == 46 && offsetof(struct host_config, reassemblies) == 47 &&
+                                              offsetof(struct host_config, entries) == 48 && offsetof(struct host_config, buffer) == 52 &&
+                                              offsetof(struct host_config, neighbours) == 56 && offsetof(struct host_config, reassembly_octets) == 58 &&
+                                              offsetof(struct host_config, zero) == 60
                                           ? 1
                                           : -1];
 
@@ -282,8 +299,9 @@ int64_t host_new_from(struct host *host, const uint8_t *config, size_t size, con
 
 /* Makes a host as host_new does, by a config. host_new makes one whose options are 0.
  *
- * HOST_EINVAL, also where the config's size is less than 40, its no_window_scale, minshall or guards is over 1, its recovery over 2, or an octet behind
- * the members that are named, up to its size, isn't 0. A program of a header before this one passes 40 octets: what those lack is 0. HOST_ENOMEM. */
+ * HOST_EINVAL, also where the config's size is less than 40, its no_window_scale, minshall, guards or no_reassembly is over 1, its recovery over 2, a
+ * size outside its range, or an octet behind the members that are named, up to its size, isn't 0. A program of a header before this one passes 40 or 48
+ * octets: what those lack is 0. HOST_ENOMEM. */
 static inline int64_t host_new_with(struct host *host, const struct host_config *config)
 {
     const struct host_route none = {0, 0, 0};
@@ -302,7 +320,7 @@ uint32_t host_version(void);
 
 /* Makes a socket, of TCP (HOST_KIND_TCP) or UDP (HOST_KIND_UDP), and answers its id.
  *
- * HOST_EINVAL: another kind. HOST_EMFILE: there are HOST_ENTRIES sockets and connections. HOST_ENOMEM. */
+ * HOST_EINVAL: another kind. HOST_EMFILE: there are as many sockets and connections as the host has entries. HOST_ENOMEM. */
 int64_t host_socket(struct host *host, uint32_t kind);
 
 /* Binds a socket to a local port, at our address or at HOST_ADDR_ANY, which stands for it; port 0 takes a dynamic port, which host_sockname

@@ -179,7 +179,14 @@ class _Config(ctypes.Structure):
         ("least_timeout", ctypes.c_uint16),
         ("first_threshold", ctypes.c_uint32),
         ("guards", ctypes.c_uint8),
-        ("zero", ctypes.c_uint8 * 3),
+        ("replies", ctypes.c_uint8),
+        ("no_reassembly", ctypes.c_uint8),
+        ("reassemblies", ctypes.c_uint8),
+        ("entries", ctypes.c_uint32),
+        ("buffer", ctypes.c_uint32),
+        ("neighbours", ctypes.c_uint16),
+        ("reassembly_octets", ctypes.c_uint16),
+        ("zero", ctypes.c_uint8 * 4),
     ]
 
 
@@ -300,8 +307,8 @@ class Host:
     """A host at `addr` (`"10.0.0.1"`), whose interface has the MAC `mac` (`"02:00:00:00:00:01"`, or six octets).
 
     `routes` has for each prefix (`"10.0.0.0/24"`) the gateway, or None where the prefix is on the link. With `scale` the host uses the window
-    scale option, and a connection with a peer that does too holds 1,048,576 octets each way, else 65,535. With `minshall` a small segment waits
-    for a small one only, and the FIN goes with the last octets (RFC 9293 appendix A.3).
+    scale option, and a connection with a peer that does too holds as many octets each way as `buffer` says, else 65,535 at most. With `minshall` a small
+    segment waits for a small one only, and the FIN goes with the last octets (RFC 9293 appendix A.3).
 
     `recovery` says how losses are repaired. `first_segments` are those of the first congestion window, 1 to 10 (RFC 6928), else two to four;
     `least_timeout` is the least retransmission timeout, 200 to 1,000 milliseconds (RFC 6298 section 2.4), else 1,000; `first_threshold` is the first
@@ -314,6 +321,12 @@ class Host:
     on it. To a fragment the oldest datagram that is put together gives way, and one of a datagram that was whole within the last second begins none. A
     host that meets a real network wants `recovery=Recovery.SELECTIVE, first_segments=10, least_timeout=200, first_threshold=1 << 30,
     guards=True`.
+
+    The others are its sizes, which say how much it has room for. `entries` are sockets and connections, those among them that still end, 1 to 16,384, else
+    64; `buffer` are the octets that a connection holds each way, 2,048 to 1,048,576, else 1,048,576; `reassemblies` are the datagrams that are put
+    together of fragments at a time, 0 to 16, and `reassembly_octets` the longest payload of one, its UDP header among it, 1,480 to 65,515; `replies` are
+    control replies that wait (ARP, ICMP, resets), 1 to 64, else 16; `neighbours` are those on the link that are known, 8 to 4,096, else 64. Another number
+    is refused with EINVAL, but that 0 is the usual, save of `reassemblies`: with 0 of these none is put together.
 
     A host is freed by `free`, at the end of a `with`, or when nothing names it any more.
     """
@@ -330,6 +343,12 @@ class Host:
         least_timeout: int = 0,
         first_threshold: int = 0,
         guards: bool = False,
+        entries: int = 0,
+        buffer: int = 0,
+        reassemblies: int = 4,
+        reassembly_octets: int = 0,
+        replies: int = 0,
+        neighbours: int = 0,
     ) -> None:
         self._handle = _Handle()
         # What is read stands here first: it is made once, and once more for a call that asks for more octets than any before.
@@ -349,6 +368,13 @@ class Host:
         config.least_timeout = _number(least_timeout, 16, "least_timeout")
         config.first_threshold = _number(first_threshold, 32, "first_threshold")
         config.guards = guards
+        config.entries = _number(entries, 32, "entries")
+        config.buffer = _number(buffer, 32, "buffer")
+        config.reassemblies = _number(reassemblies, 8, "reassemblies")
+        config.no_reassembly = reassemblies == 0
+        config.reassembly_octets = _number(reassembly_octets, 16, "reassembly_octets")
+        config.replies = _number(replies, 8, "replies")
+        config.neighbours = _number(neighbours, 16, "neighbours")
         self._call("host_new_from", bytes(config), config.size, rows, len(routes))
 
     def _call(self, name: str, *arguments: Any) -> int:

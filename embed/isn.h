@@ -6,7 +6,7 @@
  *
  * A connection that the program opens, from `addr` to `peer`:
  *
- *     for (tries = 0; tries < 64 && (done = host_bind(&host, id, 0, isn_port(secret, addr, &peer, &ports))) == HOST_EADDRINUSE; tries++)
+ *     for (tries = 0; tries < HOST_ENTRIES && (done = host_bind(&host, id, 0, isn_port(secret, addr, &peer, &ports))) == HOST_EADDRINUSE; tries++)
  *         continue;
  *     if (host_would_connect(&host, id, peer.addr, peer.port, pair) == 1)
  *         done = host_connect(&host, now, isn_of(secret, pair, microseconds), id, peer.addr, peer.port);
@@ -49,7 +49,7 @@ struct isn_ports {
 };
 
 /* A dynamic port for a connection from our address `local` to `peer`, by RFC 6056 section 3.3.4 (double-hash port selection); each call goes on to the
- * next. Where host_bind answers HOST_EADDRINUSE of it, call again, 64 times at most: a host has no more sockets.
+ * next. Where host_bind answers HOST_EADDRINUSE of it, call again, as often at most as the host has entries: it has no more sockets.
  *
  * Why that: to one peer the ports go up in turn, from a place that only the secret tells, so the same two ends come again after ISN_PORTS calls at the
  * soonest. By section 3.3.3 they do too, but its one counter shows each peer how many connections the program opens; here 16 share them. By ports at

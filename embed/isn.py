@@ -75,7 +75,8 @@ class Ports:
         self._next: List[int] = list(struct.unpack("<16H", drawn))
 
     def port(self, secret: bytes, local: Union[str, int], peer: Endpoint) -> int:
-        """A dynamic port for a connection from our address to `peer`; each call goes on to the next. Call again, 64 times at most, where it is in use."""
+        """A dynamic port for a connection from our address to `peer`; each call goes on to the next. Where it is in use call again, as often at most as
+        the host has entries."""
         number = siphash(secret, _octets((local, 0))[:4] + _octets(peer))
         place = number >> 60
         port = PORT_FIRST + (number + self._next[place]) % PORTS

@@ -560,6 +560,18 @@ def host_closes_first(count):
     return f"{count:,} in turn, none refused"
 
 
+def clients_at_once(count, *words):
+    """So many connections at a time, each with a place of its own and an echo."""
+    with Tap(*words), contextlib.ExitStack() as left:
+        clients = [left.enter_context(connected(7)) for _ in range(count)]
+        for turn, client in enumerate(clients):
+            client.sendall(octets(1000 + turn))
+            client.shutdown(socket.SHUT_WR)
+        for turn, client in enumerate(clients):
+            want(read_to_end(client) == octets(1000 + turn), "other octets come back")
+    return f"{count}, echoed"
+
+
 def bounded_openings():
     """Of eight clients at once four get in; the SYNs of the others are passed over, and come again a second later."""
     with Tap("--openings", 4):
@@ -1184,6 +1196,7 @@ CHECKS = [
     ("TCP: 100,000 openings from beyond the gateway", flood_from_beyond, (), ""),
     ("TCP: 3,000 requests in turn, the host closes first", host_closes_first, (3000,), ""),
     ("TCP: four openings a second", bounded_openings, (), ""),
+    ("TCP: 250 clients at once, of a host of 300 entries", clients_at_once, (250, "--entries", 300), ""),
     ("TCP: forged segments with an old acknowledgement, 1 MB to the host", forged_octets, (), ""),
     ("TCP: two hosts that are out of step", out_of_step, (), ""),
     ("TCP: 60 connections at once, by readiness alone", by_readiness, (60, 20000), ""),
@@ -1192,6 +1205,7 @@ CHECKS = [
     ("1 MB from the host", from_host, (MEGABYTE,), ""),
     ("1 MB echoed, both ways at once", echo, (MEGABYTE,), ""),
     ("100 kB echoed, every 5th frame twice", echo, (100000, "--repeat", 5), ""),
+    ("100 kB echoed, 2,048 octets of buffers each way", echo, (100000, "--buffer", 2048), ""),
     ("100 kB echoed, 5 ms late each way", echo, (100000, "--delay", 5), ""),
     ("1 MB to the host, every 11th frame out lost", to_host, (MEGABYTE, "--lose", "out:11"), ""),
     ("1 MB to the host, one in flight, every 11th frame in lost", to_host_in_turn, (MEGABYTE, "--lose", "in:11"), ""),

@@ -6,7 +6,8 @@ from typing import Any, Mapping, Optional, Tuple
 from host import Address, Drop, Endpoint, Host, Octets
 from testbed_frames import Capture, mac_text
 
-BUFFERS = 1_048_576, 65_535
+# How many octets a connection holds each way unless the host is made otherwise, and how many at most where its windows aren't scaled.
+USUAL, UNSCALED = 1_048_576, 65_535
 MILLISECOND = 1_000_000
 
 
@@ -18,7 +19,8 @@ class LoggedHost(Host):
         self._capture = Capture(capture)
         self._log = open(log, "w", encoding="ascii")
         self._frames = self._now = 0
-        self._log.write(f"host {mac_text(mac)} {addr} buffers {BUFFERS[0]} {BUFFERS[1]}\n")
+        buffer = options.get("buffer") or USUAL
+        self._log.write(f"host {mac_text(mac)} {addr} buffers {buffer} {min(buffer, UNSCALED)}\n")
 
     def free(self) -> None:
         super().free()

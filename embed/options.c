@@ -21,7 +21,9 @@ static const char help[] =
     "  --addr ADDR[/LENGTH]       its address, and the length of the link's prefix (24)\n"
     "  --gateway ADDR             where all goes that is not for the link (nowhere); with --tun any address will do\n"
     "  --mac MAC                  its MAC (02:00 and the four octets of the address)\n"
-    "  --no-scale                 no window scale option: a connection holds 65,535 octets each way, and not 1,048,576\n"
+    "  --no-scale                 no window scale option: a connection holds 65,535 octets each way at most\n"
+    "  --buffer N                 octets that a connection holds each way, 2,048 to 1,048,576 (1,048,576)\n"
+    "  --entries N                sockets and connections that the host has at most, those among them that still end, up to 16,384 (64)\n"
     "  --recovery WORD            how losses are repaired: `plain`, by RFC 5681 alone, with timeouts of a second at least; `newreno`, with ten segments\n"
     "                             and no slow start threshold at first, and timeouts of 200 ms at least; or `selective`, as `newreno` where the\n"
     "                             peer takes no selective acknowledgements, else by what is reported of octets kept ahead of a gap (selective)\n"
@@ -51,6 +53,9 @@ static const char help[] =
     "  --help                     this text\n"
     "\n"
     "It ends by SIGINT or SIGTERM, and --connect once both sides are closed. Status 0; 1 where something failed; 2 where it can't be asked for so.\n";
+
+/* The largest numbers that a config takes of these (host.h). */
+enum { BUFFER_MOST = 1048576, ENTRIES_MOST = 16384 };
 
 static void usage_fault(const char *form, ...)
 {
@@ -164,12 +169,13 @@ static void read_forward(struct options *options, const char *port, const char *
     forward->to.port = read_port("--forward", strrchr(to, ':') + 1);
 }
 
-enum { TAP = 1, TUN, ADDR, GATEWAY, MAC, NO_SCALE, RECOVERY, CONNECT, FORWARD, SOURCE, LOSE, DROP, REPEAT, DELAY, PCAP, OPENINGS, IDLE, PATIENCE, STATS, LOG, VERBOSE, HELP };
+enum { TAP = 1, TUN, ADDR, GATEWAY, MAC, NO_SCALE, BUFFER, ENTRIES, RECOVERY, CONNECT, FORWARD, SOURCE, LOSE, DROP, REPEAT, DELAY, PCAP, OPENINGS, IDLE, PATIENCE, STATS, LOG, VERBOSE, HELP };
 
 static const struct option words[] = {
     {"tap", required_argument, NULL, TAP},           {"tun", required_argument, NULL, TUN},
     {"addr", required_argument, NULL, ADDR},         {"gateway", required_argument, NULL, GATEWAY},
     {"mac", required_argument, NULL, MAC},           {"no-scale", no_argument, NULL, NO_SCALE},
+    {"buffer", required_argument, NULL, BUFFER},     {"entries", required_argument, NULL, ENTRIES},
     {"recovery", required_argument, NULL, RECOVERY},
     {"connect", required_argument, NULL, CONNECT},   {"forward", required_argument, NULL, FORWARD},
     {"source", required_argument, NULL, SOURCE},     {"lose", required_argument, NULL, LOSE},
@@ -256,6 +262,12 @@ static void read_one(struct options *options, int which, int argc, char **argv)
     case NO_SCALE:
         options->no_scale = true;
         break;
+    case BUFFER:
+        options->buffer = (uint32_t)read_number("--buffer", optarg, 2048, BUFFER_MOST);
+        break;
+    case ENTRIES:
+        options->entries = (uint32_t)read_number("--entries", optarg, 1, ENTRIES_MOST);
+        break;
     case RECOVERY:
         read_recovery(options, optarg);
         break;
@@ -292,6 +304,15 @@ static void word_fault(int which, char **argv)
     usage_fault("no such option: '%s'", argv[optind - 1]);
 }
 
+/* How many sockets of the host this program has beside connections: those of the services, or one for each --forward. */
+static uint32_t own_sockets(const struct options *options)
+{
+    if (options->connects) {
+        return 0;
+    }
+    return options->forward_count != 0 ? (uint32_t)options->forward_count : options->source != 0 ? 4 : 3;
+}
+
 static void complete(struct options *options)
 {
     if (options->tap != NULL && options->tun != NULL) {
@@ -310,6 +331,9 @@ static void complete(struct options *options)
     if (options->source != 0 && (options->connects || options->forward_count != 0)) {
         usage_fault("--source goes with the services alone");
     }
+    if (options->entries <= own_sockets(options)) {
+        usage_fault("--entries wants more than %u, which tap itself needs, not %u", (unsigned)own_sockets(options), (unsigned)options->entries);
+    }
     if (!options->has_mac) {
         const uint32_t addr = options->addr;
         const uint8_t mac[6] = {2, 0, (uint8_t)(addr >> 24), (uint8_t)(addr >> 16), (uint8_t)(addr >> 8), (uint8_t)addr};
@@ -320,7 +344,8 @@ static void complete(struct options *options)
 void options_read(struct options *options, int argc, char **argv)
 {
     int which;
-    *options = (struct options){.idle = 300000, .patience = 60000, .recovery = HOST_RECOVERY_SELECTIVE};
+    *options = (struct options){
+        .idle = 300000, .patience = 60000, .recovery = HOST_RECOVERY_SELECTIVE, .entries = HOST_ENTRIES, .buffer = BUFFER_MOST};
     opterr = 0;
     while ((which = getopt_long(argc, argv, "+:", words, NULL)) != -1) {
         if (which == '?' || which == ':') {

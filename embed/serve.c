@@ -1,6 +1,8 @@
 /* The services of a host: echo (port 7, TCP and UDP), discard (9), and a source of a given length (19). */
 #include "tap.h"
 
+#include <errno.h>
+#include <stdlib.h>
 #include <string.h>
 
 enum { ECHO_PORT = 7, DISCARD_PORT = 9, SOURCE_PORT = 19, ROUNDS = 16 };
@@ -20,7 +22,8 @@ struct served {
 
 static struct {
     uint64_t listeners[SERVICES], datagrams;
-    struct served all[CONNECTIONS];
+    struct served *all;                 /* a place for each entry of the host */
+    size_t used;                        /* how many of them were ever in use; no other is looked at */
     uint8_t datagram[HOST_DATAGRAM_SIZE];
     size_t waits;                       /* octets of a datagram that goes back later */
     bool is_waiting;
@@ -29,6 +32,11 @@ static struct {
 
 static void begin(struct tap *tap)
 {
+    at.all = calloc(tap->options.entries, sizeof *at.all);
+    if (at.all == NULL) {
+        fail(tap, "the connections", strerror(ENOMEM));
+        return;
+    }
     at.listeners[ECHO] = listen_at(tap, ECHO_PORT);
     at.listeners[DISCARD] = listen_at(tap, DISCARD_PORT);
     at.listeners[SOURCE] = tap->options.source == 0 ? 0 : listen_at(tap, SOURCE_PORT);
@@ -138,10 +146,10 @@ static void served_step(struct served *served, struct tap *tap)
     }
 }
 
-/* The connection of this id that is served; of id 0 a free place. NULL where there is none. */
+/* The connection of this id that is served, and of id 0 a place that is free again. NULL where there is none. */
 static struct served *served_as(uint64_t id)
 {
-    for (size_t i = 0; i < CONNECTIONS; i++) {
+    for (size_t i = 0; i < at.used; i++) {
         if (at.all[i].id == id) {
             return &at.all[i];
         }
@@ -149,10 +157,17 @@ static struct served *served_as(uint64_t id)
     return NULL;
 }
 
+/* A free place, or NULL. */
+static struct served *free_place(const struct tap *tap)
+{
+    struct served *place = served_as(0);
+    return place != NULL ? place : at.used < tap->options.entries ? &at.all[at.used++] : NULL;
+}
+
 static bool accept_step(struct tap *tap, enum service service)
 {
     static const char *const names[SERVICES] = {"echo", "discard", "source"};
-    struct served *place = served_as(0);
+    struct served *place = free_place(tap);
     const int64_t id = at.listeners[service] == 0 || place == NULL ? HOST_EAGAIN : tap_accept(tap, at.listeners[service]);
     if (id < 0) {
         return false;
@@ -196,7 +211,7 @@ static void step(struct tap *tap)
     if (at.is_waiting) {
         datagram_step(tap);
     }
-    for (size_t i = 0; i < CONNECTIONS; i++) {
+    for (size_t i = 0; i < at.used; i++) {
         struct served *served = &at.all[i];
         if (served->id != 0 && may_give(served, tap)) {
             served_step(served, tap);
@@ -210,7 +225,7 @@ static void step(struct tap *tap)
 static uint64_t deadline(struct tap *tap)
 {
     uint64_t least = NEVER;
-    for (size_t i = 0; i < CONNECTIONS; i++) {
+    for (size_t i = 0; i < at.used; i++) {
         const uint64_t due = at.all[i].id == 0 ? NEVER : later(at.all[i].moved, tap->options.idle);
         least = due < least ? due : least;
     }
@@ -219,16 +234,19 @@ static uint64_t deadline(struct tap *tap)
 
 static void end(struct tap *tap)
 {
-    for (size_t i = 0; i < CONNECTIONS; i++) {
+    for (size_t i = 0; i < at.used; i++) {
         if (at.all[i].id != 0) {
             end_one(&at.all[i], tap, "the program ends", false);
         }
     }
+    free(at.all);
+    at.all = NULL;
+    at.used = 0;
 }
 
 static uint64_t connection(size_t place)
 {
-    return at.all[place].id;
+    return place < at.used ? at.all[place].id : 0;
 }
 
 const struct work serving = {begin, wants, step, deadline, end, connection};

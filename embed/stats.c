@@ -71,7 +71,7 @@ static void print_connection(struct tap *tap, uint64_t id)
 void print_stats(struct tap *tap, const struct work *work)
 {
     print_counters(tap);
-    for (size_t place = 0; place < CONNECTIONS; place++) {
+    for (size_t place = 0; place < tap->options.entries; place++) {
         const uint64_t id = work->connection(place);
         if (id != 0) {
             print_connection(tap, id);

@@ -104,6 +104,8 @@ static bool open_host(struct tap *tap)
     memcpy(config.mac, options->mac, sizeof config.mac);
     config.no_window_scale = options->no_scale;
     config.guards = 1;
+    config.entries = options->entries;
+    config.buffer = options->buffer;
     if (options->recovery != HOST_RECOVERY_PLAIN) {
         config.recovery = options->recovery;
         config.first_segments = 10;
@@ -291,7 +293,12 @@ static void wait_until(struct tap *tap, struct pollfd *polled, size_t count, uin
 
 static void run(struct tap *tap, const struct work *work, const sigset_t *waiting)
 {
-    struct pollfd polled[1 + POLLED];
+    /* the device, and of each connection a socket, or of that of --connect both standard descriptors */
+    struct pollfd *polled = calloc(1 + (size_t)tap->options.entries + 1, sizeof *polled);
+    if (polled == NULL) {
+        fail(tap, "what is waited for", strerror(ENOMEM));
+        return;
+    }
     tap->polled = polled + 1;
     bool is_drained = act(tap, work);
     while (tap->status < 0) {
@@ -300,10 +307,11 @@ static void run(struct tap *tap, const struct work *work, const sigset_t *waitin
         wait_until(tap, polled, count, is_drained ? next_moment(tap, work) : 0, waiting);
         if (is_asked_to_end) {
             tap->status = tap->options.connects ? 1 : 0;
-            return;
+        } else {
+            is_drained = turn(tap, work);
         }
-        is_drained = turn(tap, work);
     }
+    free(polled);
 }
 
 /* Closes a capture or a log, where there is one; tells where it isn't whole. */

@@ -17,9 +17,7 @@ enum {
     FRAME_MOST = 2048,    /* room for a frame of the device; the host drops one of more than 1,514 octets */
     ETHERNET_HEAD = 14,
     ARP_SIZE = 42,        /* of a frame with an ARP packet, without padding */
-    FORWARDS = 4,         /* how many --forward there may be */
-    CONNECTIONS = 64,     /* how many connections are served at once */
-    POLLED = CONNECTIONS + 2
+    FORWARDS = 4          /* how many --forward there may be */
 };
 
 #define NEVER UINT64_MAX
@@ -84,6 +82,7 @@ struct options {
     uint8_t recovery;             /* HOST_RECOVERY_PLAIN, with timeouts of a second at least, or another */
     uint32_t addr, gateway;
     uint8_t length;
+    uint32_t entries, buffer;     /* the host's, and so many connections are served at once */
     struct faults in, out;
     uint64_t source;              /* octets of the service on port 19; 0: there is none */
     uint64_t openings;            /* connections that may be opened to the host in a second; 0: any number */
@@ -126,7 +125,7 @@ struct work {
     void (*step)(struct tap *tap);
     uint64_t (*deadline)(struct tap *tap);
     void (*end)(struct tap *tap);
-    uint64_t (*connection)(size_t place); /* the id of the connection in this place, below CONNECTIONS; 0: none */
+    uint64_t (*connection)(size_t place); /* the id of the connection in this place, below the host's entries; 0: none */
 };
 
 extern const struct work serving, connecting, forwarding;

@@ -1,7 +1,8 @@
 /*
  * Two hosts without a C library below them: the program brings the allocator and the four routines on memory that the library wants, its own stack, and
- * two calls of Linux, to print a line and to end. The hosts are joined in memory: a handshake, octets both ways, a datagram and a close. All runs on a
- * stack of 8 kB, as docs/PORTING.md says. It measures what the calls take of it, and ends with status 0 where all was as it should be.
+ * two calls of Linux, to print a line and to end. The hosts are small ones, by the sizes of their config, and joined in memory: a handshake, octets both
+ * ways, a datagram and a close. All runs on a stack of 8 kB, as docs/PORTING.md says. It measures what the calls take of it, and ends with status 0 where
+ * all was as it should be.
  *
  *     cc -std=c99 -O2 -ffreestanding -fno-stack-protector -static -nostdlib -I embed examples/bare.c embed/lib/x86_64/libhostc.a
  *
@@ -66,7 +67,7 @@ int memcmp(const void *one, const void *other, size_t len)
 }
 
 /* The heap: a pile of blocks, each behind its size. What is freed is not used again, but for the block on top. Blocks are aligned to 16. */
-static uint8_t heap[3 << 20] __attribute__((aligned(16)));
+static uint8_t heap[512 << 10] __attribute__((aligned(16)));
 static size_t top;
 
 struct block {
@@ -294,7 +295,8 @@ static int both_made(void)
 {
     const struct host_route link = {HOST_ADDR(10, 0, 0, 0), 0, 24};
     struct host_config config = {.size = sizeof config, .routes = &link, .count = 1, .no_window_scale = 1, .recovery = HOST_RECOVERY_SELECTIVE,
-                                 .first_segments = 10, .least_timeout = 200, .first_threshold = UINT32_C(1) << 30, .guards = 1};
+                                 .first_segments = 10, .least_timeout = 200, .first_threshold = UINT32_C(1) << 30, .guards = 1,
+                                 .replies = 4, .reassemblies = 1, .entries = 8, .buffer = 16384, .neighbours = 8, .reassembly_octets = 2960};
     const uint8_t mac[6] = {2, 0, 0, 0, 0, 1};
 
     memcpy(config.mac, mac, sizeof mac);

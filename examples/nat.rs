@@ -44,7 +44,7 @@ const HOP: Ipv4Addr = Ipv4Addr::new(169, 254, 0, 1);
 const ETHERNET_HEAD: usize = 14;
 const IPV4: [u8; 2] = [0x08, 0x00];
 const ARP: [u8; 2] = [0x08, 0x06];
-/// How many connections there are at a time: a host has 64 places, of which one that opens takes two. A SYN that finds none comes again.
+/// How many connections there are at a time: its host has 64 places, of which one that opens takes two. A SYN that finds none comes again.
 const MOST_FLOWS: usize = 32;
 /// Packets that one turn takes, and the octets of each; a longer one is cut, and then it is none.
 const MOST_PACKETS: usize = 64;

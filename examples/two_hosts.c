@@ -262,6 +262,66 @@ static void configs(struct host_config config)
     host_free(&b);
 }
 
+/* What host_new_with answers of a config. */
+static int64_t made(struct host_config config)
+{
+    const int64_t answer = host_new_with(&b, &config);
+
+    host_free(&b);
+    return answer;
+}
+
+/* How large a host is. A size out of its range is refused. */
+static void sizes(const struct host_config config)
+{
+    struct host_config least = config, most = config, other = config;
+
+    least.entries = least.reassemblies = least.replies = 1;
+    least.buffer = 2048;
+    least.reassembly_octets = 1480;
+    least.neighbours = 8;
+    CHECK(made(least) == 0);
+    most.entries = 16384;
+    most.buffer = 1048576;
+    most.reassemblies = 16;
+    most.reassembly_octets = 65515;
+    most.replies = 64;
+    most.neighbours = 4096;
+    CHECK(made(most) == 0);
+    other.entries = 16385;
+    CHECK(made(other) == HOST_EINVAL);
+    other = config;
+    other.buffer = 2047;
+    CHECK(made(other) == HOST_EINVAL);
+    other = config;
+    other.reassemblies = 17;
+    CHECK(made(other) == HOST_EINVAL);
+    other.no_reassembly = 1; /* it has none then, whatever their number */
+    CHECK(made(other) == 0);
+    other.no_reassembly = 2;
+    CHECK(made(other) == HOST_EINVAL);
+    other = config;
+    other.reassembly_octets = 65516;
+    CHECK(made(other) == HOST_EINVAL);
+    other = config;
+    other.replies = 65;
+    CHECK(made(other) == HOST_EINVAL);
+    other = config;
+    other.neighbours = 7;
+    CHECK(made(other) == HOST_EINVAL);
+    other = config;
+    other.size = 48; /* as an older header has it, without sizes */
+    CHECK(made(other) == 0);
+    other.entries = 1; /* behind its end */
+    CHECK(made(other) == 0);
+    other.replies = 1;
+    CHECK(made(other) == HOST_EINVAL);
+    CHECK(host_new_with(&b, &least) == 0);
+    CHECK(host_socket(&b, HOST_KIND_TCP) > 0);
+    CHECK(host_socket(&b, HOST_KIND_UDP) == HOST_EMFILE);
+    host_free(&b);
+}
+
 /* What a host wants that meets a real network. */
 static void repair_losses(struct host_config *config, uint8_t recovery)
 {
@@ -284,6 +344,7 @@ int main(void)
     refusal = host_new(&a, mac_a, HOST_ADDR(255, 0, 0, 1), &route, 1);
     CHECK(refusal == HOST_EINVAL && host_errno(refusal) == EINVAL && strcmp(host_refusal_name(refusal), "EINVAL") == 0);
     configs(config);
+    sizes(config);
 
     for (recovery = HOST_RECOVERY_PLAIN; recovery <= HOST_RECOVERY_SELECTIVE; recovery++) {
         if (recovery != HOST_RECOVERY_PLAIN) {

@@ -56,25 +56,25 @@ none_removed p (x ∷ xs) (suc i) none = either (none_removed p xs i) (p x) none
     either rest true is = cc
     either rest false is = rest is
 
-found_after : (later : Moment) (sender : Neighbour) → is_live_pair later sender ≡ true → (pairs : List Neighbour)
-    → find (is_found later sender.addr) (pairs_after sender true pairs) ≡ Some sender
+found_after : (most : ℕ) (later : Moment) (sender : Neighbour) → is_live_pair later sender ≡ true → (pairs : List Neighbour)
+    → find (is_found later sender.addr) (pairs_after most sender true pairs) ≡ Some sender
 unfolding pairs_after
-found_after later sender live pairs = known (list_any (is_pair_of sender.addr) pairs) refl
+found_after most later sender live pairs = known (list_any (is_pair_of sender.addr) pairs) refl
   where
     room : (b : Bool) → list_any (is_pair_of sender.addr) pairs ≡ false → list_any (is_pair_of sender.addr) (cond b pairs (remove pairs (longest_unheard pairs))) ≡ false
     room true e = e
     room false e = none_removed (is_pair_of sender.addr) pairs (longest_unheard pairs) e
 
-    known : (b : Bool) → list_any (is_pair_of sender.addr) pairs ≡ b → find (is_found later sender.addr) (cond b (updated sender pairs) (added sender pairs)) ≡ Some sender
+    known : (b : Bool) → list_any (is_pair_of sender.addr) pairs ≡ b → find (is_found later sender.addr) (cond b (updated sender pairs) (added most sender pairs)) ≡ Some sender
     known true e = found_updated later sender live pairs e
-    known false e = found_last later sender live (cond (nat_lt (length pairs) 64) pairs (remove pairs (longest_unheard pairs))) (room (nat_lt (length pairs) 64) e)
+    known false e = found_last later sender live (cond (nat_lt (length pairs) most) pairs (remove pairs (longest_unheard pairs))) (room (nat_lt (length pairs) most) e)
 
 pub heard_is_found : (cache : Cache) (now later : Moment) (packet : ArpPacket) (ours : Addr) → same_addr packet.target_addr ours ≡ true → is_live 1200000 later now ≡ true
     → look later packet.sender_addr (after_hear now packet ours cache) ≡ Some packet.sender_mac
 heard_is_found cache now later packet ours for_us live =
     let sender : Neighbour = sender_of now packet in
-    ap (λ b. option_map (λ (pair : Neighbour). pair.mac) (find (is_found later sender.addr) (pairs_after sender b cache.pairs))) for_us
-    ∙ ap (λ o. option_map (λ (pair : Neighbour). pair.mac) o) (found_after later sender live cache.pairs)
+    ap (λ b. option_map (λ (pair : Neighbour). pair.mac) (find (is_found later sender.addr) (pairs_after cache.most sender b cache.pairs))) for_us
+    ∙ ap (λ o. option_map (λ (pair : Neighbour). pair.mac) o) (found_after cache.most later sender live cache.pairs)
 
 -- a note that is still live is among the live ones
 still_noted : (later : Moment) (note : Asked) → is_live_note later note ≡ true → (notes : List Asked)

@@ -80,10 +80,10 @@ from_another now packet ours pair other from =
     let yes : same_addr pair.addr packet.sender_addr ≡ true = ap (λ a. same_addr pair.addr a) from ∙ same_addr-refl pair.addr in
     absurd cc
 
-heard_after : (past : List Event) (now : Moment) (packet : ArpPacket) (ours : Addr) (is_for_us : Bool) (pairs : List Neighbour) → All (λ pair. IsHeard past pair) pairs
-    → All (λ pair. IsHeard (past ++ Hear now packet ours ∷ []) pair) (pairs_after (sender_of now packet) is_for_us pairs)
+heard_after : (most : ℕ) (past : List Event) (now : Moment) (packet : ArpPacket) (ours : Addr) (is_for_us : Bool) (pairs : List Neighbour) → All (λ pair. IsHeard past pair) pairs
+    → All (λ pair. IsHeard (past ++ Hear now packet ours ∷ []) pair) (pairs_after most (sender_of now packet) is_for_us pairs)
 unfolding pairs_after
-heard_after past now packet ours is_for_us pairs all = known (list_any (is_pair_of sender.addr) pairs) refl
+heard_after most past now packet ours is_for_us pairs all = known (list_any (is_pair_of sender.addr) pairs) refl
   where
     sender : Neighbour
     sender = sender_of now packet
@@ -106,18 +106,18 @@ heard_after past now packet ours is_for_us pairs all = known (list_any (is_pair_
     room true next = next
     room false next = all_removed IsNext pairs (longest_unheard pairs) next
 
-    for_us : (b : Bool) → All IsNext pairs → All IsNext (cond b (added sender pairs) pairs)
+    for_us : (b : Bool) → All IsNext pairs → All IsNext (cond b (added most sender pairs) pairs)
     for_us true next =
-        All-push IsNext (cond (nat_lt (length pairs) 64) pairs (remove pairs (longest_unheard pairs))) sender (room (nat_lt (length pairs) 64) next) (now_heard past now packet ours)
+        All-push IsNext (cond (nat_lt (length pairs) most) pairs (remove pairs (longest_unheard pairs))) sender (room (nat_lt (length pairs) most) next) (now_heard past now packet ours)
     for_us false next = next
 
-    known : (b : Bool) → list_any (is_pair_of sender.addr) pairs ≡ b → All IsNext (cond b (updated sender pairs) (cond is_for_us (added sender pairs) pairs))
+    known : (b : Bool) → list_any (is_pair_of sender.addr) pairs ≡ b → All IsNext (cond b (updated sender pairs) (cond is_for_us (added most sender pairs) pairs))
     known true e = All-map IsNext (after_sender sender) pairs (λ i d within. each (get_or pairs i d) (all i d within))
     known false e = for_us is_for_us (others e)
 
 heard_event : (past : List Event) (cache : Cache) (event : Event) → All (λ pair. IsHeard past pair) cache.pairs
     → All (λ pair. IsHeard (past ++ event ∷ []) pair) (after_event cache event).pairs
-heard_event past cache (Hear now packet ours) all = heard_after past now packet ours (same_addr packet.target_addr ours) cache.pairs all
+heard_event past cache (Hear now packet ours) all = heard_after cache.most past now packet ours (same_addr packet.target_addr ours) cache.pairs all
 heard_event past cache (Ask now addr) all = λ i d within. still_heard past (Ask now addr) (get_or cache.pairs i d) (λ from. from) (all i d within)
 heard_event past cache (Age now) all =
     All-filter (is_live_pair now) (λ pair. IsHeard (past ++ Age now ∷ []) pair) cache.pairs
@@ -132,8 +132,8 @@ heard_events past (event ∷ events) cache all =
     subst (λ (l : List Event). All (λ pair. IsHeard l pair) (fold after_event (after_event cache event) events).pairs) (append_assoc past (event ∷ []) events)
     (heard_events (past ++ event ∷ []) events (after_event cache event) (heard_event past cache event all))
 
-all_heard : (events : List Event) → All (λ pair. IsHeard events pair) (cache_after events).pairs
-all_heard events = heard_events [] events empty (All-nil (λ pair. IsHeard [] pair))
+all_heard : (most : ℕ) (events : List Event) → All (λ pair. IsHeard events pair) (cache_after most events).pairs
+all_heard most events = heard_events [] events (empty most) (All-nil (λ pair. IsHeard [] pair))
 
 both_are : (a b : Bool) → (a && b) ≡ true → (a ≡ true) × (b ≡ true)
 both_are true b e = (refl, e)
@@ -144,13 +144,13 @@ mapped : (o : Option Neighbour) (mac : Mac) → option_map (λ (pair : Neighbour
 mapped None mac is = absurd cc
 mapped (Some pair) mac is = let same : pair.mac ≡ mac = cc in (pair, refl, same)
 
-pub found_was_heard : (events : List Event) (now : Moment) (addr : Addr) (mac : Mac) → look now addr (cache_after events) ≡ Some mac
+pub found_was_heard : (most : ℕ) (events : List Event) (now : Moment) (addr : Addr) (mac : Mac) → look now addr (cache_after most events) ≡ Some mac
     → (heard : Moment) × IsLastFrom events addr mac heard × (is_live 1200000 now heard ≡ true)
-found_was_heard events now addr mac is =
-    let pairs : List Neighbour = (cache_after events).pairs in
+found_was_heard most events now addr mac is =
+    let pairs : List Neighbour = (cache_after most events).pairs in
     let one = mapped (find (is_found now addr) pairs) mac is in
     let pair : Neighbour = one.0 in
-    let found = found_is (λ p. IsHeard events p) (is_found now addr) pairs pair one.1 (all_heard events) in
+    let found = found_is (λ p. IsHeard events p) (is_found now addr) pairs pair one.1 (all_heard most events) in
     let both = both_are (is_pair_of addr pair) (is_live_pair now pair) found.1 in
     let same : pair.addr ≡ addr = ap made (same_octets pair.addr addr both.0) in
     (pair.heard, subst (λ (m : Mac). IsLastFrom events addr m pair.heard) one.2 (subst (λ (a : Addr). IsLastFrom events a pair.mac pair.heard) same found.0), both.1)

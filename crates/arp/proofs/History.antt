@@ -1,5 +1,5 @@
 -- What holds of a cache whatever happens to it.
-use Rattle.std.proofs.Common.{◌≡◌, ℕ, zero, suc, ◌+◌, ◌<◌, ◌≤◌, Bool, true, false, nat_eq, nat_lt, List, [], ◌∷◌, ◌++◌, length, filter, fold, cond, refl, sym, ◌∙◌, ap, arith, length-append}
+use Rattle.std.proofs.Common.{◌≡◌, ℕ, zero, suc, ◌+◌, ◌<◌, ◌≤◌, Bool, true, false, nat_eq, nat_lt, List, [], ◌∷◌, ◌++◌, length, filter, fold, cond, refl, sym, ◌∙◌, ap, subst, arith, length-append}
 use Rattle.std.specs.Cmp.Lexicographic.{pointwise}
 use Rattle.std.specs.List.{list_any, remove}
 use Rattle.std.proofs.lemmas.Bool.Decides.{nat_tests}
@@ -51,19 +51,19 @@ one_more pairs base sender unknown each fewer addr = either (is_pair_of addr sen
     either false e =
         omega (arith, passing-append (is_pair_of addr) base (sender ∷ []), passing-cons (is_pair_of addr) sender [], ap one_if e, fewer (is_pair_of addr), each addr)
 
-hearing_keeps_one : (sender : Neighbour) (is_for_us : Bool) (pairs : List Neighbour) → IsOnePairEach pairs → IsOnePairEach (pairs_after sender is_for_us pairs)
+hearing_keeps_one : (most : ℕ) (sender : Neighbour) (is_for_us : Bool) (pairs : List Neighbour) → IsOnePairEach pairs → IsOnePairEach (pairs_after most sender is_for_us pairs)
 unfolding pairs_after
-hearing_keeps_one sender is_for_us pairs each = known (list_any (is_pair_of sender.addr) pairs) refl
+hearing_keeps_one most sender is_for_us pairs each = known (list_any (is_pair_of sender.addr) pairs) refl
   where
     room : (b : Bool) → (p : Neighbour → Bool) → passing p (cond b pairs (remove pairs (longest_unheard pairs))) ≤ passing p pairs
     room true p = omega arith
     room false p = passing-remove p pairs (longest_unheard pairs)
 
-    for_us : (b : Bool) → list_any (is_pair_of sender.addr) pairs ≡ false → IsOnePairEach (cond b (added sender pairs) pairs)
-    for_us true unknown = one_more pairs (cond (nat_lt (length pairs) 64) pairs (remove pairs (longest_unheard pairs))) sender unknown each (room (nat_lt (length pairs) 64))
+    for_us : (b : Bool) → list_any (is_pair_of sender.addr) pairs ≡ false → IsOnePairEach (cond b (added most sender pairs) pairs)
+    for_us true unknown = one_more pairs (cond (nat_lt (length pairs) most) pairs (remove pairs (longest_unheard pairs))) sender unknown each (room (nat_lt (length pairs) most))
     for_us false unknown = each
 
-    known : (b : Bool) → list_any (is_pair_of sender.addr) pairs ≡ b → IsOnePairEach (cond b (updated sender pairs) (cond is_for_us (added sender pairs) pairs))
+    known : (b : Bool) → list_any (is_pair_of sender.addr) pairs ≡ b → IsOnePairEach (cond b (updated sender pairs) (cond is_for_us (added most sender pairs) pairs))
     known true e = λ addr. omega (arith, passing-map (is_pair_of addr) (after_sender sender) (same_after_sender addr sender) pairs, each addr)
     known false e = for_us is_for_us e
 
@@ -101,23 +101,23 @@ longest_unheard-within pairs some =
     let found = some_first pairs (length pairs) some (omega arith) in
     omega (arith, is_longest_unheard_place pairs found.0 found.1, found.1.within)
 
--- At most 64 pairs, and at most 64 notes.
+-- At most as many pairs as may be kept, and at most 64 notes.
 
-hearing_keeps_few : (sender : Neighbour) (is_for_us : Bool) (pairs : List Neighbour) → length pairs ≤ 64 → length (pairs_after sender is_for_us pairs) ≤ 64
+hearing_keeps_few : (most : ℕ) (sender : Neighbour) (is_for_us : Bool) (pairs : List Neighbour) → 0 < most → length pairs ≤ most → length (pairs_after most sender is_for_us pairs) ≤ most
 unfolding pairs_after
-hearing_keeps_few sender is_for_us pairs few = known (list_any (is_pair_of sender.addr) pairs)
+hearing_keeps_few most sender is_for_us pairs some few = known (list_any (is_pair_of sender.addr) pairs)
   where
-    room : (b : Bool) → nat_lt (length pairs) 64 ≡ b → length (cond b pairs (remove pairs (longest_unheard pairs))) < 64
+    room : (b : Bool) → nat_lt (length pairs) most ≡ b → length (cond b pairs (remove pairs (longest_unheard pairs))) < most
     room true e = grind (arith, nat_tests, e)
     room false e =
-        let full : 64 ≤ length pairs = grind (arith, nat_tests, e) in
-        omega (arith, few, full, length-remove pairs (longest_unheard pairs) (longest_unheard-within pairs (omega (arith, full))))
+        let full : most ≤ length pairs = grind (arith, nat_tests, e) in
+        omega (arith, few, full, length-remove pairs (longest_unheard pairs) (longest_unheard-within pairs (omega (arith, some, full))))
 
-    for_us : (b : Bool) → length (cond b (added sender pairs) pairs) ≤ 64
-    for_us true = omega (arith, room (nat_lt (length pairs) 64) refl, length-append (cond (nat_lt (length pairs) 64) pairs (remove pairs (longest_unheard pairs))) (sender ∷ []))
+    for_us : (b : Bool) → length (cond b (added most sender pairs) pairs) ≤ most
+    for_us true = omega (arith, room (nat_lt (length pairs) most) refl, length-append (cond (nat_lt (length pairs) most) pairs (remove pairs (longest_unheard pairs))) (sender ∷ []))
     for_us false = few
 
-    known : (b : Bool) → length (cond b (updated sender pairs) (cond is_for_us (added sender pairs) pairs)) ≤ 64
+    known : (b : Bool) → length (cond b (updated sender pairs) (cond is_for_us (added most sender pairs) pairs)) ≤ most
     known true = omega (arith, few, length-map pairs (after_sender sender))
     known false = for_us is_for_us
 
@@ -142,40 +142,49 @@ asking_keeps_few now addr asked few = either (has_place_for addr (live_notes now
 
 -- Over every list of events.
 
-record IsLawful (cache : Cache) : Type 0 where
+record IsLawful (most : ℕ) (cache : Cache) : Type 0 where
+  most_is : cache.most ≡ most
   one_pair_each : IsOnePairEach cache.pairs
-  few_pairs : length cache.pairs ≤ 64
+  few_pairs : 0 < cache.most → length cache.pairs ≤ cache.most
   few_notes : length cache.asked ≤ 64
 
-event_keeps : (cache : Cache) (event : Event) → IsLawful cache → IsLawful (after_event cache event)
-event_keeps cache (Hear now packet ours) lawful = record {
-  one_pair_each = hearing_keeps_one (sender_of now packet) (same_addr packet.target_addr ours) cache.pairs lawful.one_pair_each;
-  few_pairs = hearing_keeps_few (sender_of now packet) (same_addr packet.target_addr ours) cache.pairs lawful.few_pairs;
+event_keeps : (most : ℕ) (cache : Cache) (event : Event) → IsLawful most cache → IsLawful most (after_event cache event)
+event_keeps most cache (Hear now packet ours) lawful = record {
+  most_is = lawful.most_is;
+  one_pair_each = hearing_keeps_one cache.most (sender_of now packet) (same_addr packet.target_addr ours) cache.pairs lawful.one_pair_each;
+  few_pairs = λ some. hearing_keeps_few cache.most (sender_of now packet) (same_addr packet.target_addr ours) cache.pairs some (lawful.few_pairs some);
   few_notes = lawful.few_notes;
 }
-event_keeps cache (Ask now addr) lawful = record {
+event_keeps most cache (Ask now addr) lawful = record {
+  most_is = lawful.most_is;
   one_pair_each = lawful.one_pair_each;
   few_pairs = lawful.few_pairs;
   few_notes = asking_keeps_few now addr cache.asked lawful.few_notes;
 }
-event_keeps cache (Age now) lawful = record {
+event_keeps most cache (Age now) lawful = record {
+  most_is = lawful.most_is;
   one_pair_each = λ addr. omega (arith, passing-filter (is_pair_of addr) (is_live_pair now) cache.pairs, lawful.one_pair_each addr);
-  few_pairs = omega (arith, length-filter-le (is_live_pair now) cache.pairs, lawful.few_pairs);
+  few_pairs = λ some. omega (arith, length-filter-le (is_live_pair now) cache.pairs, lawful.few_pairs some);
   few_notes = lawful.few_notes;
 }
 
-events_keep : (events : List Event) (cache : Cache) → IsLawful cache → IsLawful (fold after_event cache events)
-events_keep [] cache lawful = lawful
-events_keep (event ∷ events) cache lawful = events_keep events (after_event cache event) (event_keeps cache event lawful)
+events_keep : (most : ℕ) (events : List Event) (cache : Cache) → IsLawful most cache → IsLawful most (fold after_event cache events)
+events_keep most [] cache lawful = lawful
+events_keep most (event ∷ events) cache lawful = events_keep most events (after_event cache event) (event_keeps most cache event lawful)
 
-lawful : (events : List Event) → IsLawful (cache_after events)
-lawful events = events_keep events empty (record { one_pair_each = λ addr. omega arith; few_pairs = omega arith; few_notes = omega arith })
+lawful : (most : ℕ) (events : List Event) → IsLawful most (cache_after most events)
+lawful most events = events_keep most events (empty most) (record { most_is = refl; one_pair_each = λ addr. omega arith; few_pairs = λ some. omega arith; few_notes = omega arith })
 
-pub one_pair_each : (events : List Event) (addr : Addr) → length (filter (is_pair_of addr) (cache_after events).pairs) ≤ 1
-one_pair_each events = (lawful events).one_pair_each
+pub one_pair_each : (most : ℕ) (events : List Event) (addr : Addr) → length (filter (is_pair_of addr) (cache_after most events).pairs) ≤ 1
+one_pair_each most events = (lawful most events).one_pair_each
 
-pub few_pairs : (events : List Event) → length (cache_after events).pairs ≤ 64
-few_pairs events = (lawful events).few_pairs
+pub most_stays : (most : ℕ) (events : List Event) → (cache_after most events).most ≡ most
+most_stays most events = (lawful most events).most_is
 
-pub few_notes : (events : List Event) → length (cache_after events).asked ≤ 64
-few_notes events = (lawful events).few_notes
+pub few_pairs : (most : ℕ) (events : List Event) → 0 < most → length (cache_after most events).pairs ≤ most
+few_pairs most events some =
+    let is : (cache_after most events).most ≡ most = most_stays most events in
+    subst (λ (n : ℕ). length (cache_after most events).pairs ≤ n) is ((lawful most events).few_pairs (subst (λ (n : ℕ). 0 < n) (sym is) some))
+
+pub few_notes : (most : ℕ) (events : List Event) → length (cache_after most events).asked ≤ 64
+few_notes most events = (lawful most events).few_notes

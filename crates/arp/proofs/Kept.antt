@@ -49,30 +49,30 @@ stays_pushed : (later : Moment) (addr : Addr) (sender : Neighbour) → is_pair_o
 stays_pushed later addr sender other [] = ap (λ b. cond (b && is_live_pair later sender) (Some sender) None) other
 stays_pushed later addr sender other (pair ∷ pairs) = ap (λ o. cond (is_found later addr pair) (Some pair) o) (stays_pushed later addr sender other pairs)
 
-stays_added : (later : Moment) (addr : Addr) (sender : Neighbour) → is_pair_of addr sender ≡ false → (pairs : List Neighbour) → length pairs < 64
-    → find (is_found later addr) (added sender pairs) ≡ find (is_found later addr) pairs
-stays_added later addr sender other pairs room =
-    let has_room : nat_lt (length pairs) 64 ≡ true = grind (arith, nat_tests, room) in
+stays_added : (most : ℕ) (later : Moment) (addr : Addr) (sender : Neighbour) → is_pair_of addr sender ≡ false → (pairs : List Neighbour) → length pairs < most
+    → find (is_found later addr) (added most sender pairs) ≡ find (is_found later addr) pairs
+stays_added most later addr sender other pairs room =
+    let has_room : nat_lt (length pairs) most ≡ true = grind (arith, nat_tests, room) in
     ap (λ b. find (is_found later addr) (cond b pairs (remove pairs (longest_unheard pairs)) ++ sender ∷ [])) has_room ∙ stays_pushed later addr sender other pairs
 
-stays_after : (later : Moment) (addr : Addr) (sender : Neighbour) (is_for_us : Bool) (pairs : List Neighbour) → is_pair_of addr sender ≡ false
-    → (is_for_us ≡ true → length pairs < 64) → find (is_found later addr) (pairs_after sender is_for_us pairs) ≡ find (is_found later addr) pairs
+stays_after : (most : ℕ) (later : Moment) (addr : Addr) (sender : Neighbour) (is_for_us : Bool) (pairs : List Neighbour) → is_pair_of addr sender ≡ false
+    → (is_for_us ≡ true → length pairs < most) → find (is_found later addr) (pairs_after most sender is_for_us pairs) ≡ find (is_found later addr) pairs
 unfolding pairs_after
-stays_after later addr sender is_for_us pairs other room = known (list_any (is_pair_of sender.addr) pairs)
+stays_after most later addr sender is_for_us pairs other room = known (list_any (is_pair_of sender.addr) pairs)
   where
-    for_us : (b : Bool) → (b ≡ true → length pairs < 64) → find (is_found later addr) (cond b (added sender pairs) pairs) ≡ find (is_found later addr) pairs
-    for_us true room = stays_added later addr sender other pairs (room refl)
+    for_us : (b : Bool) → (b ≡ true → length pairs < most) → find (is_found later addr) (cond b (added most sender pairs) pairs) ≡ find (is_found later addr) pairs
+    for_us true room = stays_added most later addr sender other pairs (room refl)
     for_us false room = refl
 
-    known : (b : Bool) → find (is_found later addr) (cond b (updated sender pairs) (cond is_for_us (added sender pairs) pairs)) ≡ find (is_found later addr) pairs
+    known : (b : Bool) → find (is_found later addr) (cond b (updated sender pairs) (cond is_for_us (added most sender pairs) pairs)) ≡ find (is_found later addr) pairs
     known true = stays_updated later addr sender other pairs
     known false = for_us is_for_us room
 
-pub others_stay : (cache : Cache) (now later : Moment) (packet : ArpPacket) (ours addr : Addr) → addr ≢ packet.sender_addr → length cache.pairs < 64
+pub others_stay : (cache : Cache) (now later : Moment) (packet : ArpPacket) (ours addr : Addr) → addr ≢ packet.sender_addr → length cache.pairs < cache.most
     → look later addr (after_hear now packet ours cache) ≡ look later addr cache
 others_stay cache now later packet ours addr other room =
     let apart : is_pair_of addr (sender_of now packet) ≡ false = other_addr packet.sender_addr addr (λ same. other (sym same)) in
-    ap (λ o. option_map (λ (pair : Neighbour). pair.mac) o) (stays_after later addr (sender_of now packet) (same_addr packet.target_addr ours) cache.pairs apart (λ _. room))
+    ap (λ o. option_map (λ (pair : Neighbour). pair.mac) o) (stays_after cache.most later addr (sender_of now packet) (same_addr packet.target_addr ours) cache.pairs apart (λ _. room))
 
 pub others_stay_not_ours : (cache : Cache) (now later : Moment) (packet : ArpPacket) (ours addr : Addr) → addr ≢ packet.sender_addr → packet.target_addr ≢ ours
     → look later addr (after_hear now packet ours cache) ≡ look later addr cache
@@ -80,7 +80,7 @@ others_stay_not_ours cache now later packet ours addr other not_ours =
     let apart : is_pair_of addr (sender_of now packet) ≡ false = other_addr packet.sender_addr addr (λ same. other (sym same)) in
     let no : same_addr packet.target_addr ours ≡ false = other_addr packet.target_addr ours not_ours in
     ap (λ o. option_map (λ (pair : Neighbour). pair.mac) o)
-    (stays_after later addr (sender_of now packet) (same_addr packet.target_addr ours) cache.pairs apart (λ yes. absurd cc))
+    (stays_after cache.most later addr (sender_of now packet) (same_addr packet.target_addr ours) cache.pairs apart (λ yes. absurd cc))
 
 -- What is live.
 

@@ -1,6 +1,6 @@
 -- What a host keeps of the packets that it heard, and of the requests that it sent. Who is learnt is RFC 826; that old pairs
--- are flushed, and one request a second for an address, are RFC 1122 section 2.3.2.1. The twenty minutes, the 64 pairs, the 64
--- notes and which pair gives way are this stack's own.
+-- are flushed, and one request a second for an address, are RFC 1122 section 2.3.2.1. The twenty minutes, that few pairs are kept and
+-- which of them gives way, and the 64 notes are this stack's own.
 use Rattle.std.specs.Prelude.{◌≡◌, ◌<◌, ◌-◌, ◌^◌, ℕ, Bool, true, false, not, ◌&&◌, ◌||◌, nat_lt, nat_le, if◌then◌else◌, List, [], ◌∷◌, ◌++◌, length, map, filter, find, remove, Option, Some, None, option_map}
 use Rattle.std.specs.List.{list_any, list_all, position_or_len, AllByRecursion}
 use Rattle.ether.specs.declared.mac.Mac.{Mac}
@@ -14,8 +14,9 @@ use Rattle.arp.specs.declared.packet.ArpPacket.{ArpPacket}
 use Rattle.arp.specs.declared.packet.Operation.{Operation}
 use Rattle.arp.specs.declared.packet.Operation.TheVariants.{Request, Reply}
 
--- the pairs of an address and a MAC, in the order in which they were added, and the addresses that were asked for
+-- how many pairs are kept at most, the pairs of an address and a MAC, in the order in which they were added, and the addresses that were asked for
 pub record Cache : Type 0 where
+  pub most : ℕ
   pub pairs : List Neighbour
   pub asked : List Asked
 
@@ -24,8 +25,8 @@ abbrev pub HasWholeMacs : Cache → Type 0
 HasWholeMacs cache = AllByRecursion (λ (pair : Neighbour). length pair.mac.0 ≡ 6) cache.pairs
 
 -- nothing was heard, and nothing was asked
-abbrev pub empty : Cache
-empty = record { pairs = []; asked = [] }
+abbrev pub empty : ℕ → Cache
+empty most = record { most = most; pairs = []; asked = [] }
 
 -- a moment is live for so many milliseconds: until their sum, which the end of the clock bounds, is reached
 abbrev pub is_live : ℕ → Moment → Moment → Bool
@@ -74,18 +75,18 @@ is_longest_unheard pairs pair = list_all (λ other. nat_le pair.heard.0 other.he
 abbrev pub longest_unheard : List Neighbour → ℕ
 longest_unheard pairs = position_or_len (is_longest_unheard pairs) pairs
 
--- the last place is the new pair's; where 64 are kept, the longest unheard gives way
-abbrev pub added : Neighbour → List Neighbour → List Neighbour
-added sender pairs = (if nat_lt (length pairs) 64 then pairs else remove pairs (longest_unheard pairs)) ++ sender ∷ []
+-- the last place is the new pair's; where as many are kept as may be, the longest unheard gives way
+abbrev pub added : ℕ → Neighbour → List Neighbour → List Neighbour
+added most sender pairs = (if nat_lt (length pairs) most then pairs else remove pairs (longest_unheard pairs)) ++ sender ∷ []
 
 -- A known address is updated, whomever the packet is for; another is added where the packet is for us. A pair is known
 -- until it is aged or gives way, also where it is no longer live.
-unfoldable pub pairs_after : Neighbour → Bool → List Neighbour → List Neighbour
-pairs_after sender is_for_us pairs =
-    if list_any (is_pair_of sender.addr) pairs then updated sender pairs else if is_for_us then added sender pairs else pairs
+unfoldable pub pairs_after : ℕ → Neighbour → Bool → List Neighbour → List Neighbour
+pairs_after most sender is_for_us pairs =
+    if list_any (is_pair_of sender.addr) pairs then updated sender pairs else if is_for_us then added most sender pairs else pairs
 
 abbrev pub after_hear : Moment → ArpPacket → Addr → Cache → Cache
-after_hear now p ours cache = record cache { pairs = pairs_after (sender_of now p) (same_addr p.target_addr ours) cache.pairs }
+after_hear now p ours cache = record cache { pairs = pairs_after cache.most (sender_of now p) (same_addr p.target_addr ours) cache.pairs }
 
 -- Looking an address up, and forgetting what is no longer live.
 

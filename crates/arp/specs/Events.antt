@@ -1,5 +1,5 @@
 -- What happens to a cache, and what is left of it.
-use Rattle.std.specs.Prelude.{◌≡◌, List, ◌∷◌, ◌++◌, fold, All}
+use Rattle.std.specs.Prelude.{◌≡◌, ℕ, List, ◌∷◌, ◌++◌, fold, All}
 use Rattle.ether.specs.declared.mac.Mac.{Mac}
 use Rattle.ipv4.specs.declared.addr.Addr.{Addr}
 use Rattle.clock.specs.declared.moment.Moment.{Moment}
@@ -25,9 +25,9 @@ after_event cache (Hear now packet ours) = after_hear now packet ours cache
 after_event cache (Ask now addr) = after_ask now addr cache
 after_event cache (Age now) = after_age now cache
 
--- the cache of a host to which these events came, the first one first
-abbrev pub cache_after : List Event → Cache
-cache_after events = fold after_event empty events
+-- the cache of a host that keeps so many pairs at most and to which these events came, the first one first
+abbrev pub cache_after : ℕ → List Event → Cache
+cache_after most events = fold after_event (empty most) events
 
 -- a packet was heard from this address
 abbrev pub IsFrom : Addr → Event → Type 0

@@ -14,42 +14,44 @@ use ipv4::Addr;
 use std::alloc::{AllocError, Global};
 use std::marker::Model;
 
-/// How many pairs are kept at most.
-const PAIRS: usize = 64;
-
 /// How many requests go out in a second at most.
 const REQUESTS: usize = 64;
 
 /// The MACs that were heard for addresses, and the addresses that were asked for. Only the making takes memory.
 #[derive(Drop)]
 pub struct ArpCache {
-    pairs: FixedVec<Neighbour, PAIRS>,
-    asked: FixedVec<Asked, REQUESTS>,
+    pairs: FixedVec<Neighbour>,
+    asked: FixedVec<Asked>,
 }
 
 impl Model for ArpCache {
+    ghost use Rattle.std.specs.Prelude.{◌≡◌, ◌<◌};
     ghost use Rattle.arp.specs.Cache.{Cache};
 
     ghost Value = { Cache };
 
-    ghost view = { λ c. record { pairs = c.pairs.items; asked = c.asked.items } };
+    ghost view = { λ c. record { most = c.pairs.most; pairs = c.pairs.items; asked = c.asked.items } };
+
+    ghost invariant = { λ c. (0 < c.pairs.most) × (c.asked.most ≡ 64) };
 }
 
 impl ArpCache {
-    /// A cache of a host that heard nothing, and asked for nothing. Fails only where memory is refused.
-    pub fn new(alloc: Global) -> Result<ArpCache, AllocError>
-        ensures { IfOk result (λ cache. cache ≡ empty) }
+    /// A cache of a host that heard nothing, and asked for nothing, which keeps so many pairs at most. Fails only where
+    /// memory is refused.
+    pub fn new(alloc: Global, most: usize) -> Result<ArpCache, AllocError>
+        requires { 0 < most }
+        ensures { IfOk result (λ cache. cache ≡ empty most) }
     {
         Ok(ArpCache {
-            pairs: FixedVec::new(alloc)?,
-            asked: FixedVec::new(alloc)?,
+            pairs: FixedVec::new(alloc, most)?,
+            asked: FixedVec::new(alloc, REQUESTS)?,
         })
     }
 
     /// Learns from a packet (RFC 826): an address that is kept, live or not, takes the sender's MAC; one that
-    /// is not is added where the packet is for `ours`. That 64 pairs are kept, and that of them the longest unheard,
-    /// of equals the first added, gives way, is this stack's own. True where a reply is owed: the packet is a
-    /// request for `ours`.
+    /// is not is added where the packet is for `ours`. That where as many pairs are kept as the cache was made for
+    /// the longest unheard of them, of equals the first added, gives way, is this stack's own. True where a reply is
+    /// owed: the packet is a request for `ours`.
     pub fn hear(&mut self, now: Moment, packet: &ArpPacket, ours: Addr) -> bool
         ensures cache { self.new ≡ after_hear now packet.now ours self.old }
         ensures answer { result ≡ is_request_for ours packet.now }
@@ -129,8 +131,10 @@ fn whole_macs(pairs: &[Neighbour])
 
 /// Learns the sender of a packet: a known address is updated, and another is added where the packet is for us.
 #[tactic(auto, unfolding(crate::specs::Cache::pairs_after))]
-fn learn(pairs: &mut FixedVec<Neighbour, PAIRS>, sender: Neighbour, is_for_us: bool)
-    ensures { pairs.new.items ≡ pairs_after sender is_for_us pairs.old.items }
+fn learn(pairs: &mut FixedVec<Neighbour>, sender: Neighbour, is_for_us: bool)
+    requires { 0 < pairs.old.most }
+    ensures items { pairs.new.items ≡ pairs_after pairs.old.most sender is_for_us pairs.old.items }
+    ensures most { pairs.new.most ≡ pairs.old.most }
 {
     if is_known(pairs, sender.addr) {
         update(pairs, sender);
@@ -156,8 +160,10 @@ fn update(pairs: &mut [Neighbour], sender: Neighbour)
 }
 
 /// Adds the sender's pair. In a full table the longest unheard pair gives way.
-fn add(pairs: &mut FixedVec<Neighbour, PAIRS>, sender: Neighbour)
-    ensures { pairs.new.items ≡ added sender pairs.old.items }
+fn add(pairs: &mut FixedVec<Neighbour>, sender: Neighbour)
+    requires { 0 < pairs.old.most }
+    ensures items { pairs.new.items ≡ added pairs.old.most sender pairs.old.items }
+    ensures most { pairs.new.most ≡ pairs.old.most }
 {
     if pairs.is_full() {
         pairs.remove(longest_unheard(pairs));

@@ -49,13 +49,14 @@ pub fn one_spelling()
 
 /// Whatever a cache hears, no address has two pairs.
 pub fn one_pair_an_address()
-    ensures { (events : List Event) (addr : Addr) → length (filter (is_pair_of addr) (cache_after events).pairs) ≤ 1 }
+    ensures { (most : ℕ) (events : List Event) (addr : Addr) → length (filter (is_pair_of addr) (cache_after most events).pairs) ≤ 1 }
 {}
 
-/// Whatever happens to a cache, it keeps at most 64 pairs and 64 notes.
+/// Whatever happens to a cache, it keeps at most as many pairs as it was made for, and 64 notes.
 pub fn few_are_kept()
-    ensures pairs { (events : List Event) → length (cache_after events).pairs ≤ 64 }
-    ensures notes { (events : List Event) → length (cache_after events).asked ≤ 64 }
+    ensures most { (most : ℕ) (events : List Event) → (cache_after most events).most ≡ most }
+    ensures pairs { (most : ℕ) (events : List Event) → 0 < most → length (cache_after most events).pairs ≤ most }
+    ensures notes { (most : ℕ) (events : List Event) → length (cache_after most events).asked ≤ 64 }
 {}
 
 /// The sender of a packet for us is found as long as it is live, however full the table was.
@@ -78,8 +79,8 @@ pub fn asked_once_a_second()
 /// Whatever happens to a cache, what is looked up of an address is the MAC that the last packet from it told (RFC 826), and
 /// that packet is still live.
 pub fn found_was_heard()
-    ensures { (events : List Event) (now : Moment) (addr : Addr) (mac : Mac)
-        → look now addr (cache_after events) ≡ Some mac
+    ensures { (most : ℕ) (events : List Event) (now : Moment) (addr : Addr) (mac : Mac)
+        → look now addr (cache_after most events) ≡ Some mac
         → (heard : Moment) × IsLastFrom events addr mac heard × IsTrue (is_live 1200000 now heard) }
 {}
 
@@ -87,7 +88,7 @@ pub fn found_was_heard()
 /// address is looked up as before (RFC 826).
 pub fn others_stay()
     ensures room { (cache : Cache) (now later : Moment) (packet : ArpPacket) (ours addr : Addr)
-        → addr ≢ packet.sender_addr → length cache.pairs < 64
+        → addr ≢ packet.sender_addr → length cache.pairs < cache.most
         → look later addr (after_hear now packet ours cache) ≡ look later addr cache }
     ensures not_ours { (cache : Cache) (now later : Moment) (packet : ArpPacket) (ours addr : Addr)
         → addr ≢ packet.sender_addr → packet.target_addr ≢ ours

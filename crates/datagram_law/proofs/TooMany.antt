@@ -1,19 +1,20 @@
 -- One more than 65,536: two with one identification, and fragments of both that make, and are read as, what neither is.
-use Rattle.std.proofs.Common.{◌≡◌, ℕ, ◌<◌, ◌%◌, Bool, true, false, cond, nat_eq, List, [], ◌∷◌, ◌++◌, length, map, get_or, replicate, slice_index, Option, Some, None, Ok, refl, sym, ◌∙◌, ap, subst, arith}
+use Rattle.std.proofs.Common.{◌≡◌, ℕ, ◌<◌, ◌%◌, Bool, true, false, cond, nat_eq, List, [], ◌∷◌, ◌++◌, length, map, get_or, slice_index, Some, Ok, refl, sym, ◌∙◌, ap, subst, arith}
 use Rattle.std.specs.List.{range_with_len}
 use Rattle.std.proofs.lemmas.List.FromFn.{length-map-range_with_len, get_or-map-range_with_len}
 use Rattle.std.proofs.lemmas.Option.{slice_get_within, get_or_from_slice_get}
 use Rattle.clock.specs.declared.moment.Moment.{Moment}
 use Rattle.ipv4.specs.declared.addr.Endpoint.{Endpoint}
+use Rattle.ipv4.specs.declared.limits.TheConstants.{MAX_PAYLOAD}
 use Rattle.ipv4.specs.Datagram.{Datagram}
 use Rattle.udp.specs.Datagram.{UserDatagram, spelling}
 use Rattle.udp.specs.Reading.{datagram_or_fault}
 use Rattle.reassembly.specs.Events.Event.{Takes}
-use Rattle.reassembly.specs.Fragments.{end_of, key_of, quote_of}
+use Rattle.reassembly.specs.Fragments.{end_of, quote_of}
 use Rattle.reassembly.specs.Octets.{reaching, put, laid, whole_of}
 use Rattle.reassembly.specs.Parts.{IsPartOf}
 use Rattle.reassembly.specs.Places.{after_take, outcome_at, place_for}
-use Rattle.reassembly.specs.Reassembly.{Reassembly, outcome}
+use Rattle.reassembly.specs.Reassembly.{PoolView, new_pool, outcome}
 use Rattle.reassembly.specs.Reassembly.Outcome.{Completes}
 use Rattle.datagram_law.specs.Accepted.{Accepted, AreInTurn, CameFrom, IsInWidths, datagram_of}
 use Rattle.datagram_law.specs.Carried.{IsOfOne}
@@ -119,17 +120,21 @@ of_second n is =
 abbrev now : Moment
 now = record { 0 = 0 }
 
-abbrev places : List (Option Reassembly)
-places = after_take now first (replicate 4 None)
+-- four places, each with room for the longest payload
+abbrev empty : PoolView
+empty = new_pool 4 MAX_PAYLOAD
 
-pool : (n : ℕ) → n ≡ 65537 → IsPoolOf (so_many n) places
-pool n is = one_event (so_many n) (replicate 4 None) (Takes now first) (new (so_many n)) (of_first n is)
+abbrev pool : PoolView
+pool = after_take now first empty
 
-found : place_for (key_of second) places ≡ Some 0
+is_pool : (n : ℕ) → n ≡ 65537 → IsPoolOf (so_many n) pool
+is_pool n is = one_event (so_many n) empty (Takes now first) (new (so_many n) 4 MAX_PAYLOAD) (of_first n is)
+
+found : place_for second pool ≡ Some 0
 unfolding outcome laid put reaching whole_of
 found = refl
 
-completes : outcome_at now second places 0 ≡ Completes mix (quote_of first)
+completes : outcome_at now second pool 0 ≡ Completes mix (quote_of first)
 unfolding outcome laid put reaching whole_of
 completes = refl
 
@@ -154,16 +159,16 @@ of_neither n (k, a, within, there, (sent_from, sent_to, octets)) =
 
 abbrev pub Mixed : ℕ → Type 0
 Mixed n =
-    (accepted : List Accepted) × (places : List (Option Reassembly)) × (now : Moment) × (d : Datagram) × (place : ℕ) × (payload : List ℕ) × (quote : List ℕ) × (u : UserDatagram)
-    × AreInTurn accepted × (length accepted ≡ n) × IsPoolOf accepted places × IsOfOne accepted d
-    × (place_for (key_of d) places ≡ Some place) × (outcome_at now d places place ≡ Completes payload quote)
+    (accepted : List Accepted) × (pool : PoolView) × (now : Moment) × (d : Datagram) × (place : ℕ) × (payload : List ℕ) × (quote : List ℕ) × (u : UserDatagram)
+    × AreInTurn accepted × (length accepted ≡ n) × IsPoolOf accepted pool × IsOfOne accepted d
+    × (place_for d pool ≡ Some place) × (outcome_at now d pool place ≡ Completes payload quote)
     × (datagram_or_fault d.source d.destination payload ≡ Ok u)
     × (CameFrom accepted (record { addr = d.source; port = u.source }) (record { addr = d.destination; port = u.destination }) u.payload → ⊥)
 
 mixed_of : (n : ℕ) → n ≡ 65537 → Mixed n
 mixed_of n is = (
   so_many n,
-  places,
+  pool,
   now,
   second,
   0,
@@ -172,7 +177,7 @@ mixed_of n is = (
   read,
   in_turn n,
   count n,
-  pool n is,
+  is_pool n is,
   of_second n is,
   found,
   completes,

@@ -1,6 +1,6 @@
 //! Laws over the definitions alone: functions with nothing to do, whose contracts are the laws.
 
-ghost use Rattle.std.specs.Prelude.{◌≡◌, ◌≢◌, ℕ, ◌+◌, ◌%◌, ◌<◌, false, List, [], ◌∷◌, ◌++◌, All, Bool, Contains, length, replicate, slice_get, take, Option, Some, None, Result, Ok};
+ghost use Rattle.std.specs.Prelude.{◌≡◌, ◌≢◌, ℕ, ◌+◌, ◌%◌, ◌<◌, ◌≤◌, false, List, [], ◌∷◌, ◌++◌, All, Bool, Contains, length, slice_get, take, Some, Result, Ok};
 ghost use Rattle.std.specs.List.{Any};
 ghost use Rattle.clock.specs.declared.moment.Moment.{Moment};
 ghost use Rattle.ipv4.specs.declared.addr.Addr.{Addr};
@@ -17,9 +17,9 @@ ghost use Rattle.udp_socket.specs.Waits.{after_giving_up};
 ghost use Rattle.reassembly.specs.declared.assembled.Assembled.TheVariants.{Whole};
 ghost use Rattle.reassembly.specs.declared.assembled.Whole as wholes;
 ghost use Rattle.reassembly.specs.Events.{Event, after_event, after_events};
-ghost use Rattle.reassembly.specs.Fragments.{key_of};
+ghost use Rattle.reassembly.specs.Fragments.{end_of};
 ghost use Rattle.reassembly.specs.Places.{AnswersTake, outcome_at, place_for};
-ghost use Rattle.reassembly.specs.Reassembly.{Reassembly};
+ghost use Rattle.reassembly.specs.Reassembly.{PoolView, new_pool};
 ghost use Rattle.reassembly.specs.Reassembly.Outcome.{Completes, GivesUp};
 ghost use Rattle.datagram_law.specs.Accepted.{Accepted, AreFew, AreInTurn, CameFrom, IsInWidths, datagram_of};
 ghost use Rattle.datagram_law.specs.Carried.{Carries, IsOf, IsOfOne, IsWholeOfOne, accepted_of};
@@ -49,7 +49,7 @@ pub fn more_may_be_accepted()
     ensures of_one { (accepted more : List Accepted) (d : Datagram) → IsOfOne accepted d → IsOfOne (accepted ++ more) d }
     ensures came { (accepted more : List Accepted) (source local : Endpoint) (octets : List ℕ)
         → CameFrom accepted source local octets → CameFrom (accepted ++ more) source local octets }
-    ensures pool { (accepted more : List Accepted) (places : List (Option Reassembly)) → IsPoolOf accepted places → IsPoolOf (accepted ++ more) places }
+    ensures pool { (accepted more : List Accepted) (pool : PoolView) → IsPoolOf accepted pool → IsPoolOf (accepted ++ more) pool }
 {}
 
 /// The datagram of IPv4 that carries a fragment of what was accepted, as a UDP socket cuts it, is of this one (RFC 791 section 3.2).
@@ -63,33 +63,33 @@ pub fn parts_are_of_one()
 
 /// A new pool is of what was accepted, and stays so whatever of it is taken, whatever moments are told and however often the oldest gives way.
 pub fn pools_are_of_what_was_accepted()
-    ensures new { (accepted : List Accepted) → IsPoolOf accepted (replicate 4 None) }
-    ensures event { (accepted : List Accepted) (places : List (Option Reassembly)) (event : Event) → IsPoolOf accepted places → TakesOfOne accepted event
-        → IsPoolOf accepted (after_event places event) }
+    ensures new { (accepted : List Accepted) (number octets : ℕ) → IsPoolOf accepted (new_pool number octets) }
+    ensures event { (accepted : List Accepted) (pool : PoolView) (event : Event) → IsPoolOf accepted pool → TakesOfOne accepted event
+        → IsPoolOf accepted (after_event pool event) }
 {}
 
-/// Of fragments of at most 65,536 accepted datagrams, lost, repeated and in any order, no datagram is put together but one of these, and
-/// none is given up (RFC 791 section 3.2).
+/// Of fragments of at most 65,536 accepted datagrams, lost, repeated and in any order, no datagram is put together but one of these,
+/// whatever room the places of the pool have, and none is given up by a fragment that ends within that room (RFC 791 section 3.2).
 pub fn wholes_are_of_one()
-    ensures answered { (accepted : List Accepted) (events : List Event) (now : Moment) (d : Datagram) (whole : wholes.Whole)
+    ensures answered { (accepted : List Accepted) (number octets : ℕ) (events : List Event) (now : Moment) (d : Datagram) (whole : wholes.Whole)
         → AreInTurn accepted → AreFew accepted → All (TakesOfOne accepted) events → IsOfOne accepted d
-        → AnswersTake now d (after_events events) (Whole whole)
+        → AnswersTake now d (after_events number octets events) (Whole whole)
         → IsWholeOfOne accepted d whole.octets.now }
-    ensures completed { (accepted : List Accepted) (places : List (Option Reassembly)) (now : Moment) (d : Datagram) (place : ℕ) (payload quote : List ℕ)
-        → AreInTurn accepted → AreFew accepted → IsPoolOf accepted places → IsOfOne accepted d
-        → place_for (key_of d) places ≡ Some place → outcome_at now d places place ≡ Completes payload quote
+    ensures completed { (accepted : List Accepted) (pool : PoolView) (now : Moment) (d : Datagram) (place : ℕ) (payload quote : List ℕ)
+        → AreInTurn accepted → AreFew accepted → IsPoolOf accepted pool → IsOfOne accepted d
+        → place_for d pool ≡ Some place → outcome_at now d pool place ≡ Completes payload quote
         → IsWholeOfOne accepted d payload }
-    ensures kept { (accepted : List Accepted) (places : List (Option Reassembly)) (now : Moment) (d : Datagram) (place : ℕ)
-        → AreInTurn accepted → AreFew accepted → IsPoolOf accepted places → IsOfOne accepted d
-        → place_for (key_of d) places ≡ Some place → outcome_at now d places place ≢ GivesUp }
+    ensures kept { (accepted : List Accepted) (pool : PoolView) (now : Moment) (d : Datagram) (place : ℕ)
+        → AreInTurn accepted → AreFew accepted → IsPoolOf accepted pool → IsOfOne accepted d → end_of d ≤ pool.octets
+        → place_for d pool ≡ Some place → outcome_at now d pool place ≢ GivesUp }
 {}
 
 /// Of one more this is not so, so the bound is the least: the last of 65,537 has the identification of the first, and fragments of both may be
 /// put together to what has the right checksum, is read as a UDP datagram, and was accepted from nobody.
 pub fn more_may_be_mixed()
-    ensures { (accepted : List Accepted) × (places : List (Option Reassembly)) × (now : Moment) × (d : Datagram) × (place : ℕ) × (payload : List ℕ) × (quote : List ℕ) × (u : UserDatagram)
-        × AreInTurn accepted × (length accepted ≡ 65537) × IsPoolOf accepted places × IsOfOne accepted d
-        × (place_for (key_of d) places ≡ Some place) × (outcome_at now d places place ≡ Completes payload quote)
+    ensures { (accepted : List Accepted) × (pool : PoolView) × (now : Moment) × (d : Datagram) × (place : ℕ) × (payload : List ℕ) × (quote : List ℕ) × (u : UserDatagram)
+        × AreInTurn accepted × (length accepted ≡ 65537) × IsPoolOf accepted pool × IsOfOne accepted d
+        × (place_for d pool ≡ Some place) × (outcome_at now d pool place ≡ Completes payload quote)
         × (datagram_or_fault d.source d.destination payload ≡ Ok u)
         × (CameFrom accepted (record { addr = d.source; port = u.source }) (record { addr = d.destination; port = u.destination }) u.payload → ⊥) }
 {}

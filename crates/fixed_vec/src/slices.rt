@@ -7,21 +7,21 @@ ghost use Rattle.fixed_vec.specs.Lends.{lends_slice};
 use crate::fixed_vec::FixedVec;
 use std::ops::{DerefSlice, DerefSliceMut};
 
-impl<T, const CAP: usize> DerefSlice for FixedVec<T, CAP> {
+impl<T> DerefSlice for FixedVec<T> {
     type Elem = T;
 
-    ghost deref_gives = { λ v xs. (xs ≡ v.items) × (length xs ≤ CAP) };
+    ghost deref_gives = { λ v xs. (xs ≡ v.items) × (length xs ≤ v.most) };
 
     fn deref(&self) -> &[T] {
         self.as_slice()
     }
 }
 
-impl<T, const CAP: usize> DerefSliceMut for FixedVec<T, CAP> {
+impl<T> DerefSliceMut for FixedVec<T> {
     fn deref_mut(&mut self) -> &mut [T]
-        ensures* writes_back { sem 𝓛 (lends_slice T.row CAP.row self.entry result) }
+        ensures* writes_back { sem 𝓛 (lends_slice T.row self.entry result) }
         ensures value { result.now ≡ self.old.items }
-        ensures fits { length result.now ≤ CAP }
+        ensures fits { length result.now ≤ self.old.most }
     {
         self.as_mut_slice()
     }

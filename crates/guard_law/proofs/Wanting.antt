@@ -12,7 +12,6 @@ use Rattle.tcp_segment.specs.Segment.{Segment}
 use Rattle.tcp_halves.proofs.Choices.{both}
 use Rattle.sockets.specs.declared.entry.SocketId.{SocketId}
 use Rattle.sockets.specs.declared.entry.Entry.{Entry}
-use Rattle.sockets.specs.declared.table.TheConstants.{ENTRIES}
 use Rattle.sockets.specs.Arrival.{is_opening}
 use Rattle.sockets.specs.Calls.{is_table_full}
 use Rattle.sockets.specs.Entries.{is_listening_at, is_waiting_at, backlog_of}
@@ -106,11 +105,11 @@ backlog_given h source s listener x on comes full at waits =
     let is_full : is_backlog_full h listener ≡ true = full_test (Waiting h listener) (backlog_of listener.role) full in
     at_listener h source s listener on comes (rw is_full (first_named (is_unanswered_at listener.id) h.entries x at waits))
 
-pub table_given : (h : SocketsView) (source : Addr) (s : Segment) (listener x : Entry) → IsOnGuard h → ComesTo h source s listener → Waiting h listener < backlog_of listener.role → length h.entries ≡ 64
+pub table_given : (h : SocketsView) (source : Addr) (s : Segment) (listener x : Entry) → IsOnGuard h → ComesTo h source s listener → Waiting h listener < backlog_of listener.role → length h.entries ≡ h.sizes.entries
     → Contains h.entries x → (is_unanswered_at listener.id x ≡ true) ⊎ (is_some (left_since x.role) ≡ true) → is_some (way_for h source s) ≡ true
 table_given h source s listener x on comes few all at may =
     let has_place : is_backlog_full h listener ≡ false = few_test (Waiting h listener) (backlog_of listener.role) few in
-    let is_full : (length h.entries == ENTRIES) ≡ true = ap (λ (n : ℕ). n == ENTRIES) all in
+    let is_full : (length h.entries == h.sizes.entries) ≡ true = ap (λ (n : ℕ). n == h.sizes.entries) all ∙ eqb-same h.sizes.entries in
     at_listener h source s listener on comes (rw (has_place, is_full) (either (first_id (is_unanswered_at listener.id) h.entries) refl may))
   where
     either : (w : Option SocketId) → first_id (is_unanswered_at listener.id) h.entries ≡ w → (is_unanswered_at listener.id x ≡ true) ⊎ (is_some (left_since x.role) ≡ true) → is_some (option_or w (longest_id h.entries)) ≡ true
@@ -118,9 +117,9 @@ table_given h source s listener x on comes few all at may =
     either None is (inl waits) = let no : false ≡ true = ap is_some (sym is) ∙ first_named (is_unanswered_at listener.id) h.entries x at waits in cc
     either None is (inr left) = longest_named h x at left
 
-pub socket_given : (h : SocketsView) (x : Entry) → IsOnGuard h → length h.entries ≡ 64 → Contains h.entries x → is_some (left_since x.role) ≡ true → is_some (way_for_socket h) ≡ true
+pub socket_given : (h : SocketsView) (x : Entry) → IsOnGuard h → length h.entries ≡ h.sizes.entries → Contains h.entries x → is_some (left_since x.role) ≡ true → is_some (way_for_socket h) ≡ true
 socket_given h x on all at left =
-    let is_full : (length h.entries == ENTRIES) ≡ true = ap (λ (n : ℕ). n == ENTRIES) all in
+    let is_full : (length h.entries == h.sizes.entries) ≡ true = ap (λ (n : ℕ). n == h.sizes.entries) all ∙ eqb-same h.sizes.entries in
     rw (gives h on, is_full) (longest_named h x at left)
 
 pub anew_given : (h : SocketsView) (source : Addr) (s : Segment) (listener x : Entry) → IsOnGuard h → is_opening s.flags ≡ true → find (is_listening_at s.destination) h.entries ≡ Some listener
@@ -137,7 +136,7 @@ anew_given h source s listener x on opens listens again =
 pub segment_given : (h : HostView) (octets : List ℕ) (r : ReceivedSegment) → heard_by h octets ≡ Ok (Tcp r) → is_routed h.interface r.source ≡ true → of_host.way_for h octets ≡ way_for h.sockets r.source r.segment
 segment_given h octets r hears routed = rw (hears, routed) refl
 
-pub place_given : (h : HostView) (x : Entry) → IsOrdered h.sockets → IsOnGuard h.sockets → length h.sockets.entries ≡ 64 → Contains h.sockets.entries x → is_some (left_since x.role) ≡ true
+pub place_given : (h : HostView) (x : Entry) → IsOrdered h.sockets → IsOnGuard h.sockets → length h.sockets.entries ≡ h.sockets.sizes.entries → Contains h.sockets.entries x → is_some (left_since x.role) ≡ true
     → is_table_full (of_host.with_place h).sockets ≡ false
 place_given h x o on all at left = by_way (way_for_socket h.sockets) refl (socket_given h.sockets x on all at left)
   where

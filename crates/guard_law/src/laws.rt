@@ -51,16 +51,16 @@ pub fn something_gives_way_where_room_is_wanting()
     ensures backlog { (h : SocketsView) (source : Addr) (s : Segment) (listener x : Entry) → IsOnGuard h → ComesTo h source s listener → backlog_of listener.role ≤ count_by (is_waiting_at listener.id) h.entries
         → Contains h.entries x → is_unanswered_at listener.id x ≡ true → is_some (way_for h source s) ≡ true }
     ensures table { (h : SocketsView) (source : Addr) (s : Segment) (listener x : Entry) → IsOnGuard h → ComesTo h source s listener → count_by (is_waiting_at listener.id) h.entries < backlog_of listener.role
-        → length h.entries ≡ 64 → Contains h.entries x → (is_unanswered_at listener.id x ≡ true) ⊎ (is_some (left_since x.role) ≡ true) → is_some (way_for h source s) ≡ true }
+        → length h.entries ≡ h.sizes.entries → Contains h.entries x → (is_unanswered_at listener.id x ≡ true) ⊎ (is_some (left_since x.role) ≡ true) → is_some (way_for h source s) ≡ true }
     ensures anew { (h : SocketsView) (source : Addr) (s : Segment) (listener x : Entry) → IsOnGuard h → is_opening s.flags ≡ true → find (is_listening_at s.destination) h.entries ≡ Some listener
         → IsOpenedAnew h source s listener x → way_for h source s ≡ Some x.id }
-    ensures socket { (h : SocketsView) (x : Entry) → IsOnGuard h → length h.entries ≡ 64 → Contains h.entries x → is_some (left_since x.role) ≡ true → is_some (way_for_socket h) ≡ true }
+    ensures socket { (h : SocketsView) (x : Entry) → IsOnGuard h → length h.entries ≡ h.sizes.entries → Contains h.entries x → is_some (left_since x.role) ≡ true → is_some (way_for_socket h) ≡ true }
 {}
 
 /// A host on its guard makes way: to a segment that it hears, from an address that a route leads to, what gives way in its table; and before a socket is made a full table has room, where one of
 /// its entries is in TIME-WAIT and no caller has it.
 pub fn a_host_makes_way()
     ensures segment { (h : HostView) (octets : List ℕ) (r : ReceivedSegment) → heard_by h octets ≡ Ok (Tcp r) → is_routed h.interface r.source ≡ true → of_host.way_for h octets ≡ way_for h.sockets r.source r.segment }
-    ensures socket { (h : HostView) (x : Entry) → IsOrdered h.sockets → IsOnGuard h.sockets → length h.sockets.entries ≡ 64 → Contains h.sockets.entries x → is_some (left_since x.role) ≡ true
+    ensures socket { (h : HostView) (x : Entry) → IsOrdered h.sockets → IsOnGuard h.sockets → length h.sockets.entries ≡ h.sockets.sizes.entries → Contains h.sockets.entries x → is_some (left_since x.role) ≡ true
         → is_table_full (of_host.with_place h).sockets ≡ false }
 {}

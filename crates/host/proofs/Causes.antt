@@ -2,7 +2,7 @@
 use Rattle.std.proofs.Common.{◌≡◌, ℕ, zero, suc, ◌≤◌, ◌==◌, ◌&&◌, not, Bool, true, false, cond, List, [], ◌∷◌, ◌++◌, filter, length, remove, take, Option, Some, None, is_none, option_map, Result, Ok, Err, refl, sym, ◌∙◌, ap, subst, arith, length-append, length-set, length-take}
 use Rattle.std.specs.List.{AllByRecursion}
 use Rattle.std.proofs.lemmas.Bool.{eqb-true}
-use Rattle.std.proofs.lemmas.List.{length-map, take_all}
+use Rattle.std.proofs.lemmas.List.{length-map, take_all, length-replicate}
 use Rattle.std.proofs.lemmas.List.Elements.{Contains-append_left, Contains-append_right}
 use Rattle.ether.specs.declared.mac.Mac.{Mac}
 use Rattle.ipv4.specs.declared.addr.Addr.{Addr}
@@ -35,8 +35,10 @@ use Rattle.reassembly.specs.declared.expired.Expired.{Expired}
 use Rattle.reassembly.specs.Fragments.{key_of, quote_of}
 use Rattle.reassembly.specs.declared.finished.Finished.{Finished}
 use Rattle.reassembly.specs.Lately.{noted}
-use Rattle.reassembly.specs.Places.{after_take, after_take_at, after_time, expired, oldest, outcome_at, place_for, without}
-use Rattle.reassembly.specs.Reassembly.{Outcome, Reassembly}
+use Rattle.reassembly.specs.Places.{after_take, after_take_at, after_time, expired, fits, oldest, outcome_at, place_for, without, without_oldest}
+use Rattle.reassembly.specs.Events.Event.{Takes, Ages, GivesWay}
+use Rattle.reassembly.proofs.Rooms.{AreShort, none_short, short_event}
+use Rattle.reassembly.specs.Reassembly.{Outcome, PoolView}
 use Rattle.reassembly.proofs.Late.{few}
 use Rattle.reassembly.specs.Reassembly.Outcome.{Waits, Completes, GivesUp}
 use Rattle.sockets.specs.declared.datagrams.Reception.{Reception}
@@ -120,11 +122,13 @@ pub record Stands (c : ConfigView) (events : List Event) (i : InterfaceView) : T
   pub addr : i.addr ≡ c.addr
   pub replies : AllByRecursion (λ (waiting : Waiting). IsCaused c events waiting.reply) i.replies
 
--- and a host with it, whose pool has four places with what was delivered, and that knows 64 datagrams at most as whole lately
+-- and a host with it, whose pool has as many places as the set-up says with what was delivered, and that knows 64 datagrams at most as whole lately
 pub record HostStands (c : ConfigView) (events : List Event) (h : HostView) : Type 0 where
   pub interface : Stands c events h.interface
-  pub places : length h.pool ≡ 4
-  pub pool : AreGathered (WasPart c events) h.pool
+  pub places : length h.pool.places ≡ c.sizes.reassemblies
+  pub octets : h.pool.octets ≡ c.sizes.reassembly_octets
+  pub short : AreShort h.pool
+  pub pool : AreGathered (WasPart c events) h.pool.places
   pub lately : length h.lately ≤ 64
 
 -- What was delivered by some events was delivered by more.
@@ -169,7 +173,9 @@ host-more : (c : ConfigView) (events : List Event) (event : Event) (h : HostView
 host-more c events event h stands = record {
   interface = stands-more c events event h.interface stands.interface;
   places = stands.places;
-  pool = gathered-more (WasPart c events) (WasPart c (events ++ event ∷ [])) (λ d. heard-more c events event (UdpFragment d)) h.pool stands.pool;
+  octets = stands.octets;
+  short = stands.short;
+  pool = gathered-more (WasPart c events) (WasPart c (events ++ event ∷ [])) (λ d. heard-more c events event (UdpFragment d)) h.pool.places stands.pool;
   lately = stands.lately;
 }
 
@@ -243,10 +249,10 @@ to-new : (c : ConfigView) (events : List Event) (made new : HostView) → new �
 to-new c events made new is stands = subst (HostStands c events) (sym is) stands
 
 with-side : (c : ConfigView) (events : List Event) (h : HostView) (i : InterfaceView) → HostStands c events h → Stands c events i → HostStands c events (with_interface h i)
-with-side c events h i stands side = record { interface = side; places = stands.places; pool = stands.pool; lately = stands.lately }
+with-side c events h i stands side = record { interface = side; places = stands.places; octets = stands.octets; short = stands.short; pool = stands.pool; lately = stands.lately }
 
 with-table : (c : ConfigView) (events : List Event) (h : HostView) (table : SocketsView) → HostStands c events h → HostStands c events (with_sockets h table)
-with-table c events h table stands = record { interface = stands.interface; places = stands.places; pool = stands.pool; lately = stands.lately }
+with-table c events h table stands = record { interface = stands.interface; places = stands.places; octets = stands.octets; short = stands.short; pool = stands.pool; lately = stands.lately }
 
 stands-segment : (c : ConfigView) (events : List Event) (a : Arrival) (h : HostView) (moment : Moment) (source : Addr) (answer : Result (Unit {0}) DropCause) (new : HostView)
     → HostStands c events h → MeetsSegment a h moment source answer new → HostStands c events new
@@ -307,7 +313,7 @@ stands-payload c events (Ok u) h moment source quote stands q =
 
 -- that a datagram was whole is noted
 stands-noted : (c : ConfigView) (events : List Event) (h : HostView) (moment : Moment) (d : Datagram) → HostStands c events h → HostStands c events (with_noted h moment d)
-stands-noted c events h moment d stands = record { interface = stands.interface; places = stands.places; pool = stands.pool; lately = by_guards h.sockets.manner.guards }
+stands-noted c events h moment d stands = record { interface = stands.interface; places = stands.places; octets = stands.octets; short = stands.short; pool = stands.pool; lately = by_guards h.sockets.manner.guards }
   where
     by_guards : (guards : Bool) → length (cond guards (noted (key_of d) moment h.lately) h.lately) ≤ 64
     by_guards true = few h.lately (key_of d) moment stands.lately
@@ -321,36 +327,45 @@ stands-outcome c events (Completes payload quote) h moment d stands is =
     stands-payload c events (datagram_or_fault d.source d.destination payload) (with_noted h moment d) moment d.source quote (stands-noted c events h moment d stands) is
 
 -- a place is taken or freed
-taken-places : (moment : Moment) (d : Datagram) (pool : List (Option Reassembly)) → length (after_take moment d pool) ≡ length pool
-taken-places moment d pool = by_place (place_for (key_of d) pool)
+taken-places : (moment : Moment) (d : Datagram) (pool : PoolView) → length (after_take moment d pool).places ≡ length pool.places
+taken-places moment d pool = by_place (place_for d pool)
   where
-    by_place : (place : Option ℕ) → length (after_take_at moment d pool place) ≡ length pool
+    by_place : (place : Option ℕ) → length (after_take_at moment d pool place) ≡ length pool.places
     by_place None = refl
-    by_place (Some i) = length-set pool i _
+    by_place (Some i) = length-set pool.places i _
 
-room-places : (guards : Bool) (d : Datagram) (pool : List (Option Reassembly)) → length (pool_for guards d pool) ≡ length pool
-room-places guards d pool = by_test (guards && is_none (place_for (key_of d) pool)) (oldest pool)
+-- the pool that a fragment finds has as many places, with as much room
+record IsLike (pool found : PoolView) : Type 0 where
+  places : length found.places ≡ length pool.places
+  octets : found.octets ≡ pool.octets
+  short : AreShort pool → AreShort found
+
+room-places : (guards : Bool) (d : Datagram) (pool : PoolView) → IsLike pool (pool_for guards d pool)
+room-places guards d pool = by_test (guards && fits pool d && is_none (place_for d pool))
   where
-    by_place : (place : Option ℕ) → length (without place pool) ≡ length pool
+    by_place : (place : Option ℕ) → length (without place pool.places) ≡ length pool.places
     by_place None = refl
-    by_place (Some i) = length-set pool i None
+    by_place (Some i) = length-set pool.places i None
 
-    by_test : (b : Bool) (place : Option ℕ) → length (cond b (without place pool) pool) ≡ length pool
-    by_test true place = by_place place
-    by_test false place = refl
+    by_test : (b : Bool) → IsLike pool (cond b (without_oldest pool) pool)
+    by_test true = record { places = by_place (oldest pool.places); octets = refl; short = short_event GivesWay pool }
+    by_test false = record { places = refl; octets = refl; short = λ s. s }
 
 stands-fragment : (c : ConfigView) (events : List Event) (h : HostView) (moment : Moment) (d : Datagram) (answer : Result (Unit {0}) DropCause) (new : HostView) → HostStands c events h → WasPart c events d
-    → (place : Option ℕ) (late : Bool) → place_for (key_of d) (pool_for h.sockets.manner.guards d h.pool) ≡ place → MeetsFragment (option_map (outcome_at moment d (pool_for h.sockets.manner.guards d h.pool)) place) late h moment d answer new
+    → (place : Option ℕ) (late : Bool) → place_for d (pool_for h.sockets.manner.guards d h.pool) ≡ place → MeetsFragment (option_map (outcome_at moment d (pool_for h.sockets.manner.guards d h.pool)) place) late h moment d answer new
     → HostStands c events new
 stands-fragment c events h moment d answer new stands was None late at met = to-new c events h new met.1 stands
 stands-fragment c events h moment d answer new stands was (Some i) true at met = to-new c events h new met.1 stands
 stands-fragment c events h moment d answer new stands was (Some i) false at met =
-    let room : List (Option Reassembly) = pool_for h.sockets.manner.guards d h.pool in
-    let gathered : AreGathered (WasPart c events) room = made-room (WasPart c events) h.sockets.manner.guards d h.pool stands.pool in
+    let room : PoolView = pool_for h.sockets.manner.guards d h.pool in
+    let like = room-places h.sockets.manner.guards d h.pool in
+    let gathered : AreGathered (WasPart c events) room.places = made-room (WasPart c events) h.sockets.manner.guards d h.pool stands.pool in
     let pool = after_take moment d room in
     let taken : HostStands c events (with_pool h pool) = record {
       interface = stands.interface;
-      places = taken-places moment d room ∙ room-places h.sockets.manner.guards d h.pool ∙ stands.places;
+      places = taken-places moment d room ∙ like.places ∙ stands.places;
+      octets = like.octets ∙ stands.octets;
+      short = short_event (Takes moment d) room (like.short stands.short);
       pool = after-taking (WasPart c events) moment d room was gathered;
       lately = stands.lately;
     } in
@@ -374,7 +389,7 @@ stands-heard c events h moment isn answer new stands (Ok (Udp r)) was met =
     (stands-user c events (reception h.sockets r.datagram) h moment r.carrier.source r.datagram (quote_of r.carrier) stands
     (record { cause = r.carrier; meaning = Udp r; about = Unbound r.carrier r.datagram; was_heard = was (Udp r) refl; from = refl; quotes = refl }))
 stands-heard c events h moment isn answer new stands (Ok (UdpFragment d)) was met =
-    stands-fragment c events h moment d answer new stands (was (UdpFragment d) refl) (place_for (key_of d) (pool_for h.sockets.manner.guards d h.pool)) (is_late_copy h moment d) refl met
+    stands-fragment c events h moment d answer new stands (was (UdpFragment d) refl) (place_for d (pool_for h.sockets.manner.guards d h.pool)) (is_late_copy h moment d) refl met
 stands-heard c events h moment isn answer new stands (Ok (Other d)) was met =
     to-new c events (with_interface h (after_report h.interface moment d.source ProtocolUnreachable (quote_of d))) new met.1
     (stands-told c events h moment d.source ProtocolUnreachable (quote_of d) stands
@@ -393,9 +408,11 @@ stands-on c before (Ticks now) old new stands makes =
     let more = host-more c before (Ticks now) old stands in
     to-new c all (after_tick old now) new makes (record {
       interface = stands-expired c all moment (expired moment old.pool) (interface_after_tick old.interface moment) (stands-ticked c all moment old.interface more.interface)
-          (expired-quoted (WasPart c all) moment old.pool more.pool);
-      places = length-map old.pool (after_time moment) ∙ stands.places;
-      pool = after-ageing (WasPart c all) moment old.pool more.pool;
+          (expired-quoted (WasPart c all) moment old.pool.places more.pool);
+      places = length-map old.pool.places (after_time moment) ∙ stands.places;
+      octets = stands.octets;
+      short = short_event (Ages moment) old.pool stands.short;
+      pool = after-ageing (WasPart c all) moment old.pool.places more.pool;
       lately = more.lately;
     })
 stands-on c before (Delivers now isn octets) old new stands makes =
@@ -411,8 +428,10 @@ stands-on c before (Emits now) old new stands makes =
     let moment : Moment = later_moment old.sockets now in
     to-new c all (after_emission old now) new makes (record {
       interface = stands-left c all old moment more.interface (emission old moment);
-      places = ap length (pool-left old moment (emission old moment)) ∙ stands.places;
-      pool = subst (AreGathered (WasPart c all)) (sym (pool-left old moment (emission old moment))) more.pool;
+      places = ap (λ (p : PoolView). length p.places) (pool-left old moment (emission old moment)) ∙ stands.places;
+      octets = ap (λ (p : PoolView). p.octets) (pool-left old moment (emission old moment)) ∙ stands.octets;
+      short = subst AreShort (sym (pool-left old moment (emission old moment))) stands.short;
+      pool = subst (λ (p : PoolView). AreGathered (WasPart c all) p.places) (sym (pool-left old moment (emission old moment))) more.pool;
       lately = subst (λ (l : List Finished). length l ≤ 64) (sym (lately-left old moment (emission old moment))) more.lately;
     })
   where
@@ -430,5 +449,5 @@ stands-on c before (Emits now) old new stands makes =
 
 -- any list of events
 pub run-stands : (c : ConfigView) (events : List Event) (h : HostView) → Runs c events h → HostStands c events h
-run-stands c _ _ Begins = record { interface = record { mac = refl; addr = refl; replies = tt }; places = refl; pool = none-gathered (WasPart c []) 4; lately = omega arith }
+run-stands c _ _ Begins = record { interface = record { mac = refl; addr = refl; replies = tt }; places = length-replicate c.sizes.reassemblies None; octets = refl; short = none_short c.sizes.reassemblies c.sizes.reassembly_octets; pool = none-gathered (WasPart c []) c.sizes.reassemblies; lately = omega arith }
 run-stands c _ _ (GoesOn before event old new ran sound small makes) = stands-on c before event old new (run-stands c before old ran) makes

@@ -369,8 +369,8 @@ held-place h place none at = by_test (can_go_out h h.sockets.kept place) refl
     by_test true goes = absurd (none-can (can_go_out h h.sockets.kept) (places h) place none at goes)
     by_test false held = held
 
-pub no-reply : (h : HostView) (routes : List Route) → KeepsSide routes h.interface → find (can_go_out h h.sockets.kept) (places h) ≡ None → least_deadline h ≡ None → h.interface.replies ≡ []
-no-reply h routes keeps none quiet = by_replies h.interface.replies refl
+pub no-reply : (h : HostView) (routes : List Route) (most many : ℕ) → KeepsSide routes most many h.interface → find (can_go_out h h.sockets.kept) (places h) ≡ None → least_deadline h ≡ None → h.interface.replies ≡ []
+no-reply h routes most many keeps none quiet = by_replies h.interface.replies refl
   where
     by_address : (w : Waiting) (o : Option Addr) → Contains h.interface.replies w → sought w.reply ≡ o → is_on_route h.interface.routes o ≡ true → can_go_out h h.sockets.kept (ReplyOf w) ≡ false → ⊥
     by_address w None here is fine held = let no = sym (unsought-goes h.interface h.sockets.kept w.reply is) ∙ held in cc

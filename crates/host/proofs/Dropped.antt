@@ -121,7 +121,7 @@ packet-dropped h moment octets packet cause new heard told is =
       heard = heard;
       asks = request-is packet.operation asked.1;
       for_us = (addr-Decides packet.target_addr h.interface.addr).0 asked.0;
-      full = eqb-true (length h.interface.replies) 16 parts.1;
+      full = eqb-true (length h.interface.replies) h.interface.most_replies parts.1;
       learns = is ∙ ap (with_interface h) (unjoined (is_request_for h.interface.addr packet) moment (reply.Arp (reply_to packet h.interface.mac)) (learnt moment packet h.interface) full);
     }
   where

@@ -407,4 +407,4 @@ events-fit (e ∷ rest) h all = events-fit rest (after_event h e) (event-fit h e
 
 -- and so in each table that events lead to
 pub reached-fit : (h : SocketsView) → IsReached h → AllByRecursion (λ (e : Entry). Fits e.role) h.entries
-reached-fit h reached = subst Filled reached.is (events-fit reached.events (new_sockets reached.addr reached.manner) tt)
+reached-fit h reached = subst Filled reached.is (events-fit reached.events (new_sockets reached.addr reached.manner reached.sizes) tt)

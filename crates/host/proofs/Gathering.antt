@@ -1,6 +1,7 @@
 -- What is being put together came in fragments of which each passes a test of its own, such as that it was delivered.
 use Rattle.std.proofs.Common.{◌≡◌, ℕ, zero, suc, ◌==◌, ◌&&◌, Bool, true, false, cond, List, [], ◌∷◌, ◌++◌, find, get_or, length, reverse, replicate, Option, Some, None, is_none, is_some, option_map, slice_set, refl, sym, ◌∙◌, ap, subst}
-use Rattle.std.specs.List.{AllByRecursion, cons_option, position}
+use Rattle.std.specs.Prelude.{map}
+use Rattle.std.specs.List.{AllByRecursion, cons_option, filter_map, position}
 use Rattle.std.specs.Option.{option_map_or, option_or}
 use Rattle.std.proofs.lemmas.Bool.{eqb-true}
 use Rattle.std.proofs.lemmas.List.{reverse-append}
@@ -10,10 +11,10 @@ use Rattle.ipv4.specs.Datagram.{Datagram}
 use Rattle.clock.specs.declared.moment.Moment.{Moment}
 use Rattle.reassembly.specs.declared.expired.Expired.{Expired}
 use Rattle.reassembly.specs.declared.key.Key.{Key}
-use Rattle.reassembly.specs.Fragments.{key_of, latest_quote, quote_of}
+use Rattle.reassembly.specs.Fragments.{ends_within, key_of, latest_quote, quote_of}
 use Rattle.reassembly.specs.Octets.{whole_of}
-use Rattle.reassembly.specs.Places.{after_age, after_take, after_take_at, after_time, expired, expired_of, is_of, is_over, oldest, outcome_at, place_for, without, without_oldest}
-use Rattle.reassembly.specs.Reassembly.{Outcome, Reassembly, after_fragments, begun, conflicts, continued, left, outcome, quoted, with_fragment}
+use Rattle.reassembly.specs.Places.{after_take, after_take_at, after_time, expired_of, fits, is_of, is_over, oldest, outcome_at, place_for, without, without_oldest}
+use Rattle.reassembly.specs.Reassembly.{Outcome, PoolView, Reassembly, outcome_within, after_fragments, begun, conflicts, continued, left, outcome, quoted, with_fragment}
 use Rattle.reassembly.specs.Reassembly.Outcome.{Waits, Completes, GivesUp}
 use Rattle.reassembly.proofs.Found.{wholes_are_quoted}
 use Rattle.reassembly.proofs.OneMore.{after_one_more}
@@ -150,30 +151,40 @@ left-so P d r passes from g (Completes payload quote) is =
         subst (λ (a : Addr). IsQuoted P a quote) (sym from) (quoted-zero P r.key.source (g.fragments ++ d ∷ []) quote each (e ∙ ap Some (sym same)))
 
 -- its place has its key, or is free
-place-is : (d : Datagram) (places : List (Option Reassembly)) (i : ℕ) → place_for (key_of d) places ≡ Some i → (r : Reassembly) → get_or places i None ≡ Some r → r.key ≡ key_of d
-place-is d places i e r at = by_own (position (is_of (key_of d)) places) refl e
+pub place-is : (d : Datagram) (pool : PoolView) (i : ℕ) → place_for d pool ≡ Some i → (r : Reassembly) → get_or pool.places i None ≡ Some r → r.key ≡ key_of d
+place-is d pool i e r at = by_own (position (is_of (key_of d)) places) (ends_within pool.octets d) refl e
   where
-    by_own : (o : Option ℕ) → position (is_of (key_of d)) places ≡ o → option_or o (position is_none places) ≡ Some i → r.key ≡ key_of d
-    by_own None found e =
+    places : List (Option Reassembly)
+    places = pool.places
+
+    by_own : (o : Option ℕ) (room : Bool) → position (is_of (key_of d)) places ≡ o → option_or o (cond room (position is_none places) None) ≡ Some i → r.key ≡ key_of d
+    by_own None true found e =
         let none = position-Some is_none places i None e in
         let no : is_none (Some r) ≡ true = ap is_none (sym at) ∙ none.1 in cc
-    by_own (Some j) found e =
+    by_own None false found e = cc
+    by_own (Some j) room found e =
         let same : j ≡ i = cc in
         let own = position-Some (is_of (key_of d)) places i None (found ∙ e) in
         same_key_is r.key (key_of d) (ap (is_of (key_of d)) (sym at) ∙ own.1)
 
-pub outcome-left : (P : Datagram → Type 0) (now : Moment) (d : Datagram) (places : List (Option Reassembly)) (i : ℕ) → P d → AreGathered P places → place_for (key_of d) places ≡ Some i
-    → IsLeft P d.source (outcome_at now d places i)
-outcome-left P now d places i passes all e = by_place (get_or places i None) refl
-  where
-    at : IsGatheredAt P (get_or places i None)
-    at = all-read (IsGatheredAt P) places i None all tt
+-- one that reaches past the room gives its datagram up
+left-within : (P : Datagram → Type 0) (source : Addr) (o : Outcome) (room : Bool) → IsLeft P source o → IsLeft P source (cond room o GivesUp)
+left-within P source o true is = is
+left-within P source o false is = tt
 
-    by_place : (o : Option Reassembly) → get_or places i None ≡ o → IsLeft P d.source (outcome d (continued now d o))
+pub outcome-left : (P : Datagram → Type 0) (now : Moment) (d : Datagram) (pool : PoolView) (i : ℕ) → P d → AreGathered P pool.places → place_for d pool ≡ Some i → IsLeft P d.source (outcome_at now d pool i)
+outcome-left P now d pool i passes all e = by_place (get_or pool.places i None) refl
+  where
+    at : IsGatheredAt P (get_or pool.places i None)
+    at = all-read (IsGatheredAt P) pool.places i None all tt
+
+    by_place : (o : Option Reassembly) → get_or pool.places i None ≡ o → IsLeft P d.source (outcome_within pool.octets d (continued now d o))
     by_place None is =
-        left-so P d (begun now d) passes refl (record { first = d; since = now; fragments = []; is = refl; each = tt }) (outcome d (begun now d)) (is-next d (begun now d))
+        left-within P d.source (outcome d (begun now d)) (ends_within pool.octets d)
+        (left-so P d (begun now d) passes refl (record { first = d; since = now; fragments = []; is = refl; each = tt }) (outcome d (begun now d)) (is-next d (begun now d)))
     by_place (Some r) is =
-        left-so P d r passes (ap (λ (k : Key). k.source) (sym (place-is d places i e r is))) (subst (IsGatheredAt P) is at) (outcome d r) (is-next d r)
+        left-within P d.source (outcome d r) (ends_within pool.octets d)
+        (left-so P d r passes (ap (λ (k : Key). k.source) (sym (place-is d pool i e r is))) (subst (IsGatheredAt P) is at) (outcome d r) (is-next d r))
 
 -- The pool.
 
@@ -182,26 +193,26 @@ left-at P source (Waits r) is = is
 left-at P source (Completes payload quote) is = tt
 left-at P source GivesUp is = tt
 
-pub after-taking : (P : Datagram → Type 0) (now : Moment) (d : Datagram) (places : List (Option Reassembly)) → P d → AreGathered P places → AreGathered P (after_take now d places)
-after-taking P now d places passes all = by_place (place_for (key_of d) places) refl
+pub after-taking : (P : Datagram → Type 0) (now : Moment) (d : Datagram) (pool : PoolView) → P d → AreGathered P pool.places → AreGathered P (after_take now d pool).places
+after-taking P now d pool passes all = by_place (place_for d pool) refl
   where
-    by_place : (o : Option ℕ) → place_for (key_of d) places ≡ o → AreGathered P (after_take_at now d places o)
+    by_place : (o : Option ℕ) → place_for d pool ≡ o → AreGathered P (after_take_at now d pool o)
     by_place None e = all
-    by_place (Some i) e = all-set (IsGatheredAt P) places i (left (outcome_at now d places i)) all (left-at P d.source (outcome_at now d places i) (outcome-left P now d places i passes all e))
+    by_place (Some i) e = all-set (IsGatheredAt P) pool.places i (left (outcome_at now d pool i)) all (left-at P d.source (outcome_at now d pool i) (outcome-left P now d pool i passes all e))
 
 -- the oldest gives way
 after-going : (P : Datagram → Type 0) (places : List (Option Reassembly)) (o : Option ℕ) → AreGathered P places → AreGathered P (without o places)
 after-going P places None all = all
 after-going P places (Some i) all = all-set (IsGatheredAt P) places i None all tt
 
-pub made-room : (P : Datagram → Type 0) (guards : Bool) (d : Datagram) (places : List (Option Reassembly)) → AreGathered P places → AreGathered P (pool_for guards d places)
-made-room P guards d places all = by_test (guards && is_none (place_for (key_of d) places))
+pub made-room : (P : Datagram → Type 0) (guards : Bool) (d : Datagram) (pool : PoolView) → AreGathered P pool.places → AreGathered P (pool_for guards d pool).places
+made-room P guards d pool all = by_test (guards && fits pool d && is_none (place_for d pool))
   where
-    by_test : (b : Bool) → AreGathered P (cond b (without_oldest places) places)
-    by_test true = after-going P places (oldest places) all
+    by_test : (b : Bool) → AreGathered P (let left = cond b (without_oldest pool) pool in left.places)
+    by_test true = after-going P pool.places (oldest pool.places) all
     by_test false = all
 
-pub after-ageing : (P : Datagram → Type 0) (now : Moment) (places : List (Option Reassembly)) → AreGathered P places → AreGathered P (after_age now places)
+pub after-ageing : (P : Datagram → Type 0) (now : Moment) (places : List (Option Reassembly)) → AreGathered P places → AreGathered P (map (after_time now) places)
 after-ageing P now [] all = tt
 after-ageing P now (place ∷ places) all = (by_place place all.0, after-ageing P now places all.1)
   where
@@ -217,21 +228,21 @@ after-ageing P now (place ∷ places) all = (by_place place all.0, after-ageing 
 abbrev pub IsExpired : (Datagram → Type 0) → Expired → Type 0
 IsExpired P expired = IsQuoted P expired.key.source expired.quote
 
-pub expired-quoted : (P : Datagram → Type 0) (now : Moment) (places : List (Option Reassembly)) → AreGathered P places → AllByRecursion (IsExpired P) (expired now places)
+pub expired-quoted : (P : Datagram → Type 0) (now : Moment) (places : List (Option Reassembly)) → AreGathered P places → AllByRecursion (IsExpired P) (filter_map (expired_of now) places)
 expired-quoted P now [] all = tt
 expired-quoted P now (place ∷ places) all = by_place place all.0 (expired-quoted P now places all.1)
   where
-    by_quote : (r : Reassembly) → IsGathered P r → AllByRecursion (IsExpired P) (expired now places) → (o : Option (List ℕ)) → r.quote ≡ o
-        → AllByRecursion (IsExpired P) (cons_option (option_map (λ quote. record { key = r.key; quote = quote }) o) (expired now places))
+    by_quote : (r : Reassembly) → IsGathered P r → AllByRecursion (IsExpired P) (filter_map (expired_of now) places) → (o : Option (List ℕ)) → r.quote ≡ o
+        → AllByRecursion (IsExpired P) (cons_option (option_map (λ quote. record { key = r.key; quote = quote }) o) (filter_map (expired_of now) places))
     by_quote r g rest None e = rest
     by_quote r g rest (Some quote) e = (gathered-quote P r quote g e, rest)
 
-    by_test : (b : Bool) (r : Reassembly) → IsGathered P r → AllByRecursion (IsExpired P) (expired now places)
-        → AllByRecursion (IsExpired P) (cons_option (cond b (option_map (λ quote. record { key = r.key; quote = quote }) r.quote) None) (expired now places))
+    by_test : (b : Bool) (r : Reassembly) → IsGathered P r → AllByRecursion (IsExpired P) (filter_map (expired_of now) places)
+        → AllByRecursion (IsExpired P) (cons_option (cond b (option_map (λ quote. record { key = r.key; quote = quote }) r.quote) None) (filter_map (expired_of now) places))
     by_test true r g rest = by_quote r g rest r.quote refl
     by_test false r g rest = rest
 
-    by_place : (o : Option Reassembly) → IsGatheredAt P o → AllByRecursion (IsExpired P) (expired now places) → AllByRecursion (IsExpired P) (cons_option (expired_of now o) (expired now places))
+    by_place : (o : Option Reassembly) → IsGatheredAt P o → AllByRecursion (IsExpired P) (filter_map (expired_of now) places) → AllByRecursion (IsExpired P) (cons_option (expired_of now o) (filter_map (expired_of now) places))
     by_place None g rest = rest
     by_place (Some r) g rest = by_test (is_over now r) r g rest
 

@@ -14,7 +14,6 @@ use Rattle.interface.specs.declared.reply.QueueFault.TheVariants.{NoRoom as Full
 use Rattle.interface.specs.InterfaceView.{InterfaceView}
 use Rattle.interface.specs.Replies.{is_full, owed_answer}
 use Rattle.interface.specs.Ways.{is_routed}
-use Rattle.reassembly.specs.Fragments.{key_of}
 use Rattle.reassembly.specs.Places.{outcome_at, place_for}
 use Rattle.sockets.specs.Arrival.{Arrival, Becomes, Opens, NoRoom as NoRoomInTable, Answers, arrival}
 use Rattle.sockets.specs.declared.datagrams.Reception.{Reception}
@@ -112,9 +111,9 @@ user-refused socket.NoSocket h moment r answer new what is found = is.0 ∙ repl
 -- A fragment, by its place.
 
 fragment-lacks : (h : HostView) (moment : Moment) (d : Datagram) (new : HostView) → MeetsFragment (fragment_outcome moment d (pool_for h.sockets.manner.guards d h.pool)) (is_late_copy h moment d) h moment d (Err NoRoom) new → Lacks (lack_of h (Ok (UdpFragment d)))
-fragment-lacks h moment d new is = by_place (place_for (key_of d) (pool_for h.sockets.manner.guards d h.pool)) (is_late_copy h moment d) refl is
+fragment-lacks h moment d new is = by_place (place_for d (pool_for h.sockets.manner.guards d h.pool)) (is_late_copy h moment d) refl is
   where
-    by_place : (o : Option ℕ) (late : Bool) → place_for (key_of d) (pool_for h.sockets.manner.guards d h.pool) ≡ o
+    by_place : (o : Option ℕ) (late : Bool) → place_for d (pool_for h.sockets.manner.guards d h.pool) ≡ o
         → MeetsFragment (option_map (outcome_at moment d (pool_for h.sockets.manner.guards d h.pool)) o) late h moment d (Err NoRoom) new → Lacks (lack_of h (Ok (UdpFragment d)))
     by_place None late e met = (Reassembly, ap (λ (o : Option ℕ). cond (is_none o) (Some Reassembly) None) e)
     by_place (Some i) true e met = absurd (refusing tt met.0)
@@ -122,9 +121,9 @@ fragment-lacks h moment d new is = by_place (place_for (key_of d) (pool_for h.so
 
 fragment-refused : (h : HostView) (moment : Moment) (d : Datagram) (answer : Result (Unit {0}) DropCause) (new : HostView) (what : Lack) → MeetsFragment (fragment_outcome moment d (pool_for h.sockets.manner.guards d h.pool)) (is_late_copy h moment d) h moment d answer new
     → lack_of h (Ok (UdpFragment d)) ≡ Some what → answer ≡ Err NoRoom
-fragment-refused h moment d answer new what is found = by_place (place_for (key_of d) (pool_for h.sockets.manner.guards d h.pool)) refl is
+fragment-refused h moment d answer new what is found = by_place (place_for d (pool_for h.sockets.manner.guards d h.pool)) refl is
   where
-    by_place : (o : Option ℕ) → place_for (key_of d) (pool_for h.sockets.manner.guards d h.pool) ≡ o
+    by_place : (o : Option ℕ) → place_for d (pool_for h.sockets.manner.guards d h.pool) ≡ o
         → MeetsFragment (option_map (outcome_at moment d (pool_for h.sockets.manner.guards d h.pool)) o) (is_late_copy h moment d) h moment d answer new → answer ≡ Err NoRoom
     by_place None e met = met.0
     by_place (Some i) e met = let none = sym (ap (λ (o : Option ℕ). cond (is_none o) (Some Reassembly) None) e) ∙ found in cc

@@ -78,13 +78,13 @@ met-by : (h : HostView) (now : Moment) (isn : ℕ) (octets : List ℕ) (answer :
     → MeetsHeard (Ok m) h (later_moment h.sockets now) isn answer new
 met-by h now isn octets answer new m is delivered = subst (λ (r : Result Meaning DropCause). MeetsHeard r h (later_moment h.sockets now) isn answer new) is delivered
 
--- Where fewer than 16 replies wait, one more does.
+-- Where fewer replies wait than may, one more does.
 
-pub roomy : (i : InterfaceView) → length i.replies < 16 → is_full i ≡ false
-roomy i few = by_test (length i.replies == 16) refl
+pub roomy : (i : InterfaceView) → length i.replies < i.most_replies → is_full i ≡ false
+roomy i few = by_test (length i.replies == i.most_replies) refl
   where
-    by_test : (b : Bool) → (length i.replies == 16) ≡ b → (length i.replies == 16) ≡ false
-    by_test true is = absurd (omega (arith, few, eqb-true (length i.replies) 16 is))
+    by_test : (b : Bool) → (length i.replies == i.most_replies) ≡ b → (length i.replies == i.most_replies) ≡ false
+    by_test true is = absurd (omega (arith, few, eqb-true (length i.replies) i.most_replies is))
     by_test false is = is
 
 pub joins : (is_owed : Bool) (now : Moment) (r : Reply) (i : InterfaceView) → is_owed ≡ true → is_full i ≡ false → owed is_owed now r i ≡ queued now r i
@@ -96,7 +96,7 @@ told-so is_owed i so room = ap (λ (b : Bool). queue_answer (cond (b && is_full 
 -- An ARP request.
 
 pub request-answered : (h : HostView) (now : Moment) (isn : ℕ) (octets : List ℕ) (packet : ArpPacket) (answer : Result (Unit {0}) DropCause) (new : HostView)
-    → heard_by h octets ≡ Ok (Arp packet) → packet.operation ≡ Request → packet.target_addr ≡ h.interface.addr → length h.interface.replies < 16 → IsDelivered h now isn octets answer new
+    → heard_by h octets ≡ Ok (Arp packet) → packet.operation ≡ Request → packet.target_addr ≡ h.interface.addr → length h.interface.replies < h.interface.most_replies → IsDelivered h now isn octets answer new
     → (answer ≡ Ok tt)
     × (new.interface.replies
     ≡ h.interface.replies
@@ -176,7 +176,7 @@ completed-queued h now isn octets d payload quote u answer new id bound s is com
 
 pub completed-reported : (h : HostView) (now : Moment) (isn : ℕ) (octets : List ℕ) (d : Datagram) (payload quote : List ℕ) (u : UserDatagram) (answer : Result (Unit {0}) DropCause) (new : HostView)
     → heard_by h octets ≡ Ok (UdpFragment d) → fragment_outcome (later_moment h.sockets now) d h.pool ≡ Some (Completes payload quote) → datagram_or_fault d.source d.destination payload ≡ Ok u
-    → find (is_datagrams_at u.destination) h.sockets.entries ≡ None → is_routed h.interface d.source ≡ true → length h.interface.replies < 16 → IsDelivered h now isn octets answer new
+    → find (is_datagrams_at u.destination) h.sockets.entries ≡ None → is_routed h.interface d.source ≡ true → length h.interface.replies < h.interface.most_replies → IsDelivered h now isn octets answer new
     → (answer ≡ Ok tt) × (new.interface.replies ≡ h.interface.replies ++ record { since = later_moment h.sockets now; reply = reply.Error d.source PortUnreachable (take 68 quote) } ∷ [])
 completed-reported h now isn octets d payload quote u answer new is comes read none routed few delivered =
     let moment : Moment = later_moment h.sockets now in

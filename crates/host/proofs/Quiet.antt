@@ -150,7 +150,7 @@ pub quiet-of-run : (h : HostView) → IsSoundHost h → HasRun h → find (can_g
 quiet-of-run h sound run none quiet =
     let keeps = run-side run.config run.events h run.runs in
     record {
-      replies = no-reply h run.config.routes keeps none quiet;
+      replies = no-reply h run.config.routes run.config.sizes.neighbours run.config.sizes.replies keeps none quiet;
       due = unrouted-place h keeps.few none quiet;
       datagrams = no-datagram h keeps.few none quiet;
       connections = λ e c l at is routed waits. nothing-to-send h sound (run-timed run.config run.events h run.runs) none quiet e c l at is routed waits;

@@ -1,5 +1,7 @@
 -- Why there is no host but one that a list of events led to, and what such a host keeps.
-use Rattle.std.proofs.Common.{◌≡◌, ◌↔◌, ◌+◌, ◌∷◌, ◌++◌, [], Bool, true, false, List, Option, None, IsTrue, OnOk, OnErr, IfOk, Result, Ok, Err, is_ok, refl, sym, ◌∙◌, ap, subst}
+use Rattle.arp.specs.Cache.{Cache}
+use Rattle.arp.proofs.History.{most_stays}
+use Rattle.std.proofs.Common.{◌≡◌, ◌↔◌, ◌+◌, ◌∷◌, ◌++◌, [], Bool, true, false, List, Option, None, IsTrue, OnOk, OnErr, IfOk, Result, Ok, Err, is_ok, refl, sym, ◌∙◌, ap, subst, arith}
 use Rattle.std.specs.Result.{result_err}
 use Rattle.ipv4.specs.Addresses.{IsUnicast}
 use Rattle.routes.specs.declared.route.Route.{Route}
@@ -18,12 +20,12 @@ use Rattle.sockets.specs.SocketsView.{SocketsView, room_of}
 use Rattle.sockets.specs.Timing as timing
 use Rattle.sockets.specs.Timing.{EachKeepsTime}
 use Rattle.host.specs.ConfigView.{ConfigView, IsConfig}
-use Rattle.host.specs.HostView.{HostView, new_host, with_sockets}
+use Rattle.host.specs.HostView.{HostView, new_host, with_sockets, sizes_of}
 use Rattle.host.specs.Runs.{Event, Calls, IsAsked, IsCall, IsNumbered, IsOfOctets, Makes, Runs, Begins, GoesOn, HasRun, HasRunOnOctets}
 use Rattle.host.specs.Sound.{IsSoundHost}
 use Rattle.host.proofs.Causes.{all-behind, run-stands}
 use Rattle.host.proofs.FrameSide.{run-side}
-use Rattle.host.proofs.Tables.{run-addr, run-manner, run-reached, run-ordered, run-over, run-timed}
+use Rattle.host.proofs.Tables.{run-addr, run-manner, run-reached, run-ordered, run-over, run-timed, run-sizes}
 
 -- Nothing happened to it ..
 
@@ -76,7 +78,7 @@ has-place r true is fine = let refused : r ≡ Err EMFILE = is.1 refl in let no 
 pub made : {old layers host : HostView} (r : Result SocketId Refusal) (kind : Kind) (new : SocketsView) → old ≡ layers → layers ≡ host → IsSoundHost host → HasRunOnOctets layers
     → (r ≡ Err EMFILE) ↔ IsTrue (is_table_full old.sockets) → IfOk r (λ id. (id.0 ≡ old.sockets.last_id + 1) × IsMade kind old.sockets new) → OnErr r (new ≡ old.sockets) → HasRunOnOctets (with_sockets old new)
 made {old = old} (Ok id) Tcp new opened is sound run full new_one same =
-    called (Ok id) (table.Makes (room_of old.sockets.manner)) new opened is sound run tt tt (has-place (Ok id) (is_table_full old.sockets) full) new_one.1 tt
+    called (Ok id) (table.Makes (room_of old.sockets.sizes.buffer old.sockets.manner)) new opened is sound run tt tt (λ fine. (has-place (Ok id) (is_table_full old.sockets) full fine, refl)) new_one.1 tt
 made {old = old} (Ok id) Udp new opened is sound run full new_one same =
     called (Ok id) table.MakesDatagrams new opened is sound run tt tt (has-place (Ok id) (is_table_full old.sockets) full) new_one.1 tt
 made (Err refusal) kind new opened is sound run full new_one same = called {T = SocketId} (Err refusal) table.MakesDatagrams new opened is sound run tt tt (λ fine. let no : false ≡ true = fine in cc) tt same
@@ -84,11 +86,20 @@ made (Err refusal) kind new opened is sound run full new_one same = called {T = 
 -- What is kept of it.
 
 -- its set-up
-pub set_up-stays : (c : ConfigView) (events : List Event) (h : HostView) → Runs c events h → (h.interface.mac ≡ c.mac) × (h.interface.addr ≡ c.addr) × (h.sockets.addr ≡ c.addr) × (h.interface.routes ≡ c.routes) × (h.sockets.manner ≡ c.manner)
+pub set_up-stays : (c : ConfigView) (events : List Event) (h : HostView) → Runs c events h → (h.interface.mac ≡ c.mac) × (h.interface.addr ≡ c.addr) × (h.sockets.addr ≡ c.addr) × (h.interface.routes ≡ c.routes) × (h.sockets.manner ≡ c.manner) × (sizes_of h ≡ c.sizes)
 set_up-stays c events h ran =
     let stands = run-stands c events h ran in
     let keeps = run-side c events h ran in
-    (stands.interface.mac, stands.interface.addr, run-addr c events h ran, keeps.same, run-manner c events h ran)
+    let history = keeps.history in
+    let known : h.interface.cache.most ≡ c.sizes.neighbours = ap (λ (x : Cache). x.most) history.is ∙ most_stays c.sizes.neighbours history.events in
+    let table : h.sockets.sizes ≡ record { entries = c.sizes.entries; buffer = c.sizes.buffer } = run-sizes c events h ran in (
+      stands.interface.mac,
+      stands.interface.addr,
+      run-addr c events h ran,
+      keeps.same,
+      run-manner c events h ran,
+      λ k. record { entries = let s = table k in s.entries; buffer = let s = table k in s.buffer; reassemblies = stands.places k; reassembly_octets = stands.octets k; replies = keeps.most k; neighbours = known k },
+    )
 
 -- it is sound, where its sides are
 pub run-sound : (h : HostView) → IsSound h.interface → IsSoundTable h.sockets → HasRun h → IsSoundHost h
@@ -100,6 +111,7 @@ run-sound h interface table run =
       table = table;
       own = own ∙ sym (run-addr run.config run.events h run.runs);
       single = subst IsUnicast (sym own) run.set_up.addr;
+      pool = let most = run.set_up.sizes.reassemblies in omega (arith, stands.places, most.1);
     }
 
 pub keeps-reached : (h : HostView) → HasRun h → IsReached h.sockets

@@ -1,5 +1,6 @@
 -- What the events of a host make of its table: that is reached by events of the table, none of them refused, and its connections keep time.
-use Rattle.std.proofs.Common.{◌≡◌, ℕ, ◌+◌, ◌≤◌, ◌<◌, ◌^◌, not, Bool, true, false, List, [], ◌∷◌, ◌++◌, length, Option, Some, None, Result, Ok, Err, refl, sym, ◌∙◌, ap, subst, arith}
+use Rattle.sockets.specs.declared.sizes.Sizes.{Sizes as TableSizes}
+use Rattle.std.proofs.Common.{◌≡◌, ℕ, ◌+◌, ◌≤◌, ◌<◌, ◌^◌, not, Bool, true, false, List, [], ◌∷◌, ◌++◌, length, Option, Some, None, Result, Ok, Err, refl, sym, ◌∙◌, ap, subst, arith, ◌*◌}
 use Rattle.std.specs.List.{AllByRecursion}
 use Rattle.std.proofs.lemmas.Bool.{and_parts}
 use Rattle.ipv4.specs.declared.addr.Addr.{Addr}
@@ -41,12 +42,12 @@ use Rattle.sockets.specs.Timing.{EachKeepsTime, AreNear, NoneAsks}
 use Rattle.sockets.specs.Timing as timing
 use Rattle.sockets.specs.Leaving.{EachLeavesAWindow}
 use Rattle.sockets.specs.Leaving as leaving
-use Rattle.sockets.specs.SocketsView.{SocketsView, later_moment, new_sockets, role_of}
+use Rattle.sockets.specs.SocketsView.{SocketsView, later_moment, role_of}
 use Rattle.sockets.specs.Ticks.{least_deadline}
 use Rattle.sockets.proofs.Leaving.{each_leaves, fresh_leaves}
 use Rattle.sockets.proofs.Led.{led_nowhere, led_by, led_on, further, reached_by, reached_ordered, reached_over}
 use Rattle.sockets.proofs.Near.{each_near, fresh_near, deadline_near, deadline_in_a_day}
-use Rattle.sockets.proofs.Numbered.{address_stays, manner_stays, never_back}
+use Rattle.sockets.proofs.Numbered.{address_stays, manner_stays, never_back, sizes_stay}
 use Rattle.sockets.proofs.SoundTicks.{tick_sound}
 use Rattle.sockets.proofs.Steps.{later_up_to}
 use Rattle.sockets.proofs.Telling.{tells_on, socket_told, role_tells}
@@ -56,7 +57,7 @@ use Rattle.host.specs.Heard.{heard_by}
 use Rattle.host.proofs.Guarded.{meant_by}
 use Rattle.host.specs.ConfigView.{ConfigView}
 use Rattle.host.specs.Emission.{Emission, Replies, Sends, Asks, Nothing, left_by, emission, goes_out_from}
-use Rattle.host.specs.HostView.{HostView, with_pool, with_sockets}
+use Rattle.host.specs.HostView.{HostView, with_pool, with_sockets, new_host}
 use Rattle.host.specs.Messages.{Told, Asks as AsksForEcho, Refuses, Nothing as TellsNothing, told_by}
 use Rattle.host.specs.Runs.{Event, Calls, Ticks, Delivers, Emits, IsNumbered, IsUpTo, IsSized, Makes, LeadOn, Runs, Begins, GoesOn, HasRun}
 use Rattle.host.specs.Sound.{IsSoundHost}
@@ -188,6 +189,12 @@ manner-on h _ stays = refl
 manner-on h _ (steps e allowed small within sized) = manner_stays h e
 manner-on h _ (ticks lost moment within) = manner_stays h (table.Ticks moment)
 
+-- .. and how large it is
+sizes-on : {Bounds : Moment → Type 0} {Sized : Type 0} (h new : SocketsView) → IsStep h Bounds Sized new → new.sizes ≡ h.sizes
+sizes-on h _ stays = refl
+sizes-on h _ (steps e allowed small within sized) = sizes_stay h e
+sizes-on h _ (ticks lost moment within) = sizes_stay h (table.Ticks moment)
+
 reached-on : {Bounds : Moment → Type 0} {Sized : Type 0} (h new : SocketsView) → IsStep h Bounds Sized new → IsReached h → IsReached new
 reached-on h _ stays reached = reached
 reached-on h _ (steps e allowed small within sized) reached = further h (after_event h e) (led_by h e allowed) reached
@@ -200,10 +207,11 @@ timed-on h _ sound stays keeps = keeps
 timed-on h _ sound (steps e allowed small within sized) keeps = each_timed h e sound small keeps
 timed-on h _ sound (ticks lost moment within) keeps = each_timed (after_event h (table.Ticks moment)) (table.GivesUp lost moment) (tick_sound h moment sound) tt (each_timed h (table.Ticks moment) sound tt keeps)
 
-leaves-on : {Bounds : Moment → Type 0} {Sized : Type 0} (h new : SocketsView) → IsSoundTable h → Sized → IsStep h Bounds Sized new → EachLeavesAWindow h → EachLeavesAWindow new
-leaves-on h _ sound own stays leaves = leaves
-leaves-on h _ sound own (steps e allowed small within sized) leaves = each_leaves h e sound small (sized own) leaves
-leaves-on h _ sound own (ticks lost moment within) leaves = each_leaves (after_event h (table.Ticks moment)) (table.GivesUp lost moment) (tick_sound h moment sound) tt tt (each_leaves h (table.Ticks moment) sound tt tt leaves)
+leaves-on : {Bounds : Moment → Type 0} {Sized : Type 0} (h new : SocketsView) → IsSoundTable h → 3 * MSS ≤ h.sizes.buffer → Sized → IsStep h Bounds Sized new → EachLeavesAWindow h → EachLeavesAWindow new
+leaves-on h _ sound wide own stays leaves = leaves
+leaves-on h _ sound wide own (steps e allowed small within sized) leaves = each_leaves h e sound wide small (sized own) leaves
+leaves-on h _ sound wide own (ticks lost moment within) leaves =
+    each_leaves (after_event h (table.Ticks moment)) (table.GivesUp lost moment) (tick_sound h moment sound) wide tt tt (each_leaves h (table.Ticks moment) sound wide tt tt leaves)
 
 near-on : {Bounds : Moment → Type 0} {Sized : Type 0} (latest : Moment) (h new : SocketsView) → IsSoundTable h → Bounds latest → IsStep h Bounds Sized new → AreNear latest h → AreNear latest new
 near-on latest h _ sound bound stays near = near
@@ -235,8 +243,8 @@ event-reaches event old new sound small makes reached = reached-on old.sockets n
 pub event-timed : (event : Event) (old new : HostView) → IsSoundHost old → IsNumbered event → Makes event old new → EachKeepsTime old.sockets → EachKeepsTime new.sockets
 event-timed event old new sound small makes keeps = timed-on old.sockets new.sockets sound.table (event-leads event old new sound small makes) keeps
 
-pub event-leaves : (event : Event) (old new : HostView) → IsSoundHost old → IsNumbered event → IsSized event → Makes event old new → EachLeavesAWindow old.sockets → EachLeavesAWindow new.sockets
-event-leaves event old new sound small sized makes leaves = leaves-on old.sockets new.sockets sound.table sized (event-leads event old new sound small makes) leaves
+pub event-leaves : (event : Event) (old new : HostView) → IsSoundHost old → 3 * MSS ≤ old.sockets.sizes.buffer → IsNumbered event → IsSized event → Makes event old new → EachLeavesAWindow old.sockets → EachLeavesAWindow new.sockets
+event-leaves event old new sound wide small sized makes leaves = leaves-on old.sockets new.sockets sound.table wide sized (event-leads event old new sound small makes) leaves
 
 bounded : (latest : Moment) (h : HostView) (event : Event) → h.sockets.kept.0 ≤ latest.0 → IsUpTo latest event → Bounds h event latest
 bounded latest h (Calls call) kept up = up
@@ -268,12 +276,19 @@ pub run-manner : (c : ConfigView) (events : List Event) (h : HostView) → Runs 
 run-manner c _ _ Begins = refl
 run-manner c _ _ (GoesOn before event old new ran sound small makes) = manner-kept event old new sound small makes ∙ run-manner c before old ran
 
+pub sizes-kept : (event : Event) (old new : HostView) → IsSoundHost old → IsNumbered event → Makes event old new → new.sockets.sizes ≡ old.sockets.sizes
+sizes-kept event old new sound small makes = sizes-on old.sockets new.sockets (event-leads event old new sound small makes)
+
+pub run-sizes : (c : ConfigView) (events : List Event) (h : HostView) → Runs c events h → h.sockets.sizes ≡ record { entries = c.sizes.entries; buffer = c.sizes.buffer }
+run-sizes c _ _ Begins = refl
+run-sizes c _ _ (GoesOn before event old new ran sound small makes) = sizes-kept event old new sound small makes ∙ run-sizes c before old ran
+
 pub run-reached : (c : ConfigView) (events : List Event) (h : HostView) → Runs c events h → IsReached h.sockets
-run-reached c _ _ Begins = reached_by c.addr c.manner (new_sockets c.addr c.manner) (led_nowhere (new_sockets c.addr c.manner))
+run-reached c _ _ Begins = let h = new_host c in reached_by c.addr c.manner h.sockets.sizes h.sockets (led_nowhere h.sockets)
 run-reached c _ _ (GoesOn before event old new ran sound small makes) = event-reaches event old new sound small makes (run-reached c before old ran)
 
 pub run-timed : (c : ConfigView) (events : List Event) (h : HostView) → Runs c events h → EachKeepsTime h.sockets
-run-timed c _ _ Begins = fresh_timed c.addr c.manner
+run-timed c _ _ Begins = let h = new_host c in fresh_timed c.addr c.manner h.sockets.sizes
 run-timed c _ _ (GoesOn before event old new ran sound small makes) = event-timed event old new sound small makes (run-timed c before old ran)
 
 pub run-ordered : (c : ConfigView) (events : List Event) (h : HostView) → Runs c events h → IsOrdered h.sockets
@@ -287,16 +302,17 @@ all-split P [] x all = (tt, all.0)
 all-split P (y ∷ ys) x all = let parts = all-split P ys x all.1 in ((all.0, parts.0), parts.1)
 
 pub run-near : (c : ConfigView) (events : List Event) (h : HostView) (latest : Moment) → Runs c events h → AllByRecursion (IsUpTo latest) events → AreNear latest h.sockets
-run-near c _ _ latest Begins up = fresh_near c.addr c.manner latest
+run-near c _ _ latest Begins up = let h = new_host c in fresh_near c.addr c.manner h.sockets.sizes latest
 run-near c _ _ latest (GoesOn before event old new ran sound small makes) up =
     let parts = all-split (IsUpTo latest) before event up in
     event-near event old new latest sound small parts.1 makes (run-near c before old latest ran parts.0)
 
-pub run-leaves : (c : ConfigView) (events : List Event) (h : HostView) → Runs c events h → AllByRecursion IsSized events → EachLeavesAWindow h.sockets
-run-leaves c _ _ Begins sized = fresh_leaves c.addr c.manner
-run-leaves c _ _ (GoesOn before event old new ran sound small makes) sized =
+pub run-leaves : (c : ConfigView) (events : List Event) (h : HostView) → 3 * MSS ≤ c.sizes.buffer → Runs c events h → AllByRecursion IsSized events → EachLeavesAWindow h.sockets
+run-leaves c _ _ wide Begins sized = let h = new_host c in fresh_leaves c.addr c.manner h.sockets.sizes
+run-leaves c _ _ wide (GoesOn before event old new ran sound small makes) sized =
     let parts = all-split IsSized before event sized in
-    event-leaves event old new sound small parts.1 makes (run-leaves c before old ran parts.0)
+    let same = run-sizes c before old ran in
+    event-leaves event old new sound (subst (λ (s : TableSizes). 3 * MSS ≤ s.buffer) (sym same) wide) small parts.1 makes (run-leaves c before old wide ran parts.0)
 
 pub run-deadline : (c : ConfigView) (events : List Event) (h : HostView) (latest moment : Moment) → Runs c events h → AllByRecursion (IsUpTo latest) events → NoneAsks h.sockets → least_deadline h.sockets ≡ Some moment → moment.0 ≤ latest.0 + 240000
 run-deadline c events h latest moment ran up none is = deadline_near h.sockets latest moment (run-near c events h latest ran up) none is

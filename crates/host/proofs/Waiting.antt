@@ -16,7 +16,7 @@ use Rattle.interface.specs.Routing.{next_hop}
 use Rattle.interface.specs.Ways.{knows_hop, mac_of}
 use Rattle.interface.specs.Timing.{asked_until, deadline_for, deadline_of, end_of, is_over, is_unknown, sought, stays, after_tick as interface_after_tick, least_deadline as reply_deadline}
 use Rattle.reassembly.specs.Places.{after_age as pool_after_age, expired, next_deadline as pool_deadline}
-use Rattle.reassembly.specs.Reassembly.{Reassembly}
+use Rattle.reassembly.specs.Reassembly.{PoolView}
 use Rattle.reassembly.proofs.Soonest.{nothing_before}
 use Rattle.sockets.specs.declared.entry.Entry.{Entry}
 use Rattle.sockets.specs.declared.entry.SocketId.{SocketId}
@@ -259,8 +259,8 @@ entries-stay h moment order aged (e ∷ es) all =
 before : (next moment : Moment) → has_come (Some next) moment ≡ false → moment.0 < next.0
 before next moment early = grind (arith, nat_tests, early)
 
-pool-stays : (places : List (Option Reassembly)) (moment : Moment) → has_come (pool_deadline places) moment ≡ false → (pool_after_age moment places ≡ places) × (expired moment places ≡ [])
-pool-stays places moment early = nothing_before places moment (by_next (pool_deadline places) early)
+pool-stays : (pool : PoolView) (moment : Moment) → has_come (pool_deadline pool) moment ≡ false → (pool_after_age moment pool ≡ pool) × (expired moment pool ≡ [])
+pool-stays pool moment early = nothing_before pool moment (by_next (pool_deadline pool) early)
   where
     by_next : (o : Option Moment) → has_come o moment ≡ false → IfSome o (λ (next : Moment). moment.0 < next.0)
     by_next None e = tt

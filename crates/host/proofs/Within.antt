@@ -1,24 +1,17 @@
 -- A host stays within its limits, over every list of events.
-use Rattle.std.proofs.Common.{◌≡◌, ℕ, zero, suc, ◌+◌, ◌-◌, ◌*◌, ◌<◌, ◌≤◌, ◌||◌, Bool, true, false, cond, nat_le, List, [], ◌∷◌, length, take, drop, count_by, Option, Some, None, IfSome, is_some, Result, Ok, Err, refl, sym, subst, length-append, length-take, arith}
+use Rattle.sockets.specs.declared.sizes.Sizes.{Sizes as TableSizes}
+use Rattle.sockets.proofs.Rooms.{reached_size}
+use Rattle.sockets.specs.Rooms.{HasRoomFor}
+use Rattle.std.proofs.Common.{◌≡◌, ℕ, zero, suc, ◌<◌, ◌≤◌, ◌||◌, Bool, true, false, cond, List, [], ◌∷◌, length, take, count_by, Option, Some, None, IfSome, is_some, refl, sym, subst, length-append, length-take, arith, ap}
 use Rattle.std.specs.List.{AllByRecursion, slice_index_or}
-use Rattle.std.proofs.lemmas.Bool.{and_parts}
-use Rattle.std.proofs.lemmas.Bool.Decides.{nat_tests}
 use Rattle.std.proofs.lemmas.List.Sums.{sum_by-cons}
 use Rattle.ipv4.specs.declared.addr.Addr.{Addr}
-use Rattle.ipv4.specs.declared.fault.Ipv4Fault.{Ipv4Fault}
-use Rattle.ipv4.specs.declared.fault.Ipv4Fault.TheVariants.{IpSum}
 use Rattle.ipv4.specs.Datagram.{Datagram, header_octets}
-use Rattle.ipv4.specs.Reading.{checked, datagram_in, datagram_of, datagram_with, has_place, lengths_in}
-use Rattle.ether.specs.declared.mac.Mac.{Mac}
 use Rattle.tcp_segment.specs.Wire.{past}
 use Rattle.tcp_state.specs.View.{View, IsSound, is_opening, is_write_finished}
-use Rattle.frames.specs.Meaning.{heard}
-use Rattle.frames.specs.declared.meaning.Meaning.TheVariants.{UdpFragment}
 use Rattle.frames.proofs.Hearers.{fragments_fit}
-use Rattle.frames.proofs.Origins.{from_datagram}
-use Rattle.reassembly.specs.Fragments.{begin_of, quote_of}
-use Rattle.reassembly.specs.Reassembly.{Reassembly, after_fragments, begun, with_fragment}
-use Rattle.reassembly.proofs.Outcomes.{length-laid}
+use Rattle.reassembly.specs.Fragments.{quote_of}
+use Rattle.reassembly.specs.Reassembly.{Reassembly}
 use Rattle.interface.specs.declared.reply.Reply.{Reply}
 use Rattle.interface.specs.declared.reply.Reply.TheVariants as reply
 use Rattle.interface.specs.declared.reply.Waiting.{Waiting}
@@ -28,7 +21,7 @@ use Rattle.sockets.specs.declared.role.Role.{Role}
 use Rattle.sockets.specs.declared.role.Role.TheVariants.{Idle, Listener, Connected, Datagrams}
 use Rattle.sockets.specs.Sound.{IsSoundRole}
 use Rattle.sockets.proofs.OfferHeld.{ready-offered}
-use Rattle.host.specs.ConfigView.{ConfigView}
+use Rattle.host.specs.ConfigView.{ConfigView, IsConfig}
 use Rattle.host.specs.HostView.{HostView}
 use Rattle.host.specs.Limits.{IsInItsBuffers, IsInItsRoom, IsWithinLimits, IsWithinPayload, octets_of}
 use Rattle.host.specs.Runs.{Event, Runs}
@@ -36,8 +29,8 @@ use Rattle.host.specs.Sound.{IsSoundHost}
 use Rattle.host.proofs.Causes.{WasPart, run-stands}
 use Rattle.host.proofs.Filled.{Fits, reached-fit}
 use Rattle.host.proofs.FrameSide.{few-neighbours, run-side}
-use Rattle.host.proofs.Gathering.{AreGathered, IsFrom, IsGathered, IsGatheredAt, gathered-quote}
-use Rattle.host.proofs.Tables.{run-reached}
+use Rattle.host.proofs.Gathering.{AreGathered, IsGathered, IsGatheredAt, gathered-quote}
+use Rattle.host.proofs.Tables.{run-reached, run-sizes}
 
 -- A connection keeps no octet past its window.
 
@@ -54,24 +47,25 @@ held-few : (b : Bool) (held size : ℕ) → held ≤ cond b 0 size → held ≤ 
 held-few true held size most = omega (arith, most)
 held-few false held size most = most
 
-in-buffers : (c : View) → IsSound c → IsInItsBuffers c
-in-buffers c sound =
+in-buffers : (most : ℕ) (c : View) → IsSound c → c.receiving.capacity ≤ most → IsInItsBuffers most c
+in-buffers most c sound room =
     let terms = sound.terms in record {
       held = held-few (is_opening c.state || is_write_finished c.state) (length c.sending.held) c.sending.size sound.held;
       unread = omega (arith, sound.window, kept-few c.receiving.kept (past c.receiving.edge c.receiving.rnext) sound.kept);
-      send_size = terms.send_size;
-      receive_size = omega (arith, terms.places, terms.capacity);
+      send_size = omega (arith, room, terms.same_size, terms.places);
+      receive_size = omega (arith, room, terms.places);
     }
 
-in-room : (role : Role) → IsSoundRole role → Fits role → IsInItsRoom role
-in-room (Connected c l) sound fits = in-buffers c sound.sound
-in-room (Datagrams bound s) sound fits = fits
-in-room (Listener local b) sound fits = tt
-in-room (Idle buffers bound) sound fits = tt
+in-room : (most : ℕ) (role : Role) → IsSoundRole role → Fits role → HasRoomFor most role → IsInItsRoom most role
+in-room most (Connected c l) sound fits room = in-buffers most c sound.sound room
+in-room most (Datagrams bound s) sound fits room = fits
+in-room most (Listener local b) sound fits room = tt
+in-room most (Idle buffers bound) sound fits room = room
 
-each-in_room : (entries : List Entry) → AllByRecursion (λ (e : Entry). IsSoundRole e.role) entries → AllByRecursion (λ (e : Entry). Fits e.role) entries → AllByRecursion (λ (e : Entry). IsInItsRoom e.role) entries
-each-in_room [] sound fits = tt
-each-in_room (e ∷ rest) sound fits = (in-room e.role sound.0 fits.0, each-in_room rest sound.1 fits.1)
+each-in_room : (most : ℕ) (entries : List Entry) → AllByRecursion (λ (e : Entry). IsSoundRole e.role) entries → AllByRecursion (λ (e : Entry). Fits e.role) entries → AllByRecursion (λ (e : Entry). HasRoomFor most e.role) entries
+    → AllByRecursion (λ (e : Entry). IsInItsRoom most e.role) entries
+each-in_room most [] sound fits room = tt
+each-in_room most (e ∷ rest) sound fits room = (in-room most e.role sound.0 fits.0 room.0, each-in_room most rest sound.1 fits.1 room.1)
 
 -- A reply is kept with what can be sent of it.
 
@@ -85,55 +79,14 @@ replies-few : (own : Addr) (replies : List Waiting) → AllByRecursion (λ (w : 
 replies-few own [] sound = tt
 replies-few own (w ∷ rest) sound = (reply-few own w.reply sound.0, replies-few own rest sound.1)
 
--- A fragment that is heard has its place in the longest payload.
-
-placed-reach : (more : Bool) (offset len : ℕ) → has_place more offset len ≡ true → 8 * offset + len ≤ 65515
-placed-reach more offset len is =
-    let most : nat_le (8 * offset + len) 65515 ≡ true = (and_parts _ (nat_le (8 * offset + len) 65515) is).1 in
-    grind (arith, nat_tests, most)
-
-passed : (b : Bool) (own d : Datagram) → ◌≡◌ {A = Result Datagram Ipv4Fault} (cond b (Ok own) (Err IpSum)) (Ok d) → own ≡ d
-passed true own d e = cc
-passed false own d e = cc
-
-sum-passed : (own d : Datagram) → checked (Some own) ≡ Ok d → own ≡ d
-sum-passed own d e = passed _ own d e
-
-placed-is : (b : Bool) (own d : Datagram) → has_place own.more_fragments own.offset (length own.payload) ≡ b → checked (cond b (Some own) None) ≡ Ok d → 8 * d.offset + length d.payload ≤ 65515
-placed-is false own d is e = cc
-placed-is true own d is found = subst (λ (x : Datagram). 8 * x.offset + length x.payload ≤ 65515) (sum-passed own d found) (placed-reach own.more_fragments own.offset (length own.payload) is)
-
-datagram-placed : (octets : List ℕ) (d : Datagram) → datagram_in octets ≡ Ok d → 8 * d.offset + length d.payload ≤ 65515
-datagram-placed octets d found = by_lengths (lengths_in octets) found
-  where
-    by_lengths : (lengths : Option (ℕ × ℕ)) → checked (datagram_with octets lengths) ≡ Ok d → 8 * d.offset + length d.payload ≤ 65515
-    by_lengths None e = cc
-    by_lengths (Some (header, total)) e =
-        let own : Datagram = datagram_of (take header octets) (take (total - header) (drop header octets)) in
-        placed-is (has_place own.more_fragments own.offset (length own.payload)) own d refl e
-
-fragment-placed : (mac : Mac) (ours : Addr) (octets : List ℕ) (d : Datagram) → heard mac ours octets ≡ Ok (UdpFragment d) → 8 * d.offset + length d.payload ≤ 65515
-fragment-placed mac ours octets d answer =
-    let from = from_datagram mac ours octets (UdpFragment d) answer (λ p no. cc) in
-    let brought = from.1 in
-    subst (λ (x : Datagram). 8 * x.offset + length x.payload ≤ 65515) (sym from.2.2) (datagram-placed brought.frame.payload from.0 brought.found)
-
--- What is put together of what was delivered reaches no further than the longest payload, and is quoted by 68 octets at most.
-
-together-few : (c : ConfigView) (events : List Event) (source : Addr) (fragments : List Datagram) (r : Reassembly) → AllByRecursion (IsFrom (WasPart c events) source) fragments → length r.octets ≤ 65515
-    → (let whole = after_fragments r fragments in length whole.octets ≤ 65515)
-together-few c events source [] r each few = few
-together-few c events source (d ∷ fragments) r each few =
-    let first = each.0 in
-    let was = first.passes in
-    together-few c events source fragments (with_fragment r d) each.1 (length-laid (begin_of d) d.payload r.octets 65515 (fragment-placed c.mac c.addr was.octets d was.meant) few)
+-- What is put together reaches no further than its place has room for, and is quoted by 68 octets at most.
 
 quote-few : (d : Datagram) → length (header_octets d) ≤ 60 → length (quote_of d) ≤ 68
 quote-few d most = omega (arith, most, length-append (header_octets d) (take 8 d.payload), length-take 8 d.payload)
 
-within-payload : (c : ConfigView) (events : List Event) (r : Reassembly) → IsGathered (WasPart c events) r → IsWithinPayload r
-within-payload c events r gathered = record {
-  octets = subst (λ (x : Reassembly). length x.octets ≤ 65515) (sym gathered.is) (together-few c events r.key.source gathered.fragments (begun gathered.since gathered.first) gathered.each (omega arith));
+within-payload : (c : ConfigView) (events : List Event) (most : ℕ) (r : Reassembly) → length r.octets ≤ most → IsGathered (WasPart c events) r → IsWithinPayload most r
+within-payload c events most r short gathered = record {
+  octets = short;
   quote = by_quote r.quote refl;
 }
   where
@@ -144,26 +97,32 @@ within-payload c events r gathered = record {
         let was = quoted.passes in
         subst (λ (q : List ℕ). length q ≤ 68) (sym quoted.is) (quote-few quoted.zero_fragment (fragments_fit c.mac c.addr was.octets quoted.zero_fragment was.meant).0)
 
-within-place : (c : ConfigView) (events : List Event) (place : Option Reassembly) → IsGatheredAt (WasPart c events) place → IfSome place IsWithinPayload
-within-place c events None gathered = tt
-within-place c events (Some r) gathered = within-payload c events r gathered
+within-place : (c : ConfigView) (events : List Event) (most : ℕ) (place : Option Reassembly) → ((r : Reassembly) → place ≡ Some r → length r.octets ≤ most) → IsGatheredAt (WasPart c events) place → IfSome place (IsWithinPayload most)
+within-place c events most None short gathered = tt
+within-place c events most (Some r) short gathered = within-payload c events most r (short r refl) gathered
 
-within-places : (c : ConfigView) (events : List Event) (places : List (Option Reassembly)) → AreGathered (WasPart c events) places → AllByRecursion (λ (place : Option Reassembly). IfSome place IsWithinPayload) places
-within-places c events [] gathered = tt
-within-places c events (place ∷ rest) gathered = (within-place c events place gathered.0, within-places c events rest gathered.1)
+within-places : (c : ConfigView) (events : List Event) (most : ℕ) (places : List (Option Reassembly)) → ((i : ℕ) (r : Reassembly) → slice_index_or places i None ≡ Some r → length r.octets ≤ most) → AreGathered (WasPart c events) places
+    → AllByRecursion (λ (place : Option Reassembly). IfSome place (IsWithinPayload most)) places
+within-places c events most [] short gathered = tt
+within-places c events most (place ∷ rest) short gathered = (within-place c events most place (short 0) gathered.0, within-places c events most rest (λ i. short (suc i)) gathered.1)
 
 -- All of a host.
 
-pub within-limits : (c : ConfigView) (events : List Event) (h : HostView) → Runs c events h → IsSoundHost h → IsWithinLimits h
-within-limits c events h ran sound =
+pub within-limits : (c : ConfigView) (events : List Event) (h : HostView) → IsConfig c → Runs c events h → IsSoundHost h → IsWithinLimits c.sizes h
+within-limits c events h set_up ran sound =
     let side = run-side c events h ran in
     let stands = run-stands c events h ran in
-    let offers = ready-offered h.sockets (run-reached c events h ran) in
+    let reached = run-reached c events h ran in
+    let offers = ready-offered h.sockets reached in
+    let sizes : h.sockets.sizes ≡ record { entries = c.sizes.entries; buffer = c.sizes.buffer } = run-sizes c events h ran in
+    let entries : h.sockets.sizes.entries ≡ c.sizes.entries = ap (λ (s : TableSizes). s.entries) sizes in
+    let room = subst (λ (s : TableSizes). AllByRecursion (λ (e : Entry). HasRoomFor s.buffer e.role) h.sockets.entries) sizes (reached_size h.sockets reached) in
+    let some : 0 < c.sizes.neighbours = let near = set_up.sizes.neighbours in omega (arith, near.0) in
     let table = sound.table in
     let own = sound.interface in
     record {
-      interface = record { neighbours = few-neighbours h.interface side; requests = side.few; replies = side.places; each = replies-few h.interface.addr h.interface.replies own.replies };
-      sockets = record { entries = offers.few; offered = omega (arith, offers.within, offers.few); each = each-in_room h.sockets.entries table.entries (reached-fit h.sockets (run-reached c events h ran)) };
-      pool = record { places = stands.places; each = within-places c events h.pool stands.pool };
+      interface = record { neighbours = few-neighbours h.interface some side; requests = side.few; replies = omega (arith, side.places, side.most); each = replies-few h.interface.addr h.interface.replies own.replies };
+      sockets = record { entries = omega (arith, offers.few, entries); offered = omega (arith, offers.within, offers.few, entries); each = each-in_room c.sizes.buffer h.sockets.entries table.entries (reached-fit h.sockets reached) room };
+      pool = record { places = stands.places; each = within-places c events c.sizes.reassembly_octets h.pool.places (λ i r at. omega (arith, stands.short i r at, stands.octets)) stands.pool };
       lately = stands.lately;
     }

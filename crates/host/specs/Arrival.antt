@@ -21,8 +21,8 @@ use Rattle.sockets.specs.Arrival.{Arrival, Becomes, Opens, NoRoom as NoRoomInTab
 use Rattle.reassembly.specs.Events.{has_place}
 use Rattle.reassembly.specs.Fragments.{key_of, quote_of}
 use Rattle.reassembly.specs.Lately.{noted, was_whole}
-use Rattle.reassembly.specs.Places.{after_take, outcome_at, place_for, without_oldest}
-use Rattle.reassembly.specs.Reassembly.{Outcome, Reassembly}
+use Rattle.reassembly.specs.Places.{after_take, fits, outcome_at, place_for, without_oldest}
+use Rattle.reassembly.specs.Reassembly.{Outcome, PoolView}
 use Rattle.reassembly.specs.Reassembly.Outcome.{Waits, Completes, GivesUp}
 use Rattle.sockets.specs.declared.datagrams.Reception.{Reception}
 use Rattle.sockets.specs.declared.datagrams.Reception.TheVariants as socket
@@ -95,12 +95,12 @@ MeetsUserDatagram to h moment r answer new =
     × (new ≡ after_user_datagram to h moment r.carrier.source r.datagram (quote_of r.carrier))
 
 -- What a fragment comes to in the pool, where it has a place there.
-abbrev pub fragment_outcome : Moment → Datagram → List (Option Reassembly) → Option Outcome
-fragment_outcome moment d pool = option_map (outcome_at moment d pool) (place_for (key_of d) pool)
+abbrev pub fragment_outcome : Moment → Datagram → PoolView → Option Outcome
+fragment_outcome moment d pool = option_map (outcome_at moment d pool) (place_for d pool)
 
--- On its guard a host lets the oldest datagram of the pool give way to a fragment that finds no place there, so that each finds one.
-abbrev pub pool_for : Bool → Datagram → List (Option Reassembly) → List (Option Reassembly)
-pool_for guards d pool = if guards && is_none (place_for (key_of d) pool) then without_oldest pool else pool
+-- On its guard a host lets the oldest datagram of the pool give way to a fragment that finds no place there, so that each finds one that a place has room for.
+abbrev pub pool_for : Bool → Datagram → PoolView → PoolView
+pool_for guards d pool = if guards && fits pool d && is_none (place_for d pool) then without_oldest pool else pool
 
 -- And it notes which datagrams were whole. A fragment whose datagram was so within the last second, as its key says, and is not being put
 -- together anew, is a late copy.

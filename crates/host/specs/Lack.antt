@@ -8,7 +8,6 @@ use Rattle.frames.specs.declared.meaning.Meaning.TheVariants.{Arp, Tcp, Icmp, Ud
 use Rattle.interface.specs.InterfaceView.{InterfaceView}
 use Rattle.interface.specs.Replies.{is_full}
 use Rattle.interface.specs.Ways.{is_routed}
-use Rattle.reassembly.specs.Fragments.{key_of}
 use Rattle.reassembly.specs.Places.{place_for}
 use Rattle.sockets.specs.declared.datagrams.Reception.{Reception}
 use Rattle.sockets.specs.declared.datagrams.Reception.TheVariants as socket
@@ -23,7 +22,7 @@ use Rattle.host.specs.Heard.{heard_by}
 use Rattle.host.specs.HostView.{HostView}
 use Rattle.host.specs.Messages.{Told, Asks, Refuses, Nothing, told_by}
 
--- a control reply that is owed finds no place where 16 wait ..
+-- a control reply that is owed finds no place where as many wait as may ..
 abbrev pub lack_of_reply : Bool → InterfaceView → Option Lack
 lack_of_reply is_owed i = if is_owed && is_full i then Some Replies else None
 
@@ -51,13 +50,13 @@ lack_by_reception h source socket.Queued = None
 lack_by_reception h source socket.NoRoom = Some Queue
 lack_by_reception h source socket.NoSocket = lack_of_answer h source
 
--- a fragment needs a place in the pool, as it always finds one on guard, and a datagram that nothing takes is reported
+-- a fragment needs a place in the pool, as it finds one on guard wherever a place has room for it, and a datagram that nothing takes is reported
 abbrev pub lack_of : HostView → Result Meaning DropCause → Option Lack
 lack_of h (Ok (Arp packet)) = lack_of_reply (is_request_for h.interface.addr packet) h.interface
 lack_of h (Ok (Tcp received)) = lack_by_need h received.source (needs.need h.sockets received.source received.segment)
 lack_of h (Ok (Icmp c)) = lack_by_message h c.source (told_by c.message)
 lack_of h (Ok (Udp r)) = lack_by_reception h r.carrier.source (reception h.sockets r.datagram)
-lack_of h (Ok (UdpFragment d)) = if is_none (place_for (key_of d) (pool_for h.sockets.manner.guards d h.pool)) then Some Reassembly else None
+lack_of h (Ok (UdpFragment d)) = if is_none (place_for d (pool_for h.sockets.manner.guards d h.pool)) then Some Reassembly else None
 lack_of h (Ok (Other d)) = lack_of_answer h d.source
 lack_of h (Err cause) = None
 

@@ -1,3 +1,4 @@
+pub mod Sizes
 pub mod ConfigView
 pub mod HostView
 pub mod Heard

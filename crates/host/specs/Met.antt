@@ -54,11 +54,11 @@ pub record IsQuotedBy (h : HostView) (m : Message) (e : Entry) : Type 0 where
   pub sent : 0 < outstanding connection.sending
   pub number : quote.number ≡ connection.sending.una
 
--- It is an ARP packet that asks for our address while 16 replies wait: it isn't answered, and what it tells of its sender is learnt all the same (RFC 826).
+-- It is an ARP packet that asks for our address while as many replies wait as may: it isn't answered, and what it tells of its sender is learnt all the same (RFC 826).
 pub record IsLearntInVain (h : HostView) (moment : Moment) (octets : List ℕ) (new : HostView) : Type 0 where
   pub packet : ArpPacket
   pub heard : heard_by h octets ≡ Ok (Arp packet)
   pub asks : packet.operation ≡ Request
   pub for_us : packet.target_addr ≡ h.interface.addr
-  pub full : length h.interface.replies ≡ 16
+  pub full : length h.interface.replies ≡ h.interface.most_replies
   pub learns : new ≡ with_interface h (learnt moment packet h.interface)

@@ -3,6 +3,7 @@
 ghost use Rattle.std.specs.Prelude.{◌≡◌, ◌↔◌, true, IfOk, IfErr, IsOk, length};
 ghost use Rattle.host.specs.ConfigView.{IsOfOne, usual_manner};
 
+use crate::sizes::Sizes;
 use ether::{Mac, is_whole_mac};
 use ipv4::Addr;
 use routes::Routes;
@@ -10,13 +11,14 @@ use sockets::Refusal;
 use std::marker::Model;
 use tcp_state::{Control, Manner, Recovery};
 
-/// How a host is set up: its MAC, its address and its routes, and how its connections behave.
+/// How a host is set up: its MAC, its address and its routes, how its connections behave, and how large it is.
 #[derive(Drop)]
 pub struct Config {
     mac: Mac,
     addr: Addr,
     routes: Routes,
     manner: Manner,
+    sizes: Sizes,
 }
 
 impl Model for Config {
@@ -25,20 +27,23 @@ impl Model for Config {
 
     ghost Value = { ConfigView };
 
-    ghost view = { λ c. record { mac = c.mac; addr = c.addr; routes = c.routes; manner = c.manner } };
+    ghost view = { λ c. record { mac = c.mac; addr = c.addr; routes = c.routes; manner = c.manner; sizes = c.sizes } };
 
-    ghost invariant = { λ c. IsUnicast c.addr × IsOfOne c.mac };
+    ghost use Rattle.host.specs.Sizes.{IsSizes};
+
+    ghost invariant = { λ c. IsUnicast c.addr × IsOfOne c.mac × IsSizes c.sizes };
 }
 
 impl Config {
     ghost use Rattle.ipv4.specs.Addresses.{IsUnicast};
     ghost use Rattle.host.specs.ConfigView.{IsConfig};
+    ghost use Rattle.host.specs.Sizes.{IsSizes};
 
     /// A host at `addr`, whose interface has this MAC, with these routes. EINVAL where the address isn't unicast (RFC 1122
     /// section 3.2.1.3), or the MAC is that of a group, with the low bit of its first octet set.
     pub fn new(mac: Mac, addr: Addr, routes: Routes) -> Result<Config, Refusal>
         ensures valid { IsOk result ↔ (IsUnicast addr × IsOfOne mac) }
-        ensures value { IfOk result (λ config. config ≡ record { mac = mac; addr = addr; routes = routes; manner = usual_manner }) }
+        ensures value { IfOk result (λ config. config ≡ record { mac = mac; addr = addr; routes = routes; manner = usual_manner; sizes = Sizes.USUAL }) }
         ensures refusal { IfErr result (λ refusal. refusal ≡ Refusal.EINVAL) }
     {
         if addr.is_unicast() && is_of_one(mac) {
@@ -53,14 +58,28 @@ impl Config {
                     least_timeout: 1_000,
                     guards: false,
                 },
+                sizes: Sizes::USUAL,
             })
         } else {
             Err(Refusal::EINVAL)
         }
     }
 
+    /// The same set-up of a host of these sizes; one that `new` makes has `Sizes::USUAL`. EINVAL where one of them lies outside its range.
+    pub fn with_sizes(self, sizes: Sizes) -> Result<Config, Refusal>
+        ensures valid { IsOk result ↔ IsSizes sizes }
+        ensures value { IfOk result (λ config. config ≡ record self { sizes = sizes }) }
+        ensures refusal { IfErr result (λ refusal. refusal ≡ Refusal.EINVAL) }
+    {
+        if sizes.are_valid() {
+            Ok(Config { sizes, ..self })
+        } else {
+            Err(Refusal::EINVAL)
+        }
+    }
+
     /// The same set-up of a host that uses the window scale option (RFC 7323 section 2), so that a connection with a peer that uses it holds
-    /// 1,048,576 octets each way, or of one that doesn't. One that `new` makes does.
+    /// as many octets each way as the sizes say, 1,048,576 at most, or of one that doesn't, whose connections hold 65,535 at most. One that `new` makes does.
     pub fn with_scale(self, scales: bool) -> Config
         ensures { result ≡ record self { manner = record self.manner { scales = scales } } }
     {
@@ -179,11 +198,12 @@ impl Config {
     }
 
     /// Its parts.
-    pub(crate) fn into_parts(self) -> (Mac, Addr, Routes, Manner)
-        ensures parts { (result.0 ≡ self.mac) × (result.1 ≡ self.addr) × (result.2 ≡ self.routes) × (result.3 ≡ self.manner) }
+    pub(crate) fn into_parts(self) -> (Mac, Addr, Routes, Manner, Sizes)
+        ensures parts { (result.0 ≡ self.mac) × (result.1 ≡ self.addr) × (result.2 ≡ self.routes) × (result.3 ≡ self.manner) × (result.4 ≡ self.sizes) }
+        ensures sizes { IsSizes self.sizes }
         ensures single { IsUnicast self.addr }
     {
-        (self.mac, self.addr, self.routes, self.manner)
+        (self.mac, self.addr, self.routes, self.manner, self.sizes)
     }
 }
 

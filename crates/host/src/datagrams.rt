@@ -4,7 +4,7 @@ ghost use Rattle.std.specs.Prelude.{◌≡◌, if◌then◌else◌, List, Option
 ghost use Rattle.reassembly.specs.declared.finished.Finished.{Finished};
 ghost use Rattle.reassembly.specs.Fragments.{key_of};
 ghost use Rattle.reassembly.specs.Lately.{noted};
-ghost use Rattle.reassembly.specs.Reassembly.{Reassembly};
+ghost use Rattle.reassembly.specs.Reassembly.{PoolView};
 ghost use Rattle.sockets.specs.Datagrams.{reception};
 ghost use Rattle.host.specs.Arrival.{after_user_datagram, pool_for};
 ghost use Rattle.host.specs.HostView.{HostView};
@@ -39,12 +39,14 @@ impl Layers {
         }
     }
 
-    /// Takes a fragment of a UDP datagram for us, at this moment (RFC 791 section 3.2). On guard it changes nothing where it is a late copy,
-    /// and else finds a place, since the oldest datagram gives way to it.
+    /// Takes a fragment of a UDP datagram for us, at this moment (RFC 791 section 3.2). Where it finds no place it is dropped. On guard it changes
+    /// nothing where it is a late copy, and else finds a place that has room for it, since the oldest datagram gives way to it.
     pub(crate) fn gather(&mut self, now: Moment, fragment: &Ipv4View<'_>) -> Result<(), DropCause>
         ensures { MeetsFragment (fragment_outcome now fragment.now (pool_for self.old.sockets.manner.guards fragment.now self.old.pool)) (is_late_copy self.old now fragment.now) self.old now fragment.now result self.new }
     {
-        self.sound();
+        if !self.finds_place(fragment) {
+            return Err(DropCause::NoRoom);
+        }
         if self.is_late_copy(now, fragment) {
             return Ok(());
         }
@@ -92,7 +94,7 @@ impl Layers {
 fn make_room(pool: &mut Pool, guards: bool, fragment: &Ipv4View<'_>)
     ensures { pool.new ≡ pool_for guards fragment.now pool.old }
 {
-    if guards && !pool.has_place(fragment) {
+    if guards && pool.has_room_for(fragment) && !pool.has_place(fragment) {
         pool.give_way();
     }
 }
@@ -116,7 +118,7 @@ fn receive_gathered(
     datagram: &UdpView<'_>,
     quote: &[u8],
 )
-    ensures { (pool : List (Option Reassembly)) (lately : List Finished)
+    ensures { (pool : PoolView) (lately : List Finished)
         → ◌≡◌ {A = HostView} (record { interface = interface.new; sockets = sockets.new; pool = pool; lately = lately })
         (after_user_datagram (reception sockets.old datagram.now) (record { interface = interface.old; sockets = sockets.old; pool = pool; lately = lately }) now source datagram.now (take 68 quote.now)) }
 {

@@ -48,11 +48,11 @@ ghost use Rattle.host.specs.Runs.{HasRun};
 ghost use Rattle.host.specs.Sound.{IsSoundHost};
 ghost use Rattle.host.specs.Ticks.{after_tick, lacks_hop};
 
-/// A request for our address is answered (RFC 826): where fewer than 16 control replies wait, it is taken, and the reply with our MAC, to the address
+/// A request for our address is answered (RFC 826): where fewer control replies wait than may, it is taken, and the reply with our MAC, to the address
 /// and the MAC that asked, stands behind all that wait.
 pub fn requests_for_us_are_answered()
     ensures { (h : HostView) (now : Moment) (isn : ℕ) (octets : List ℕ) (packet : ArpPacket) (answer : Result (Unit {0}) DropCause) (new : HostView)
-        → heard_by h octets ≡ Ok (meaning.Arp packet) → packet.operation ≡ Request → packet.target_addr ≡ h.interface.addr → length h.interface.replies < 16
+        → heard_by h octets ≡ Ok (meaning.Arp packet) → packet.operation ≡ Request → packet.target_addr ≡ h.interface.addr → length h.interface.replies < h.interface.most_replies
         → IsDelivered h now isn octets answer new
         → let reply = reply.Arp (record { operation = Reply; sender_mac = h.interface.mac; sender_addr = h.interface.addr; target_mac = packet.sender_mac; target_addr = packet.sender_addr }) in
         (answer ≡ Ok tt) × (new.interface.replies ≡ h.interface.replies ++ record { since = later_moment h.sockets now; reply = reply } ∷ []) }
@@ -60,7 +60,7 @@ pub fn requests_for_us_are_answered()
 
 /// A UDP datagram for a port to which a socket with room is bound is taken, and stands behind the others that came for the socket, with its octets and
 /// the endpoint that it is from (RFC 768), whether it came whole or a fragment completes it. One that a fragment completes and whose port no socket is bound
-/// to is reported to its source by the quote of its last fragment zero, where a route leads there and fewer than 16 control replies wait.
+/// to is reported to its source by the quote of its last fragment zero, where a route leads there and fewer control replies wait than may.
 pub fn datagrams_reach_their_sockets()
     ensures whole { (h : HostView) (now : Moment) (isn : ℕ) (octets : List ℕ) (r : ReceivedDatagram) (answer : Result (Unit {0}) DropCause) (new : HostView) (id : SocketId) (bound : Option Endpoint) (socket : SocketView)
         → heard_by h octets ≡ Ok (meaning.Udp r) → find (is_datagrams_at r.datagram.destination) h.sockets.entries ≡ Some (record { id = id; role = Datagrams bound socket })
@@ -72,7 +72,7 @@ pub fn datagrams_reach_their_sockets()
         → IsDelivered h now isn octets answer new → (answer ≡ Ok tt) × HasBehindOthers id bound socket d.source u new }
     ensures unbound { (h : HostView) (now : Moment) (isn : ℕ) (octets : List ℕ) (d : Datagram) (payload quote : List ℕ) (u : UserDatagram) (answer : Result (Unit {0}) DropCause) (new : HostView)
         → heard_by h octets ≡ Ok (meaning.UdpFragment d) → fragment_outcome (later_moment h.sockets now) d h.pool ≡ Some (Completes payload quote) → datagram_or_fault d.source d.destination payload ≡ Ok u
-        → find (is_datagrams_at u.destination) h.sockets.entries ≡ None → IsTrue (is_routed h.interface d.source) → length h.interface.replies < 16 → IsDelivered h now isn octets answer new
+        → find (is_datagrams_at u.destination) h.sockets.entries ≡ None → IsTrue (is_routed h.interface d.source) → length h.interface.replies < h.interface.most_replies → IsDelivered h now isn octets answer new
         → let reply = reply.Error d.source PortUnreachable (take 68 quote) in
         (answer ≡ Ok tt) × (new.interface.replies ≡ h.interface.replies ++ record { since = later_moment h.sockets now; reply = reply } ∷ []) }
 {}
@@ -81,8 +81,8 @@ pub fn datagrams_reach_their_sockets()
 /// leaves an error, time exceeded in reassembly (type 11, code 1), among the control replies, where there is room for one of each place of the pool (RFC 792, RFC 1122
 /// section 3.3.2).
 pub fn late_datagrams_are_reported()
-    ensures { (h : HostView) (now : Moment) (r : Reassembly) (quote : List ℕ) → Contains h.pool (Some r) → (let moment = later_moment h.sockets now in r.since.0 + 60000 ≤ moment.0) → r.quote ≡ Some quote
-        → IsTrue (is_routed h.interface r.key.source) → length h.interface.replies + length h.pool ≤ 16
+    ensures { (h : HostView) (now : Moment) (r : Reassembly) (quote : List ℕ) → Contains h.pool.places (Some r) → (let moment = later_moment h.sockets now in r.since.0 + 60000 ≤ moment.0) → r.quote ≡ Some quote
+        → IsTrue (is_routed h.interface r.key.source) → length h.interface.replies + length h.pool.places ≤ h.interface.most_replies
         → let after = after_tick h now in
         Contains after.interface.replies (record { since = later_moment h.sockets now; reply = reply.Error r.key.source ReassemblyTimeExceeded (take 68 quote) }) }
 {}

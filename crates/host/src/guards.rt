@@ -12,7 +12,7 @@ ghost use Rattle.interface.specs.Ways.{is_routed};
 ghost use Rattle.ipv4.specs.Datagram.{Datagram};
 ghost use Rattle.reassembly.specs.Fragments.{key_of};
 ghost use Rattle.reassembly.specs.Lately.{was_whole};
-ghost use Rattle.reassembly.specs.Places.{LosesOldest, place_for};
+ghost use Rattle.reassembly.specs.Places.{LosesOldest, fits, place_for};
 ghost use Rattle.reassembly.specs.Reassembly.Outcome.{Completes};
 ghost use Rattle.sockets.specs.GiveWay.{IsGivenFor};
 ghost use Rattle.sockets.specs.Offered.{IsReached};
@@ -47,13 +47,14 @@ pub fn way_is_made_for_what_opens()
     ensures unguarded { (h : HostView) → h.sockets.manner.guards ≡ false → ((octets : List ℕ) → with_way h octets ≡ h) × (with_place h ≡ h) }
 {}
 
-/// On its guard a host always finds a place for a fragment: where there is none the oldest of the datagrams that it puts together gives way, and none else; where there is one none
-/// does. Of a datagram that a fragment made whole a late copy, within a second from then on, is taken and changes nothing. To a host that isn't on its guard all is as it was: a
-/// fragment is laid into the pool where it has a place, and nothing gives way and nothing is noted. Each host's pool has four places, as `laws::hosts_stay_within_their_limits` says.
+/// On its guard a host finds a place for each fragment that a place has room for: where there is none the oldest of the datagrams that it puts together gives way, and none else; where there is one none
+/// does, nor to one that reaches past that room. Of a datagram that a fragment made whole a late copy, within a second from then on, is taken and changes nothing. To a host that isn't on its guard all is as it was: a
+/// fragment is laid into the pool where it has a place, and nothing gives way and nothing is noted. Each host's pool has as many places as its set-up says, as `laws::hosts_stay_within_their_limits` says; one without places takes no fragment.
 pub fn an_old_reassembly_gives_way()
-    ensures oldest { (h : HostView) (d : Datagram) → h.sockets.manner.guards ≡ true → 0 < length h.pool → place_for (key_of d) h.pool ≡ None → LosesOldest h.pool (pool_for h.sockets.manner.guards d h.pool) }
-    ensures none_else { (h : HostView) (d : Datagram) (place : ℕ) → place_for (key_of d) h.pool ≡ Some place → pool_for h.sockets.manner.guards d h.pool ≡ h.pool }
-    ensures taken { (h : HostView) (now : Moment) (isn : ℕ) (octets : List ℕ) (d : Datagram) (answer : Result (Unit {0}) DropCause) (new : HostView) → h.sockets.manner.guards ≡ true → 0 < length h.pool
+    ensures oldest { (h : HostView) (d : Datagram) → h.sockets.manner.guards ≡ true → fits h.pool d ≡ true → place_for d h.pool ≡ None → LosesOldest h.pool.places (let left = pool_for h.sockets.manner.guards d h.pool in left.places) }
+    ensures none_else { (h : HostView) (d : Datagram) (place : ℕ) → place_for d h.pool ≡ Some place → pool_for h.sockets.manner.guards d h.pool ≡ h.pool }
+    ensures too_long { (h : HostView) (d : Datagram) → fits h.pool d ≡ false → pool_for h.sockets.manner.guards d h.pool ≡ h.pool }
+    ensures taken { (h : HostView) (now : Moment) (isn : ℕ) (octets : List ℕ) (d : Datagram) (answer : Result (Unit {0}) DropCause) (new : HostView) → h.sockets.manner.guards ≡ true → fits h.pool d ≡ true
         → heard_by h octets ≡ Ok (UdpFragment d) → IsDelivered h now isn octets answer new → (answer ≡ Ok tt) × (lack h octets ≡ None) }
     ensures late { (h : HostView) (now : Moment) (isn : ℕ) (octets : List ℕ) (d : Datagram) (answer : Result (Unit {0}) DropCause) (new : HostView) → is_late_copy h (later_moment h.sockets now) d ≡ true
         → heard_by h octets ≡ Ok (UdpFragment d) → IsDelivered h now isn octets answer new → new ≡ h }

@@ -10,14 +10,14 @@ use frames::DropCause;
 use interface::Interface;
 use ipv4::Pair;
 use reassembly::{Lately, Pool, PoolFault};
-use sockets::{Refusal, SocketId, Sockets};
+use sockets::{Refusal, Sizes as TableSizes, SocketId, Sockets};
 use std::alloc::{AllocError, Global};
 use std::marker::Model;
 use tcp_segment::Seq;
 
 /// A host with one interface and one address. Its frame side is the interface, its sockets are a table over the same address, and in its pool
 /// fragments of datagrams are put together; on its guard it knows for a second which datagrams were whole. The making of a host takes memory, for what it will know of its neighbours, for the control replies
-/// that will wait, for the 64 places of the table and for the four datagrams of the pool, and so do sockets and the connections that frames open;
+/// that will wait, for the places of its table and for the datagrams of its pool, as many as its set-up says, and so do sockets and the connections that frames open;
 /// nothing else does.
 #[derive(Drop)]
 pub struct Host {
@@ -56,10 +56,14 @@ impl Host {
         ensures refusal { IfErr result (λ refusal. refusal ≡ Refusal.ENOMEM) }
     {
         config.sound();
-        let (mac, addr, routes, manner) = config.into_parts();
-        let interface = Interface::new(alloc, mac, addr, routes);
-        let pool = Pool::new(alloc);
-        let sockets = Sockets::new(alloc, addr, manner);
+        let (mac, addr, routes, manner, sizes) = config.into_parts();
+        let interface = Interface::new(alloc, mac, addr, routes, sizes.neighbours, sizes.replies);
+        let pool = Pool::new(alloc, sizes.reassemblies, sizes.reassembly_octets);
+        let table = TableSizes {
+            entries: sizes.entries,
+            buffer: sizes.buffer,
+        };
+        let sockets = Sockets::new(alloc, addr, manner, table);
         Host::of(interface, sockets, pool)
     }
 
@@ -98,10 +102,10 @@ impl Host {
     /// address or not from a unicast address; Fragment for one of any protocol but UDP; UpperHeader, UpperSum where the ARP packet, the
     /// segment, the message or the UDP datagram isn't well. NoRoom where it would open a connection and there is no place in the backlog or
     /// the table, no id, no memory or no route to its source, where its UDP datagram finds 64 others at the socket, where it is a fragment of
-    /// a datagram that has no place in the pool of a host that isn't on its guard, where it is to be answered by a reset, an echo or an error and 16 control replies wait, and where
-    /// it asks for our MAC and 16 wait: what that ARP packet says is learnt all the same.
+    /// a datagram that has no place in the pool of a host that isn't on its guard, where it is to be answered by a reset, an echo or an error and as many control replies wait as may, and where
+    /// it asks for our MAC and as many wait: what that ARP packet says is learnt all the same.
     ///
-    /// On guard the datagram of the pool that began first gives way to a fragment that would begin a fifth one; but of a datagram that was whole
+    /// On guard the datagram of the pool that began first gives way to a fragment that would begin one more than the pool has places for; but of a datagram that was whole
     /// within the last second a fragment begins none, and nothing changes then.
     ///
     /// What answers a datagram isn't sent where no route leads to its source, and the frame is taken then. So is a fragment of UDP: what its
@@ -140,7 +144,7 @@ impl Host {
     /// that its caller closed is gone once its wait is over. Control replies, resets of aborts and datagrams that have waited for 3,000 ms or
     /// more are dropped where the MAC of their next hop isn't known then; all else waits on. Neighbours that were not heard in the last 20
     /// minutes are forgotten (RFC 1122 section 2.3.2.1). Fragments whose first came 60 seconds ago or earlier are dropped, and their source is
-    /// told so where the fragment zero came (section 3.3.2) and 16 control replies don't wait yet.
+    /// told so where the fragment zero came (section 3.3.2) and fewer control replies wait than may.
     pub fn tick(&mut self, now: Moment)
         ensures { self.new ≡ after_tick self.old now }
     {

@@ -20,11 +20,11 @@ use sockets::{Need, Reception};
 pub enum Lack {
     /// As many connections wait at the listener as its backlog allows.
     Backlog,
-    /// The table has 64 sockets and connections, or the last id is given.
+    /// The table has as many sockets and connections as it may, or the last id is given.
     Table,
     /// Memory for the two buffers of the connection that a SYN opens.
     Memory,
-    /// 16 control replies wait, and a reset, an echo reply, an error or an ARP reply is owed.
+    /// As many control replies wait as may, and a reset, an echo reply, an error or an ARP reply is owed.
     Replies,
     /// The queue of the UDP socket has no room for the datagram.
     Queue,
@@ -112,12 +112,12 @@ impl Layers {
         }
     }
 
-    /// Whether a fragment finds a place, as it always does on guard.
-    fn finds_place(&self, fragment: &Ipv4View<'_>) -> bool
-        ensures { result ≡ is_some (place_for (key_of fragment.now) (pool_for self.now.sockets.manner.guards fragment.now self.now.pool)) }
+    /// Whether a fragment finds a place, as it does on guard wherever a place has room for it.
+    pub(crate) fn finds_place(&self, fragment: &Ipv4View<'_>) -> bool
+        ensures { result ≡ is_some (place_for fragment.now (pool_for self.now.sockets.manner.guards fragment.now self.now.pool)) }
     {
-        self.sound();
-        self.sockets.is_guarded() || self.pool.has_place(fragment)
+        self.pool.has_place(fragment)
+            || self.sockets.is_guarded() && self.pool.has_room_for(fragment)
     }
 
     /// What a control reply to this address finds no room at: it is owed where a route leads there.

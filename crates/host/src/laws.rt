@@ -1,6 +1,6 @@
 //! Laws of the definitions that the contracts of this crate cite: each is the contract of a function that does nothing.
 
-ghost use Rattle.std.specs.Prelude.{◌≡◌, ◌≢◌, ◌⊎◌, ℕ, ◌+◌, ◌<◌, ◌≤◌, ◌||◌, false, true, IsTrue, List, [], ◌∷◌, ◌++◌, Contains, find, slice_get, length, take, Option, Some, None, option_map, Result, Ok, Err};
+ghost use Rattle.std.specs.Prelude.{◌*◌, ◌≡◌, ◌≢◌, ◌⊎◌, ℕ, ◌+◌, ◌<◌, ◌≤◌, ◌||◌, false, true, IsTrue, List, [], ◌∷◌, ◌++◌, Contains, find, slice_get, length, take, Option, Some, None, option_map, Result, Ok, Err};
 ghost use Rattle.std.specs.List.{list_any, AllByRecursion};
 ghost use Rattle.ether.specs.declared.mac.Mac.{Mac};
 ghost use Rattle.ether.specs.Frame.{Frame};
@@ -57,8 +57,8 @@ ghost use Rattle.sockets.specs.Leaving.{EachLeavesAWindow};
 ghost use Rattle.sockets.specs.SocketsView.{later_moment, role_of};
 ghost use Rattle.sockets.specs.Ticks.{least_deadline as timer_deadline};
 ghost use Rattle.sockets.specs.Traffic.{streams};
-ghost use Rattle.host.specs.ConfigView.{ConfigView, IsOfOne};
-ghost use Rattle.host.specs.HostView.{HostView, new_host, with_interface, with_sockets};
+ghost use Rattle.host.specs.ConfigView.{ConfigView, IsConfig, IsOfOne};
+ghost use Rattle.host.specs.HostView.{HostView, new_host, sizes_of, with_interface, with_sockets};
 ghost use Rattle.host.specs.Arrival.{IsDelivered, MeetsSegment, segment_arrival};
 ghost use Rattle.host.specs.Heard.{heard_by, shuts_out};
 ghost use Rattle.host.specs.Carried.{Carried, carried};
@@ -123,7 +123,7 @@ pub fn requests_hold_nothing_back()
 {}
 
 /// A frame that is dropped changes at most what is known of the neighbours (RFC 826), and that only where there was no room to answer its
-/// request: it is an ARP packet that asks for our address, 16 control replies wait, and its sender is learnt.
+/// request: it is an ARP packet that asks for our address, as many control replies wait as may, and its sender is learnt.
 pub fn dropped_frames_change_the_cache_alone()
     ensures alone { (h : HostView) (now : Moment) (isn : ℕ) (octets : List ℕ) (cause : DropCause) (new : HostView) → IsDelivered h now isn octets (Err cause) new
         → new ≡ with_interface h (record h.interface { cache = (let after = new.interface in after.cache) }) }
@@ -155,11 +155,12 @@ pub fn segments_meet_one_connection()
         → ((r : ReceivedSegment) → heard_by h octets ≢ Ok (Tcp r)) → ((c : Control) → heard_by h octets ≢ Ok (Icmp c)) → IsDelivered h now isn octets answer new → streams new.sockets ≡ streams h.sockets }
 {}
 
-/// A host stays within its limits over every list of events, whatever is asked of it and whatever comes: 64 sockets and connections at most, each with no more octets than its buffers or its queues have
-/// room for; 16 control replies of 1,472 octets at most; 64 neighbours and 64 requests; and four datagrams that are put together, of 65,515 octets at most. But for a socket that is made and a connection
+/// A host stays within its limits over every list of events, whatever is asked of it and whatever comes: as many sockets and connections at most as its set-up says, each with no more octets than its
+/// buffers or its queues have room for, and no buffer larger than the set-up's; as many control replies of 1,472 octets at most, neighbours, and datagrams that are put together, of as many octets at most, as it
+/// says; and 64 requests. But for a socket that is made and a connection
 /// that is opened no call takes memory, so no frame makes a host grow past that.
 pub fn hosts_stay_within_their_limits()
-    ensures { (c : ConfigView) (events : List Event) (h : HostView) → Runs c events h → IsSoundHost h → IsWithinLimits h }
+    ensures { (c : ConfigView) (events : List Event) (h : HostView) → IsConfig c → Runs c events h → IsSoundHost h → IsWithinLimits c.sizes h }
 {}
 
 /// The deadline is the least: it has come exactly where that of the timers has come, or that of the control replies, or that of the pool, or one of
@@ -249,12 +250,12 @@ pub fn timers_lie_near()
 {}
 
 /// An open connection of a host of which nothing is due, and that has nothing to be read, leaves its peer a window of a segment at least, whether it has spoken or not (`sockets::laws::quiet_readers_leave_a_window`): so it is in a new host, over each event, and over every
-/// list of them, as long as none makes a socket of less room than three segments. For what is heard of a frame is a segment of 1,460 octets at most.
+/// list of them, where its buffers have room for three segments and none makes a socket of less room. For what is heard of a frame is a segment of 1,460 octets at most.
 pub fn quiet_readers_leave_a_window()
     ensures fresh { (c : ConfigView) → let h = new_host c in EachLeavesAWindow h.sockets }
     ensures heard { (mac : Mac) (ours : Addr) (octets : List ℕ) (r : ReceivedSegment) → heard mac ours octets ≡ Ok (Tcp r) → length r.segment.octets ≤ MSS }
-    ensures event { (event : Event) (old new : HostView) → IsSoundHost old → IsNumbered event → IsSized event → Makes event old new → EachLeavesAWindow old.sockets → EachLeavesAWindow new.sockets }
-    ensures over { (c : ConfigView) (events : List Event) (h : HostView) → Runs c events h → AllByRecursion IsSized events → EachLeavesAWindow h.sockets }
+    ensures event { (event : Event) (old new : HostView) → IsSoundHost old → 3 * MSS ≤ old.sockets.sizes.buffer → IsNumbered event → IsSized event → Makes event old new → EachLeavesAWindow old.sockets → EachLeavesAWindow new.sockets }
+    ensures over { (c : ConfigView) (events : List Event) (h : HostView) → 3 * MSS ≤ c.sizes.buffer → Runs c events h → AllByRecursion IsSized events → EachLeavesAWindow h.sockets }
 {}
 
 /// The error that a connection of a host tells, it tells for good: over each event, and over every list of events that leads on from the host, whatever entry has its id then is one of a connection that tells
@@ -268,10 +269,10 @@ pub fn errors_told_stay()
         → c.pending_error ≡ Some error → (role : Role) → role_of last.sockets id ≡ Some role → pending_error_in role ≡ Some error }
 {}
 
-/// A host keeps its set-up: over every list of events its MAC, the address on both of its sides, its routes and how its connections behave are those that it was made with.
+/// A host keeps its set-up: over every list of events its MAC, the address on both of its sides, its routes, how its connections behave and how large it is are those that it was made with.
 pub fn set_ups_stay()
     ensures { (c : ConfigView) (events : List Event) (h : HostView) → Runs c events h
-        → (h.interface.mac ≡ c.mac) × (h.interface.addr ≡ c.addr) × (h.sockets.addr ≡ c.addr) × (h.interface.routes ≡ c.routes) × (h.sockets.manner ≡ c.manner) }
+        → (h.interface.mac ≡ c.mac) × (h.interface.addr ≡ c.addr) × (h.sockets.addr ≡ c.addr) × (h.interface.routes ≡ c.routes) × (h.sockets.manner ≡ c.manner) × (sizes_of h ≡ c.sizes) }
 {}
 
 /// An echo reply has its request, over every list of events of a host (RFC 792). Whoever hears one in what the host gives out is at an address

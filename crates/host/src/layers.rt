@@ -1,7 +1,7 @@
 //! The layers of a host, and what they keep of themselves.
 
 use interface::Interface;
-use reassembly::{Lately, Pool};
+use reassembly::{Lately, MOST_PLACES, Pool};
 use sockets::Sockets;
 use std::marker::Model;
 
@@ -25,7 +25,7 @@ impl Model for Layers {
 }
 
 impl Layers {
-    ghost use Rattle.std.specs.Prelude.{◌≡◌, length};
+    ghost use Rattle.std.specs.Prelude.{◌≤◌, length};
     ghost use Rattle.interface.specs.Sound.{IsSound};
     ghost use Rattle.sockets.specs.Sound.{IsSoundTable};
 
@@ -33,7 +33,7 @@ impl Layers {
     pub(crate) fn sound(&self)
         ensures interface { IsSound self.now.interface }
         ensures table { IsSoundTable self.now.sockets }
-        ensures pool { length self.now.pool ≡ 4 }
+        ensures pool { length self.now.pool.places ≤ MOST_PLACES }
     {
         self.interface.sound();
         self.sockets.sound();

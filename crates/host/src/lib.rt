@@ -18,6 +18,7 @@ mod lack;
 pub mod laws;
 mod layers;
 mod ready;
+mod sizes;
 mod ticks;
 mod way;
 
@@ -26,5 +27,6 @@ pub use frames::DropCause;
 pub use given_up::GivenUp;
 pub use host::Host;
 pub use lack::Lack;
+pub use sizes::Sizes;
 pub use sockets::{Info, Kind, Ready, Refusal, SocketId, SocketState};
 pub use tcp_state::Recovery;

@@ -1,21 +1,21 @@
 -- What is being put together came in fragments of one key, the first of them at its moment, and no tick told that its time is over.
+use Rattle.std.specs.Prelude.{map}
+use Rattle.host.proofs.Gathering.{place-is}
 use Rattle.std.proofs.Common.{◌≡◌, ℕ, zero, suc, ◌+◌, ◌-◌, ◌<◌, ◌≤◌, ◌^◌, ◌&&◌, min, max, nat_le, Bool, true, false, cond, List, [], ◌∷◌, ◌++◌, get_or, length, replicate, Option, Some, None, is_none, slice_set, refl, sym, ◌∙◌, ap, subst, arith}
-use Rattle.std.specs.List.{AllByRecursion, position}
-use Rattle.std.specs.Option.{option_map_or, option_or}
+use Rattle.std.specs.List.{AllByRecursion}
+use Rattle.std.specs.Option.{option_map_or}
 use Rattle.std.proofs.lemmas.Bool.Decides.{nat_tests}
-use Rattle.std.proofs.lemmas.List.Quantifiers.{position-Some}
 use Rattle.clock.specs.declared.moment.Moment.{Moment}
 use Rattle.ipv4.specs.Datagram.{Datagram}
 use Rattle.frames.specs.declared.meaning.Meaning.TheVariants.{UdpFragment}
 use Rattle.frames.proofs.Hearers.{fragments_are_parts}
-use Rattle.reassembly.specs.Fragments.{key_of, IsPayload}
+use Rattle.reassembly.specs.Fragments.{key_of, IsPayload, ends_within}
 use Rattle.reassembly.specs.Octets.{whole_of}
-use Rattle.reassembly.specs.Places.{after_age, after_take, after_take_at, after_time, is_of, is_over, oldest, outcome_at, place_for, without}
-use Rattle.reassembly.specs.Reassembly.{Outcome, Reassembly, after_fragments, begun, conflicts, continued, left, outcome, quoted, with_fragment}
+use Rattle.reassembly.specs.Places.{after_take, after_take_at, after_time, fits, is_over, oldest, outcome_at, place_for, without, without_oldest}
+use Rattle.reassembly.specs.Reassembly.{Outcome, Reassembly, after_fragments, begun, conflicts, continued, left, outcome, quoted, with_fragment, PoolView, outcome_within}
 use Rattle.reassembly.specs.Reassembly.Outcome.{Waits, Completes, GivesUp}
 use Rattle.reassembly.proofs.Alone.{alone_is_whole}
 use Rattle.reassembly.proofs.OneMore.{after_one_more}
-use Rattle.reassembly.proofs.OverEvents.{same_key_is}
 use Rattle.reassembly.proofs.Together.{whole_is_payload}
 use Rattle.host.specs.Arrival.{pool_for}
 use Rattle.host.specs.ConfigView.{ConfigView}
@@ -95,22 +95,22 @@ aged-at c step steps moment told (Some r) g = by_test (is_over moment r) refl
     by_test false over =
         record { first = g.first; fragments = g.fragments; is = g.is; one_key = g.one_key; came = waits g.fragments step steps g.came; young = omega (arith, not-over r.since.0 moment.0 over, told) }
 
-pub aged : (c : ConfigView) (step : Step) (steps : List Step) (moment : Moment) → ticked (step ∷ steps) ≡ moment.0 → (places : List (Option Reassembly)) → AreGathered c steps places → AreGathered c (step ∷ steps) (after_age moment places)
+pub aged : (c : ConfigView) (step : Step) (steps : List Step) (moment : Moment) → ticked (step ∷ steps) ≡ moment.0 → (places : List (Option Reassembly)) → AreGathered c steps places → AreGathered c (step ∷ steps) (map (after_time moment) places)
 aged c step steps moment told [] all = tt
 aged c step steps moment told (place ∷ places) all = (aged-at c step steps moment told place all.0, aged c step steps moment told places all.1)
 
 -- The oldest gives way.
 
-pub made-room : (c : ConfigView) (steps : List Step) (guards : Bool) (d : Datagram) (places : List (Option Reassembly)) → AreGathered c steps places → AreGathered c steps (pool_for guards d places)
-made-room c steps guards d places all = by_test (guards && is_none (place_for (key_of d) places)) (oldest places)
+pub made-room : (c : ConfigView) (steps : List Step) (guards : Bool) (d : Datagram) (pool : PoolView) → AreGathered c steps pool.places → AreGathered c steps (pool_for guards d pool).places
+made-room c steps guards d pool all = by_test (guards && fits pool d && is_none (place_for d pool))
   where
-    by_place : (place : Option ℕ) → AreGathered c steps (without place places)
+    by_place : (place : Option ℕ) → AreGathered c steps (without place pool.places)
     by_place None = all
-    by_place (Some i) = all-set (IsGatheredAt c steps) places i None all tt
+    by_place (Some i) = all-set (IsGatheredAt c steps) pool.places i None all tt
 
-    by_test : (b : Bool) (place : Option ℕ) → AreGathered c steps (cond b (without place places) places)
-    by_test true place = by_place place
-    by_test false place = all
+    by_test : (b : Bool) → AreGathered c steps (let left = cond b (without_oldest pool) pool in left.places)
+    by_test true = by_place (oldest pool.places)
+    by_test false = all
 
 -- A fragment comes.
 
@@ -134,19 +134,6 @@ is-next d r = by_conflict (conflicts d r.end (length r.octets))
     by_conflict : (b : Bool) → IsNext d r (cond b GivesUp (option_map_or (λ payload. Completes payload (quoted next.quote)) (whole_of next.end next.octets) (Waits next)))
     by_conflict true = tt
     by_conflict false = by_whole (whole_of next.end next.octets) refl
-
--- its place has its key, or is free
-place-is : (d : Datagram) (places : List (Option Reassembly)) (i : ℕ) → place_for (key_of d) places ≡ Some i → (r : Reassembly) → get_or places i None ≡ Some r → r.key ≡ key_of d
-place-is d places i e r at = by_own (position (is_of (key_of d)) places) refl e
-  where
-    by_own : (o : Option ℕ) → position (is_of (key_of d)) places ≡ o → option_or o (position is_none places) ≡ Some i → r.key ≡ key_of d
-    by_own None found e =
-        let none = position-Some is_none places i None e in
-        let no : is_none (Some r) ≡ true = ap is_none (sym at) ∙ none.1 in cc
-    by_own (Some j) found e =
-        let same : j ≡ i = cc in
-        let own = position-Some (is_of (key_of d)) places i None (found ∙ e) in
-        same_key_is r.key (key_of d) (ap (is_of (key_of d)) (sym at) ∙ own.1)
 
 module _ (c : ConfigView) (step : Step) (steps : List Step) (moment : Moment) (d : Datagram) (brought : IsBrought c (UdpFragment d) moment.0 step steps) (still : ticked (step ∷ steps) ≡ ticked steps) where
   -- what is left of the datagram
@@ -191,25 +178,30 @@ module _ (c : ConfigView) (step : Step) (steps : List Step) (moment : Moment) (d
       let parts = fragments_are_parts c.mac c.addr brought.frame.octets d brought.frame.means in absurd (parts.1 (alone_is_whole moment d payload quote is))
   left-first GivesUp is next_is = tt
 
-  pub outcome-left : (places : List (Option Reassembly)) (i : ℕ) → AreGathered c steps places → place_for (key_of d) places ≡ Some i → IsLeft (outcome_at moment d places i)
-  outcome-left places i all e = by_place (get_or places i None) refl
-    where
-      at : IsGatheredAt c steps (get_or places i None)
-      at = all-read (IsGatheredAt c steps) places i None all tt
+  -- one that reaches past the room gives its datagram up
+  left-within : (o : Outcome) (fit : Bool) → IsLeft o → IsLeft (cond fit o GivesUp)
+  left-within o true is = is
+  left-within o false is = tt
 
-      by_place : (o : Option Reassembly) → get_or places i None ≡ o → IsLeft (outcome d (continued moment d o))
-      by_place None is = left-first (outcome d (begun moment d)) refl (is-next d (begun moment d))
-      by_place (Some r) is = left-on r (place-is d places i e r is) (subst (IsGatheredAt c steps) is at) (outcome d r) (is-next d r)
+  pub outcome-left : (pool : PoolView) (i : ℕ) → AreGathered c steps pool.places → place_for d pool ≡ Some i → IsLeft (outcome_at moment d pool i)
+  outcome-left pool i all e = by_place (get_or pool.places i None) refl
+    where
+      at : IsGatheredAt c steps (get_or pool.places i None)
+      at = all-read (IsGatheredAt c steps) pool.places i None all tt
+
+      by_place : (o : Option Reassembly) → get_or pool.places i None ≡ o → IsLeft (outcome_within pool.octets d (continued moment d o))
+      by_place None is = left-within (outcome d (begun moment d)) (ends_within pool.octets d) (left-first (outcome d (begun moment d)) refl (is-next d (begun moment d)))
+      by_place (Some r) is = left-within (outcome d r) (ends_within pool.octets d) (left-on r (place-is d pool i e r is) (subst (IsGatheredAt c steps) is at) (outcome d r) (is-next d r))
 
   left-at : (o : Outcome) → IsLeft o → IsGatheredAt c (step ∷ steps) (left o)
   left-at (Waits r) is = is
   left-at (Completes payload quote) is = tt
   left-at GivesUp is = tt
 
-  pub after-taking : (places : List (Option Reassembly)) → AreGathered c steps places → AreGathered c (step ∷ steps) (after_take moment d places)
-  after-taking places all = by_place (place_for (key_of d) places) refl
+  pub after-taking : (pool : PoolView) → AreGathered c steps pool.places → AreGathered c (step ∷ steps) (after_take moment d pool).places
+  after-taking pool all = by_place (place_for d pool) refl
     where
-      by_place : (o : Option ℕ) → place_for (key_of d) places ≡ o → AreGathered c (step ∷ steps) (after_take_at moment d places o)
-      by_place None e = stay-gathered c step steps still places all
+      by_place : (o : Option ℕ) → place_for d pool ≡ o → AreGathered c (step ∷ steps) (after_take_at moment d pool o)
+      by_place None e = stay-gathered c step steps still pool.places all
       by_place (Some i) e =
-          all-set (IsGatheredAt c (step ∷ steps)) places i (left (outcome_at moment d places i)) (stay-gathered c step steps still places all) (left-at (outcome_at moment d places i) (outcome-left places i all e))
+          all-set (IsGatheredAt c (step ∷ steps)) pool.places i (left (outcome_at moment d pool i)) (stay-gathered c step steps still pool.places all) (left-at (outcome_at moment d pool i) (outcome-left pool i all e))

@@ -26,7 +26,7 @@ use Rattle.reassembly.specs.declared.finished.Finished.{Finished}
 use Rattle.reassembly.specs.declared.key.Key.{Key}
 use Rattle.reassembly.specs.Fragments.{key_of}
 use Rattle.reassembly.specs.Places.{after_take, outcome_at, place_for}
-use Rattle.reassembly.specs.Reassembly.{Outcome, Reassembly}
+use Rattle.reassembly.specs.Reassembly.{Outcome, PoolView}
 use Rattle.reassembly.specs.Reassembly.Outcome.{Waits as Goes, Completes, GivesUp}
 use Rattle.sockets.specs.declared.datagrams.Reception.{Reception}
 use Rattle.sockets.specs.declared.datagrams.Reception.TheVariants as socket
@@ -69,7 +69,7 @@ use Rattle.host_law.proofs.DatagramsQueued.{Waits, IsRead, reads, given-came, no
 pub record Stands (c : ConfigView) (steps : List Step) (h : HostView) : Type 0 where
   pub gives : (id : SocketId) → GivesWhatCame c id steps
   pub inboxes : AllHold (Waits c steps) h.sockets.entries
-  pub pool : AreGathered c steps h.pool
+  pub pool : AreGathered c steps h.pool.places
   pub kept : h.sockets.kept.0 ≡ ticked steps
 
 to-new : (c : ConfigView) (steps : List Step) (left new : HostView) → new ≡ left → Stands c steps left → Stands c steps new
@@ -90,7 +90,7 @@ quiet-on : (c : ConfigView) (step : Step) (steps : List Step) (h : HostView) →
 quiet-on c step steps h none still stands = record {
   gives = λ id. gives-on c step steps id (none id) (stands.gives id);
   inboxes = all-hold (Waits c steps) (Waits c (step ∷ steps)) (λ id inbox waits. waits-on c step steps id inbox (none id) waits) h.sockets.entries stands.inboxes;
-  pool = stay-gathered c step steps still h.pool stands.pool;
+  pool = stay-gathered c step steps still h.pool.places stands.pool;
   kept = stands.kept ∙ sym still;
 }
 
@@ -148,7 +148,7 @@ module _ (c : ConfigView) (steps : List Step) (old : HostView) (named : SocketId
     read-on ids stands = record {
       gives = gives;
       inboxes = found-hold (Waits c steps) (Waits c (read ∷ steps)) (is_socket named) role_after_recvfrom 0 old.sockets.last_id old.sockets.entries r.e ids r.found other-read (role-read r.e.role refl) stands.inboxes;
-      pool = stay-gathered c read steps refl old.pool stands.pool;
+      pool = stay-gathered c read steps refl old.pool.places stands.pool;
       kept = stands.kept;
     }
       where
@@ -199,7 +199,7 @@ ticked-on c steps now old new is stands =
     let kept : alone.kept.0 ≡ max (ticked steps) now.0 =
     ap (λ (m : Moment). m.0) timed.1 ∙ later-is old.sockets.kept moment ∙ ap (λ (n : ℕ). max old.sockets.kept.0 n) told ∙ ap (λ (n : ℕ). max n (max (ticked steps) now.0)) stands.kept ∙ told-once (ticked steps) now.0 in
     to-new c (step ∷ steps) (after_tick old now) new is
-    (record { gives = gives; inboxes = left.holds; pool = aged c step steps moment (sym told) old.pool stands.pool; kept = ap (λ (m : Moment). m.0) left.kept ∙ kept })
+    (record { gives = gives; inboxes = left.holds; pool = aged c step steps moment (sym told) old.pool.places stands.pool; kept = ap (λ (m : Moment). m.0) left.kept ∙ kept })
 
 -- What goes out.
 
@@ -251,7 +251,7 @@ module _ (c : ConfigView) (steps : List Step) (old new : HostView) (now : Moment
 
   -- A datagram comes for a socket.
 
-  user-queued : (i : InterfaceView) (pool : List (Option Reassembly)) (lately : List Finished) (source : Addr) (u : UserDatagram) → AreGathered c steps_then pool → CameWhole c source u step steps ⊎ WasPutTogether c source u step steps
+  user-queued : (i : InterfaceView) (pool : PoolView) (lately : List Finished) (source : Addr) (u : UserDatagram) → AreGathered c steps_then pool.places → CameWhole c source u step steps ⊎ WasPutTogether c source u step steps
       → reception old.sockets u ≡ socket.Queued → Stands c steps_then (record { interface = i; sockets = after_event old.sockets (table.HearsDatagram source u); pool = pool; lately = lately })
   user-queued i pool lately source u gathered came queued = by_entry (find test old.sockets.entries) refl
     where
@@ -283,7 +283,7 @@ module _ (c : ConfigView) (steps : List Step) (old new : HostView) (now : Moment
             kept = on.kept;
           })
 
-  user-comes : (pool : List (Option Reassembly)) (lately : List Finished) (source : Addr) (u : UserDatagram) (quote : List ℕ) → AreGathered c steps_then pool → CameWhole c source u step steps ⊎ WasPutTogether c source u step steps
+  user-comes : (pool : PoolView) (lately : List Finished) (source : Addr) (u : UserDatagram) (quote : List ℕ) → AreGathered c steps_then pool.places → CameWhole c source u step steps ⊎ WasPutTogether c source u step steps
       → (to : Reception) → reception old.sockets u ≡ to → Stands c steps_then (after_user_datagram to (record { interface = old.interface; sockets = old.sockets; pool = pool; lately = lately }) moment source u quote)
   user-comes pool lately source u quote gathered came socket.Queued is = user-queued old.interface pool lately source u gathered came is
   user-comes pool lately source u quote gathered came socket.NoRoom is = record { gives = on.gives; inboxes = on.inboxes; pool = gathered; kept = on.kept }
@@ -295,7 +295,7 @@ module _ (c : ConfigView) (steps : List Step) (old new : HostView) (now : Moment
     brought : IsBrought c (UdpFragment d) moment.0 step steps
     brought = brings (UdpFragment d) is
 
-    payload-comes : (pool : List (Option Reassembly)) (lately : List Finished) (payload quote : List ℕ) → AreGathered c steps_then pool → IsMade c steps d payload → (read : Result UserDatagram UdpFault) → datagram_or_fault d.source d.destination payload ≡ read
+    payload-comes : (pool : PoolView) (lately : List Finished) (payload quote : List ℕ) → AreGathered c steps_then pool.places → IsMade c steps d payload → (read : Result UserDatagram UdpFault) → datagram_or_fault d.source d.destination payload ≡ read
         → Stands c steps_then (after_payload read (record { interface = old.interface; sockets = old.sockets; pool = pool; lately = lately }) moment d.source quote)
     payload-comes pool lately payload quote gathered made (Err fault) spells = record { gives = on.gives; inboxes = on.inboxes; pool = gathered; kept = on.kept }
     payload-comes pool lately payload quote gathered made (Ok u) spells =
@@ -315,20 +315,20 @@ module _ (c : ConfigView) (steps : List Step) (old new : HostView) (now : Moment
         } in
         user-comes pool lately d.source u (take 68 quote) gathered (inr put) (reception old.sockets u) refl
 
-    outcome-comes : (pool : List (Option Reassembly)) → AreGathered c steps_then pool → (o : Outcome) → IsLeft c step steps moment d brought refl o → Stands c steps_then (after_outcome o (with_pool old pool) moment d)
+    outcome-comes : (pool : PoolView) → AreGathered c steps_then pool.places → (o : Outcome) → IsLeft c step steps moment d brought refl o → Stands c steps_then (after_outcome o (with_pool old pool) moment d)
     outcome-comes pool gathered (Goes r) left = record { gives = on.gives; inboxes = on.inboxes; pool = gathered; kept = on.kept }
     outcome-comes pool gathered GivesUp left = record { gives = on.gives; inboxes = on.inboxes; pool = gathered; kept = on.kept }
     outcome-comes pool gathered (Completes payload quote) left =
         let noted : HostView = with_noted (with_pool old pool) moment d in
         payload-comes pool noted.lately payload quote gathered left (datagram_or_fault d.source d.destination payload) refl
 
-    fragment-comes : (answer : Result (Unit {0}) DropCause) (place : Option ℕ) (late : Bool) → place_for (key_of d) (pool_for old.sockets.manner.guards d old.pool) ≡ place
+    fragment-comes : (answer : Result (Unit {0}) DropCause) (place : Option ℕ) (late : Bool) → place_for d (pool_for old.sockets.manner.guards d old.pool) ≡ place
         → MeetsFragment (option_map (outcome_at moment d (pool_for old.sockets.manner.guards d old.pool)) place) late old moment d answer new → Stands c steps_then new
     fragment-comes answer None late at met = to-new c steps_then old new met.1 on
     fragment-comes answer (Some i) true at met = to-new c steps_then old new met.1 on
     fragment-comes answer (Some i) false at met =
-        let room : List (Option Reassembly) = pool_for old.sockets.manner.guards d old.pool in
-        let gathered : AreGathered c steps room = made-room c steps old.sockets.manner.guards d old.pool stands.pool in
+        let room : PoolView = pool_for old.sockets.manner.guards d old.pool in
+        let gathered : AreGathered c steps room.places = made-room c steps old.sockets.manner.guards d old.pool stands.pool in
         to-new c steps_then (after_outcome (outcome_at moment d room i) (with_pool old (after_take moment d room)) moment d) new met.1
         (outcome-comes (after_take moment d room) (after-taking c step steps moment d brought refl room gathered) (outcome_at moment d room i) (outcome-left c step steps moment d brought refl room i gathered at))
 
@@ -371,7 +371,7 @@ module _ (c : ConfigView) (steps : List Step) (old new : HostView) (now : Moment
   heard-on answer (Ok (Udp r)) is met =
       let whole : CameWhole c r.carrier.source r.datagram step steps = record { carrier = r.carrier; moment = moment.0; brought = brings (Udp r) is; from = refl } in
       to-new c steps_then _ new met.1 (user-comes old.pool old.lately r.carrier.source r.datagram _ on.pool (inl whole) (reception old.sockets r.datagram) refl)
-  heard-on answer (Ok (UdpFragment d)) is met = fragment-comes d is answer (place_for (key_of d) (pool_for old.sockets.manner.guards d old.pool)) (is_late_copy old moment d) refl met
+  heard-on answer (Ok (UdpFragment d)) is met = fragment-comes d is answer (place_for d (pool_for old.sockets.manner.guards d old.pool)) (is_late_copy old moment d) refl met
   heard-on answer (Ok (Other d)) is met = to-new c steps_then _ new met.1 (side-on c steps_then old _ on)
   heard-on answer (Err cause) is met = to-new c steps_then old new met.1 on
 
@@ -400,7 +400,7 @@ gives_on c before event old new ran asked makes stands =
     stands-on c (history ran) event old new asked ordered.ids side.mac side.addr makes stands
 
 pub begins_so : (c : ConfigView) → Stands c [] (new_host c)
-begins_so c = record { gives = λ id. record { came = []; in_order = tt; fronts = tt }; inboxes = tt; pool = none-gathered c 4; kept = refl }
+begins_so c = record { gives = λ id. record { came = []; in_order = tt; fronts = tt }; inboxes = tt; pool = none-gathered c c.sizes.reassemblies; kept = refl }
 
 -- any list of events
 pub stands_so : (c : ConfigView) (events : List Event) (h : HostView) (run : Runs c events h) → AllByRecursion (IsAsked c) events → Stands c (history run) h

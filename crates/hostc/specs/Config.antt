@@ -4,6 +4,8 @@ use Rattle.byteorder.specs.Endian.{little_number}
 use Rattle.congestion.specs.declared.control.Recovery.{Recovery}
 use Rattle.congestion.specs.declared.control.Recovery.TheVariants.{Plain, NewReno, Selective}
 use Rattle.ether.specs.declared.mac.Mac.{Mac}
+use Rattle.host.specs.declared.sizes.Sizes.{Sizes}
+use Rattle.host.specs.declared.sizes.TheConstants.Sizes.{USUAL}
 use Rattle.hostc.specs.declared.config.Config.{Config}
 
 -- the size that it gives itself
@@ -38,9 +40,20 @@ first_threshold_in octets = if nat_lt (length octets) 44 then 0 else little_numb
 abbrev pub guards_in : List ℕ → ℕ
 guards_in octets = if nat_lt (length octets) 45 then 0 else slice_index octets 44
 
+-- octets 45 to 59 say how large the host is, by an octet or by several, and count as 0 where there are fewer than 60 octets
+abbrev pub octet_at : ℕ → List ℕ → ℕ
+octet_at place octets = if nat_lt (length octets) 60 then 0 else slice_index octets place
+
+abbrev pub number_at : ℕ → ℕ → List ℕ → ℕ
+number_at place count octets = if nat_lt (length octets) 60 then 0 else little_number count (drop place octets)
+
+-- octet 46: 1 where no datagrams are put together, and else 0
+abbrev pub no_reassembly_in : List ℕ → ℕ
+no_reassembly_in octets = octet_at 46 octets
+
 -- where the last option that is there ends
 abbrev pub options_end : List ℕ → ℕ
-options_end octets = if nat_lt (length octets) 44 then 40 else if nat_lt (length octets) 45 then 44 else 45
+options_end octets = if nat_lt (length octets) 44 then 40 else if nat_lt (length octets) 45 then 44 else if nat_lt (length octets) 60 then 45 else 60
 
 -- Octets as many as they say, 40 at least, that ask for nothing that isn't known: no octet that chooses between two is over 1, none between three over 2, and
 -- all behind the last option are 0.
@@ -51,6 +64,7 @@ pub record IsConfig (octets : List ℕ) : Type 0 where
   pub small : minshall_in octets ≤ 1
   pub repair : recovery_in octets ≤ 2
   pub guard : guards_in octets ≤ 1
+  pub pool : no_reassembly_in octets ≤ 1
   pub rest : All (λ octet. octet ≡ 0) (drop (options_end octets) octets)
 
 -- a number, or where it is 0 the usual one
@@ -59,6 +73,18 @@ or_usual usual number = if number == 0 then usual else number
 
 abbrev pub recovery_of : ℕ → Recovery
 recovery_of number = if number == 1 then NewReno else if number == 2 then Selective else Plain
+
+-- control replies by octet 45; datagrams that are put together by octet 47, where octet 46 doesn't say that none is; entries by 48 to 51; the octets
+-- of a connection's buffers by 52 to 55; neighbours by 56 and 57; and the octets of a datagram that is put together by 58 and 59
+abbrev pub sizes_in : List ℕ → Sizes
+sizes_in octets = record {
+  entries = or_usual 64 (number_at 48 4 octets);
+  buffer = or_usual 1048576 (number_at 52 4 octets);
+  reassemblies = if no_reassembly_in octets == 1 then 0 else or_usual 4 (octet_at 47 octets);
+  reassembly_octets = or_usual 65515 (number_at 58 2 octets);
+  replies = or_usual 16 (octet_at 45 octets);
+  neighbours = or_usual 64 (number_at 56 2 octets);
+}
 
 -- what they say: the address from octet 24 on, and the MAC from octet 28 on. The routes between, from octet 8 on, are passed beside them.
 abbrev pub config_in : List ℕ → Config
@@ -72,8 +98,9 @@ config_in octets = record {
   least_timeout = or_usual 1000 (least_timeout_in octets);
   first_threshold = or_usual 65535 (first_threshold_in octets);
   guards = guards_in octets == 1;
+  sizes = sizes_in octets;
 }
 
 -- what a config says whose options are 0
 abbrev pub usual_config : Mac → ℕ → Config
-usual_config mac addr = record { mac = mac; addr = addr; scales = true; minshall = false; recovery = Plain; first_segments = 0; least_timeout = 1000; first_threshold = 65535; guards = false }
+usual_config mac addr = record { mac = mac; addr = addr; scales = true; minshall = false; recovery = Plain; first_segments = 0; least_timeout = 1000; first_threshold = 65535; guards = false; sizes = USUAL }

@@ -8,6 +8,7 @@ use Rattle.routes.specs.Routes.{IsTable}
 use Rattle.sockets.specs.declared.refusal.Refusal.TheVariants.{EINVAL, ENOMEM}
 use Rattle.host.specs.HostView.{HostView, new_host}
 use Rattle.host.specs.ConfigView.{ConfigView, IsOfOne}
+use Rattle.host.specs.Sizes.{IsSizes}
 use Rattle.hostc.specs.Config.{IsConfig, config_in}
 use Rattle.hostc.specs.Numbers.{refused}
 use Rattle.hostc.specs.Types.{addr_of, hop_of}
@@ -38,6 +39,7 @@ host_config c table = record {
     least_timeout = c.least_timeout;
     guards = c.guards;
   };
+  sizes = c.sizes;
 }
 
 -- a host with this set-up, on which nothing happened
@@ -48,11 +50,12 @@ IsNew c given h = (table : List Route) × IsTold given table × (h ≡ new_host 
 abbrev pub IsValidTable : List HostRoute → Type 0
 IsValidTable given = (table : List Route) × IsTable table × IsTold given table
 
--- one interface's MAC, one host's address, and routes that make a table
+-- one interface's MAC, one host's address, routes that make a table, and sizes in their ranges
 pub record IsValidSetup (c : Config) (given : List HostRoute) : Type 0 where
   pub one_interface : IsOfOne c.mac
   pub one_host : IsUnicast (addr_of c.addr)
   pub table : IsValidTable given
+  pub sizes : IsSizes c.sizes
 
 -- A handle that holds a host keeps it: EINVAL. Another one stays as it was where the set-up isn't valid, EINVAL, and else where memory runs
 -- out, ENOMEM, or holds the new host.

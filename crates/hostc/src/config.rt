@@ -1,11 +1,11 @@
 //! `struct host_config`, by its octets.
 
-ghost use Rattle.std.specs.Prelude.{◌≡◌, ◌↔◌, ◌≤◌, IsSome, IfSome, IsTrue, All, length};
-ghost use Rattle.hostc.specs.Config.{IsConfig, config_in, first_threshold_in, guards_in, options_end, or_usual, recovery_of};
+ghost use Rattle.std.specs.Prelude.{◌≡◌, ◌↔◌, ◌≤◌, ◌<◌, IsSome, IfSome, IsTrue, All, length};
+ghost use Rattle.hostc.specs.Config.{IsConfig, config_in, first_threshold_in, guards_in, number_at, octet_at, options_end, or_usual, recovery_of, sizes_in};
 
 use byteorder::{ByteOrder, LittleEndian};
 use ether::Mac;
-use host::Recovery;
+use host::{Recovery, Sizes};
 
 /// What a config says beside its routes.
 #[derive(Clone, Copy, Debug)]
@@ -28,14 +28,18 @@ pub struct Config {
     pub first_threshold: u32,
     /// Whether it is on its guard.
     pub guards: bool,
+    /// How large it is.
+    pub sizes: Sizes,
 }
 
 /// How many octets the least config has. It ends before the first threshold.
 const LEAST: usize = 40;
 /// How many octets the least config has that has the first threshold, too.
 const WITH_THRESHOLD: usize = 44;
+/// How many octets the least config has that has the option to be on guard, too.
+const WITH_GUARDS: usize = 45;
 /// How many octets the least config has that has all options.
-const WHOLE: usize = 45;
+const WHOLE: usize = 60;
 /// The place of its address.
 const ADDR: usize = 24;
 /// The place of its MAC.
@@ -52,8 +56,22 @@ const FIRST_SEGMENTS: usize = 37;
 const LEAST_TIMEOUT: usize = 38;
 /// The place of the first slow start threshold.
 const FIRST_THRESHOLD: usize = 40;
-/// The place of its last option: whether the host is on its guard.
+/// The place of the option to be on guard.
 const GUARDS: usize = 44;
+/// The place of the number of control replies.
+const REPLIES: usize = 45;
+/// The place of the option to put no datagrams together.
+const NO_REASSEMBLY: usize = 46;
+/// The place of the number of datagrams that are put together.
+const REASSEMBLIES: usize = 47;
+/// The place of the number of entries.
+const ENTRIES: usize = 48;
+/// The place of the octets of a connection's buffers.
+const BUFFER: usize = 52;
+/// The place of the number of neighbours.
+const NEIGHBOURS: usize = 56;
+/// The place of the octets of a datagram that is put together.
+const REASSEMBLY_OCTETS: usize = 58;
 
 impl Config {
     /// What these octets say; None where they are no config.
@@ -68,7 +86,8 @@ impl Config {
         let minshall = octets[MINSHALL];
         let recovery = octets[RECOVERY];
         let guards = guards_in(octets);
-        if no_window_scale > 1 || minshall > 1 || recovery > 2 || guards > 1 {
+        let no_reassembly = octet_at(octets, NO_REASSEMBLY);
+        if no_window_scale > 1 || minshall > 1 || recovery > 2 || guards > 1 || no_reassembly > 1 {
             return None;
         }
         let (_, rest) = octets.split_at(options_end(octets));
@@ -89,20 +108,23 @@ impl Config {
             least_timeout: least_timeout_of(LittleEndian::read_u16(from_timeout)),
             first_threshold: first_threshold_of(first_threshold_in(octets)),
             guards: guards == 1,
+            sizes: sizes_in(octets),
         })
     }
 }
 
-/// How many octets of a config are known, up to the end of its last option: those of one of fewer than 44 end before the first threshold, and those
-/// of one of 44 behind it.
+/// How many octets of a config are known, up to the end of its last option: those of one of fewer than 44 end before the first threshold, those
+/// of one of 44 behind it, and those of one of fewer than 60 before its sizes.
 fn options_end(octets: &[u8]) -> usize
     ensures value { result ≡ options_end octets.now }
     ensures within { 40 ≤ length octets.now → result ≤ length octets.now }
 {
     if octets.len() < WITH_THRESHOLD {
         LEAST
-    } else if octets.len() < WHOLE {
+    } else if octets.len() < WITH_GUARDS {
         WITH_THRESHOLD
+    } else if octets.len() < WHOLE {
+        WITH_GUARDS
     } else {
         WHOLE
     }
@@ -123,11 +145,79 @@ fn first_threshold_in(octets: &[u8]) -> u32
 fn guards_in(octets: &[u8]) -> u8
     ensures { result ≡ guards_in octets.now }
 {
-    if octets.len() < WHOLE {
+    if octets.len() < WITH_GUARDS {
         0
     } else {
         octets[GUARDS]
     }
+}
+
+/// How large the host is by these octets.
+fn sizes_in(octets: &[u8]) -> Sizes
+    ensures { result ≡ sizes_in octets.now }
+{
+    let entries = long_at(octets, ENTRIES) as usize;
+    let buffer = long_at(octets, BUFFER) as usize;
+    let reassemblies = usize::from(octet_at(octets, REASSEMBLIES));
+    let replies = usize::from(octet_at(octets, REPLIES));
+    let neighbours = usize::from(short_at(octets, NEIGHBOURS));
+    let reassembly_octets = usize::from(short_at(octets, REASSEMBLY_OCTETS));
+    let usual = Sizes::USUAL;
+    Sizes {
+        entries: or_usual(usual.entries, entries),
+        buffer: or_usual(usual.buffer, buffer),
+        reassemblies: if octet_at(octets, NO_REASSEMBLY) == 1 {
+            0
+        } else {
+            or_usual(usual.reassemblies, reassemblies)
+        },
+        reassembly_octets: or_usual(usual.reassembly_octets, reassembly_octets),
+        replies: or_usual(usual.replies, replies),
+        neighbours: or_usual(usual.neighbours, neighbours),
+    }
+}
+
+/// The octet at a place among the sizes; 0 where these octets are too few to have them.
+fn octet_at(octets: &[u8], place: usize) -> u8
+    requires { place < 60 }
+    ensures { result ≡ octet_at place octets.now }
+{
+    if octets.len() < WHOLE {
+        0
+    } else {
+        octets[place]
+    }
+}
+
+/// The number of 16 bits from a place on among the sizes; 0 where these octets are too few to have them.
+fn short_at(octets: &[u8], place: usize) -> u16
+    requires { place ≤ 58 }
+    ensures { result ≡ number_at place 2 octets.now }
+{
+    if octets.len() < WHOLE {
+        return 0;
+    }
+    let (_, from) = octets.split_at(place);
+    LittleEndian::read_u16(from)
+}
+
+/// The number of 32 bits from a place on among the sizes; 0 where these octets are too few to have them.
+fn long_at(octets: &[u8], place: usize) -> u32
+    requires { place ≤ 56 }
+    ensures { result ≡ number_at place 4 octets.now }
+{
+    if octets.len() < WHOLE {
+        return 0;
+    }
+    let (_, from) = octets.split_at(place);
+    LittleEndian::read_u32(from)
+}
+
+/// A number, or where it is 0 the usual one.
+fn or_usual(usual: usize, number: usize) -> usize
+    ensures { result ≡ or_usual usual number }
+{
+    if number == 0 { usual } else { number }
 }
 
 /// How losses are repaired by this number: 1 is NewReno, and 2 that with selective acknowledgements.

@@ -1,10 +1,16 @@
 //! The making of a host, and its end.
 
-ghost use Rattle.std.specs.Prelude.{◌≡◌, ◌⊎◌, ◌↔◌, None, Ok, Err, IfOk, IfErr, IsOk, MatchResult};
+ghost use Rattle.std.specs.Prelude.{◌≡◌, ◌⊎◌, ◌↔◌, List, None, Ok, Err, IfOk, IfErr, IsOk, MatchResult};
 ghost use Rattle.counters.specs.Counting.{new_counters};
+ghost use Rattle.host.specs.ConfigView.{IsOfOne};
+ghost use Rattle.host.specs.HostView.{new_host};
+ghost use Rattle.host.specs.Sizes.{IsSizes};
 ghost use Rattle.hostc.specs.Config.{usual_config};
 ghost use Rattle.hostc.specs.Counters.{CountsAnew};
-ghost use Rattle.hostc.specs.Setup.{IsNew, IsTold, IsValidSetup, IsValidTable, Setup, SetupBy};
+ghost use Rattle.hostc.specs.Setup.{IsNew, IsTold, IsValidSetup, IsValidTable, Setup, SetupBy, host_config};
+ghost use Rattle.hostc.specs.Types.{addr_of};
+ghost use Rattle.ipv4.specs.Addresses.{IsUnicast};
+ghost use Rattle.routes.specs.declared.route.Route.{Route};
 
 use crate::config::Config;
 use crate::convert::{addr_of, hop_of, refused};
@@ -12,7 +18,7 @@ use crate::counted::Counted;
 use crate::handle::Handle;
 use crate::types::HostRoute;
 use ether::Mac;
-use host::{Host, Recovery, Refusal};
+use host::{Host, Recovery, Refusal, Sizes};
 use ipv4::Prefix;
 use routes::Routes;
 use std::alloc::{AllocFailed, Global};
@@ -42,6 +48,7 @@ pub extern "C" fn host_new(
         least_timeout: 1_000,
         first_threshold: 65_535,
         guards: false,
+        sizes: Sizes::USUAL,
     };
     set_up(alloc, handle, config, routes)
 }
@@ -52,8 +59,11 @@ pub extern "C" fn host_new(
 /// The first window in segments (RFC 6928), the least timeout in milliseconds (RFC 6298 section 2.4) and the first slow start threshold in octets (RFC
 /// 5681 section 3.1) are numbers, where 0 is the usual one.
 ///
+/// So are its sizes, which say how large the host is; and no datagrams are put together where that option is 1.
+///
 /// EINVAL also where the octets are no config: not as many as its size says, fewer than 40, an option that is not one of those numbers, or another
-/// octet than 0 behind the last option. One of fewer than 44 octets has no first threshold, which is the usual one then.
+/// octet than 0 behind the last option; and where a size lies outside its range. One of fewer than 44 octets has no first threshold, and one of fewer
+/// than 60 no sizes, which are the usual ones then.
 #[unsafe(no_mangle)]
 pub extern "C" fn host_new_from(
     alloc: Global,
@@ -79,16 +89,13 @@ fn set_up(alloc: Global, handle: &mut Handle, config: Config, routes: &[HostRout
         handle.put(alloc, kept);
         return refused(Refusal::EINVAL);
     }
-    let host = match made(alloc, config, routes) {
-        Ok(host) => host,
-        Err(refusal) => return refused(refusal),
-    };
-    let kept = match boxed(alloc, host) {
-        Ok(kept) => kept,
-        Err(refusal) => return refused(refusal),
-    };
-    handle.put(alloc, kept);
-    0
+    match made(alloc, config, routes) {
+        Ok(kept) => {
+            handle.put(alloc, kept);
+            0
+        }
+        Err(refusal) => refused(refusal),
+    }
 }
 
 /// Ends the host that the handle holds, and gives its memory back. The handle holds none then. Does nothing where it held none.
@@ -100,12 +107,35 @@ pub extern "C" fn host_free(alloc: Global, handle: &mut Handle)
     let _ = handle.take(alloc);
 }
 
-/// A host by this config, with these routes. EINVAL, ENOMEM.
-fn made(alloc: Global, config: Config, routes: &[HostRoute]) -> Result<Host, Refusal>
-    ensures ok { IfOk result (λ host. IsValidSetup config routes.now × IsNew config routes.now host) }
+/// A host by this config, with these routes, on the heap. EINVAL, ENOMEM.
+fn made(alloc: Global, config: Config, routes: &[HostRoute]) -> Result<Box<Counted>, Refusal>
+    ensures ok { IfOk result (λ kept. IsValidSetup config routes.now × IsNew config routes.now kept.value.host) }
+    ensures counters { IfOk result (λ kept. kept.value.counters ≡ new_counters) }
     ensures refusal { IfErr result (λ refusal. ((refusal ≡ Refusal.EINVAL) × ¬ IsValidSetup config routes.now) ⊎ ((refusal ≡ Refusal.ENOMEM) × IsValidSetup config routes.now)) }
 {
+    match told(config, routes) {
+        Ok(set) => kept(alloc, set),
+        Err(refusal) => Err(refusal),
+    }
+}
+
+/// The set-up that this config and these routes tell. EINVAL. What it takes of the stack is free again where the host is made.
+#[inline(never)]
+fn told(config: Config, routes: &[HostRoute]) -> Result<host::Config, Refusal>
+    ensures valid { IsOk result ↔ IsValidSetup config routes.now }
+    ensures value { IfOk result (λ set. (table : List Route) × IsTold routes.now table × (set ≡ host_config config table)) }
+    ensures refusal { IfErr result (λ refusal. refusal ≡ Refusal.EINVAL) }
+{
     let table = table(routes)?;
+    with_table(config, table)
+}
+
+/// The set-up that this config tells, with these routes. EINVAL.
+fn with_table(config: Config, table: Routes) -> Result<host::Config, Refusal>
+    ensures valid { IsOk result ↔ (IsOfOne config.mac × IsUnicast (addr_of config.addr) × IsSizes config.sizes) }
+    ensures value { IfOk result (λ set. set ≡ host_config config table) }
+    ensures refusal { IfErr result (λ refusal. refusal ≡ Refusal.EINVAL) }
+{
     let set = host::Config::new(config.mac, addr_of(config.addr), table)?
         .with_scale(config.scales)
         .with_minshall(config.minshall)
@@ -114,7 +144,19 @@ fn made(alloc: Global, config: Config, routes: &[HostRoute]) -> Result<Host, Ref
         .with_threshold(config.first_threshold)
         .with_first_segments(config.first_segments)
         .with_least_timeout(config.least_timeout);
-    Host::new(alloc, set)
+    set.with_sizes(config.sizes)
+}
+
+/// A host with this set-up, on the heap, of which nothing is counted yet. ENOMEM.
+#[inline(never)]
+fn kept(alloc: Global, set: host::Config) -> Result<Box<Counted>, Refusal>
+    ensures ok { IfOk result (λ kept. (kept.value.host ≡ new_host set) × (kept.value.counters ≡ new_counters)) }
+    ensures refusal { IfErr result (λ refusal. refusal ≡ Refusal.ENOMEM) }
+{
+    match Host::new(alloc, set) {
+        Ok(host) => boxed(alloc, host),
+        Err(refusal) => Err(refusal),
+    }
 }
 
 /// A host on the heap, of which nothing is counted yet. ENOMEM.

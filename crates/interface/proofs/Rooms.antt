@@ -4,9 +4,9 @@ use Rattle.std.proofs.lemmas.List.Sums.{count_by-le-length}
 use Rattle.interface.specs.declared.reply.Waiting.{Waiting}
 use Rattle.interface.specs.Queue.{has_room, rooms_held}
 
--- where fewer than 16 wait, a room is free
-pub some_spare : (spare : ℕ) (replies : List Waiting) → spare + rooms_held replies ≡ 16 → length replies < 16 → 0 < spare
-some_spare spare replies all few = omega (arith, all, few, count_by-le-length (λ (waiting : Waiting). has_room waiting.reply) replies)
+-- where fewer wait than may, a room is free
+pub some_spare : (spare most : ℕ) (replies : List Waiting) → spare + rooms_held replies ≡ most → length replies < most → 0 < spare
+some_spare spare most replies all few = omega (arith, all, few, count_by-le-length (λ (waiting : Waiting). has_room waiting.reply) replies)
 
 -- what is kept of a list whose later elements are all kept
 pub kept_from : {X : Type 0} (p : X → Bool) (xs : List X) (k : ℕ) (d : X) → k < length xs → p (get_or xs k d) ≡ true

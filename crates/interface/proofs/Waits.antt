@@ -190,7 +190,7 @@ request_in_place h now place hop asks = by_one (slice_get h.replies place) asks
     by_one (Some w) e = ap (λ (way : Way). frame_by h w.reply way) e
 
 pub request_noted : (h : InterfaceView) (now : Moment) (place : ℕ) (hop : Addr) → way_at h now place ≡ Ask hop
-    → after_emission h now place ≡ record h { cache = record { pairs = h.cache.pairs; asked = (after_ask now hop h.cache).asked } }
+    → after_emission h now place ≡ record h { cache = record { most = h.cache.most; pairs = h.cache.pairs; asked = (after_ask now hop h.cache).asked } }
 request_noted h now place hop asks = ap (λ (way : Way). left_by h now place way) asks
 
 -- A neighbour is asked for only where a request may go out.

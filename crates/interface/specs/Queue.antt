@@ -8,12 +8,21 @@ use Rattle.interface.specs.declared.reply.Waiting.{Waiting}
 use Rattle.interface.specs.declared.reply.QueueFault.{QueueFault}
 use Rattle.interface.specs.declared.reply.QueueFault.TheVariants.{NoRoom}
 
--- a reply that begins to wait now stands behind the others, where there is room for it
-abbrev pub joined : Moment → Reply → List Waiting → List Waiting
-joined now reply replies = if length replies == 16 then replies else replies ++ record { since = now; reply = reply } ∷ []
+-- how many replies may wait, and those that wait, in order
+pub record QueueView : Type 0 where
+  pub most : ℕ
+  pub replies : List Waiting
 
-abbrev pub join_answer : List Waiting → Result (Unit {0}) QueueFault
-join_answer replies = if length replies == 16 then Err NoRoom else Ok tt
+-- as many wait as may
+abbrev pub has_no_place : QueueView → Bool
+has_no_place q = length q.replies == q.most
+
+-- a reply that begins to wait now stands behind the others, where there is room for it
+abbrev pub joined : Moment → Reply → QueueView → QueueView
+joined now reply q = if has_no_place q then q else record q { replies = q.replies ++ record { since = now; reply = reply } ∷ [] }
+
+abbrev pub join_answer : QueueView → Result (Unit {0}) QueueFault
+join_answer q = if has_no_place q then Err NoRoom else Ok tt
 
 -- data or a quote stands in a room; an ARP packet and the header of a reset are of a fixed size, and need none
 abbrev pub has_room : Reply → Bool

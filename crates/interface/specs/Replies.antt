@@ -1,5 +1,5 @@
 -- The control replies that wait: ARP replies (RFC 826), resets that answer segments (RFC 9293 section 3.5.2), echo replies and
--- errors (RFC 792). That 16 wait at most is this stack's own.
+-- errors (RFC 792). That only so many may wait is this stack's own.
 use Rattle.std.specs.Prelude.{ℕ, List, Bool, true, false, not, ◌&&◌, ◌==◌, if◌then◌else◌, [], ◌∷◌, ◌++◌, length, Result, Ok, Err}
 use Rattle.ipv4.specs.declared.addr.Addr.{Addr}
 use Rattle.clock.specs.declared.moment.Moment.{Moment}
@@ -18,9 +18,9 @@ use Rattle.interface.specs.declared.way.Way.TheVariants.{To, Ask, Waits}
 use Rattle.interface.specs.InterfaceView.{InterfaceView}
 use Rattle.interface.specs.Ways.{is_routed, way}
 
--- sixteen wait
+-- as many wait as may
 abbrev pub is_full : InterfaceView → Bool
-is_full h = length h.replies == 16
+is_full h = length h.replies == h.most_replies
 
 -- a reply that begins to wait now stands behind the others
 abbrev pub queued : Moment → Reply → InterfaceView → InterfaceView

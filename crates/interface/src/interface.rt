@@ -1,6 +1,6 @@
 //! The interface itself.
 
-ghost use Rattle.std.specs.Prelude.{◌≡◌, ◌≤◌, ◌++◌, true, length, take, position, IfOk};
+ghost use Rattle.std.specs.Prelude.{◌≡◌, ◌<◌, ◌≤◌, ◌++◌, true, length, take, position, IfOk};
 ghost use Rattle.ipv4.specs.declared.limits.TheConstants.{ERROR_QUOTE};
 ghost use Rattle.interface.specs.declared.room.TheConstants.{ECHO_ROOM};
 ghost use Rattle.interface.specs.Strangers.{is_of_group};
@@ -21,7 +21,7 @@ use std::marker::Model;
 use tcp_segment::Head;
 
 /// What a host has of its link: its MAC, its address and its routes, what it heard of its neighbours and asked for, and the
-/// control replies that wait. Only the making takes memory.
+/// control replies that wait, at most so many as it was made for. Only the making takes memory.
 #[derive(Drop)]
 pub struct Interface {
     pub(crate) mac: Mac,
@@ -41,7 +41,8 @@ impl Model for Interface {
       addr = i.addr;
       routes = i.routes;
       cache = i.cache;
-      replies = i.replies;
+      most_replies = i.replies.most;
+      replies = i.replies.replies;
     } };
 }
 
@@ -52,16 +53,25 @@ impl Interface {
     ghost use Rattle.interface.specs.Strangers.{is_no_host, is_no_neighbours};
     ghost use Rattle.interface.specs.Replies.{after_heard, heard_answer, is_full, after_answer, after_echo, after_report, answer_result, way_of, is_due};
 
-    /// An interface with this MAC, address and routes, that heard nothing. Fails only where memory is refused.
-    pub fn new(alloc: Global, mac: Mac, addr: Addr, routes: Routes) -> Result<Interface, AllocError>
-        ensures { IfOk result (λ interface. interface ≡ fresh mac addr routes) }
+    /// An interface with this MAC, address and routes, that heard nothing. It keeps so many neighbours at most, and so many control
+    /// replies may wait. Fails only where memory is refused.
+    pub fn new(
+        alloc: Global,
+        mac: Mac,
+        addr: Addr,
+        routes: Routes,
+        neighbours: usize,
+        most_replies: usize,
+    ) -> Result<Interface, AllocError>
+        requires { 0 < neighbours }
+        ensures { IfOk result (λ interface. interface ≡ fresh neighbours most_replies mac addr routes) }
     {
         Ok(Interface {
             mac,
             addr,
             routes,
-            cache: ArpCache::new(alloc)?,
-            replies: Queue::new(alloc)?,
+            cache: ArpCache::new(alloc, neighbours)?,
+            replies: Queue::new(alloc, most_replies)?,
         })
     }
 
@@ -119,7 +129,7 @@ impl Interface {
     }
 
     /// Takes an ARP packet that was heard (RFC 826): what it tells is learnt, and where it is a request for our address the
-    /// reply to it is queued. NoRoom where 16 replies wait already, and then it is learnt all the same.
+    /// reply to it is queued. NoRoom where as many replies wait already as may, and then it is learnt all the same.
     pub fn hear(&mut self, now: Moment, packet: &ArpPacket) -> Result<(), QueueFault>
         ensures after { self.new ≡ after_heard self.old now packet.now }
         ensures answer { result ≡ heard_answer self.old packet.now }
@@ -138,7 +148,7 @@ impl Interface {
         packet.target_addr == self.addr && matches!(packet.operation, Operation::Request)
     }
 
-    /// Whether 16 control replies wait, so that none that is owed finds a place.
+    /// Whether as many control replies wait as may, so that none that is owed finds a place.
     pub fn is_full(&self) -> bool
         ensures { result ≡ is_full self.now }
     {
@@ -146,7 +156,7 @@ impl Interface {
     }
 
     /// Queues a reset to an address, a segment with this header, which has RST, and no octets (RFC 9293 section 3.5.2). Where no route
-    /// leads there nothing is queued. NoRoom where 16 replies wait already. A refusal changes nothing.
+    /// leads there nothing is queued. NoRoom where as many replies wait already as may. A refusal changes nothing.
     pub fn answer(&mut self, now: Moment, to: Addr, head: Head) -> Result<(), QueueFault>
         requires { head.flags.rst ≡ true }
         ensures after { self.new ≡ after_answer self.old now to head }
@@ -160,8 +170,8 @@ impl Interface {
     }
 
     /// Queues an echo reply to an address, with the identifier, number and data of a request, at most 1,472 octets of them (RFC 792, RFC
-    /// 1122 section 3.2.2.6). Where no route leads there nothing is queued. NoRoom where 16 replies wait already. A refusal changes
-    /// nothing.
+    /// 1122 section 3.2.2.6). Where no route leads there nothing is queued. NoRoom where as many replies wait already as may. A refusal
+    /// changes nothing.
     pub fn answer_echo(
         &mut self,
         now: Moment,
@@ -190,7 +200,7 @@ impl Interface {
 
     /// Queues an error to an address, which tells why the datagram with this header, at most 60 octets, and this payload came to nothing:
     /// it quotes the header and the first 8 octets of the payload, fewer where there are fewer (RFC 792, RFC 1122 section 3.2.2). Where no
-    /// route leads there nothing is queued. NoRoom where 16 replies wait already. A refusal changes nothing.
+    /// route leads there nothing is queued. NoRoom where as many replies wait already as may. A refusal changes nothing.
     pub fn report(
         &mut self,
         now: Moment,
@@ -217,8 +227,8 @@ impl Interface {
     }
 
     /// Queues an error to an address, of a quote that was made before, of which it takes the first 68 octets, all that an error quotes of
-    /// a datagram at most (RFC 792). Where no route leads there nothing is queued. NoRoom where 16 replies wait already. A refusal changes
-    /// nothing.
+    /// a datagram at most (RFC 792). Where no route leads there nothing is queued. NoRoom where as many replies wait already as may. A
+    /// refusal changes nothing.
     pub fn report_quote(
         &mut self,
         now: Moment,

@@ -97,7 +97,7 @@ pub fn replies_leave_in_order()
 pub fn requests_hold_nothing_back()
     ensures frame { (h : InterfaceView) (now : Moment) (place : ℕ) (hop : Addr) → way_at h now place ≡ Ask hop → frame_at h now place ≡ request_frame h hop }
     ensures left { (h : InterfaceView) (now : Moment) (place : ℕ) (hop : Addr) → way_at h now place ≡ Ask hop
-        → after_emission h now place ≡ record h { cache = record { pairs = h.cache.pairs; asked = (after_ask now hop h.cache).asked } } }
+        → after_emission h now place ≡ record h { cache = record { most = h.cache.most; pairs = h.cache.pairs; asked = (after_ask now hop h.cache).asked } } }
 {}
 
 /// A neighbour is asked for only where a request for it may go out, and once it was asked for, not again within the second, nor, at any moment

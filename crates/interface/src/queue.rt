@@ -1,8 +1,8 @@
 //! The queue of the control replies that wait.
 
-ghost use Rattle.std.specs.Prelude.{◌≡◌, ◌<◌, ◌==◌, ℕ, List, [], length, remove, true, false, IfOk, OnOk};
+ghost use Rattle.std.specs.Prelude.{◌≡◌, ◌<◌, ℕ, List, [], length, remove, true, false, IfOk, OnOk};
 ghost use Rattle.interface.specs.declared.reply.Reply.{Reply};
-ghost use Rattle.interface.specs.Queue.{joined, join_answer, has_room};
+ghost use Rattle.interface.specs.Queue.{has_no_place, joined, join_answer, has_room};
 
 use crate::reply::{QueueFault, Reply, Waiting};
 use crate::room::Room;
@@ -11,66 +11,63 @@ use fixed_vec::FixedVec;
 use std::alloc::{AllocError, Global};
 use std::marker::Model;
 
-/// How many control replies wait at most.
-const REPLIES: usize = 16;
-
-/// The control replies that wait, in order, and a room for each that may come to need one. A clause sees the replies.
+/// The control replies that wait, in order, at most so many as the queue was made for, and a room for each that may come to need one. A
+/// clause sees the replies, and how many may wait.
 #[derive(Drop)]
 pub(crate) struct Queue {
-    replies: FixedVec<Waiting, REPLIES>,
+    replies: FixedVec<Waiting>,
     spare: Vec<Room>,
 }
 
 impl Model for Queue {
-    ghost use Rattle.std.specs.Prelude.{◌≡◌, ◌≤◌, ◌+◌, List};
+    ghost use Rattle.std.specs.Prelude.{◌≡◌, ◌≤◌, ◌+◌};
     ghost use Rattle.std.specs.Vec.{vec_len, vec_capacity};
-    ghost use Rattle.interface.specs.declared.reply.Waiting.{Waiting};
-    ghost use Rattle.interface.specs.Queue.{rooms_held};
+    ghost use Rattle.interface.specs.Queue.{QueueView, rooms_held};
 
-    ghost Value = { List Waiting };
+    ghost Value = { QueueView };
 
-    ghost view = { λ q. q.replies.items };
+    ghost view = { λ q. record { most = q.replies.most; replies = q.replies.items } };
 
-    ghost invariant = { λ q. (vec_len q.spare + rooms_held q.replies.items ≡ 16) × (16 ≤ vec_capacity q.spare) };
+    ghost invariant = { λ q. (vec_len q.spare + rooms_held q.replies.items ≡ q.replies.most) × (q.replies.most ≤ vec_capacity q.spare) };
 }
 
 impl Queue {
-    /// A queue in which nothing waits, and all its rooms. Fails only where memory is refused.
-    pub(crate) fn new(alloc: Global) -> Result<Queue, AllocError>
-        ensures { IfOk result (λ queue. queue ≡ []) }
+    /// A queue in which nothing waits and so many replies may, and all its rooms. Fails only where memory is refused.
+    pub(crate) fn new(alloc: Global, most: usize) -> Result<Queue, AllocError>
+        ensures { IfOk result (λ queue. queue ≡ record { most = most; replies = [] }) }
     {
-        let mut spare = Vec::with_capacity(alloc, REPLIES)?;
-        for _ in 0..REPLIES {
+        let mut spare = Vec::with_capacity(alloc, most)?;
+        for _ in 0..most {
             spare.push(Room::new(alloc)?)?;
         }
         Ok(Queue {
-            replies: FixedVec::new(alloc)?,
+            replies: FixedVec::new(alloc, most)?,
             spare,
         })
     }
 
     /// The replies that wait.
     pub(crate) fn as_slice(&self) -> &[Waiting]
-        ensures { result.now ≡ self.now }
+        ensures { result.now ≡ self.now.replies }
     {
         self.replies.as_slice()
     }
 
     /// How many wait.
     pub(crate) fn len(&self) -> usize
-        ensures { result ≡ length self.now }
+        ensures { result ≡ length self.now.replies }
     {
         self.replies.len()
     }
 
-    /// Whether 16 wait.
+    /// Whether as many wait as may.
     pub(crate) fn is_full(&self) -> bool
-        ensures { result ≡ (length self.now == 16) }
+        ensures { result ≡ has_no_place self.now }
     {
         self.replies.is_full()
     }
 
-    /// Takes a reply that needs no room. NoRoom where 16 wait already, and then nothing has changed.
+    /// Takes a reply that needs no room. NoRoom where as many wait already as may, and then nothing has changed.
     pub(crate) fn push(&mut self, now: Moment, reply: Reply) -> Result<(), QueueFault>
         requires { has_room reply ≡ false }
         ensures after { self.new ≡ joined now reply self.old }
@@ -81,8 +78,8 @@ impl Queue {
         Ok(())
     }
 
-    /// Takes a reply that is made in a room of its own. NoRoom where 16 replies wait already, and then nothing has changed. It takes no
-    /// memory.
+    /// Takes a reply that is made in a room of its own. NoRoom where as many replies wait already as may, and then nothing has changed. It
+    /// takes no memory.
     #[tactic(auto, using(crate::proofs::Rooms::some_spare))]
     pub(crate) fn push_made<F: FnOnce(Room) -> Reply>(
         &mut self,
@@ -103,10 +100,10 @@ impl Queue {
         Ok(())
     }
 
-    /// Refuses where 16 replies wait already.
+    /// Refuses where as many replies wait already as may.
     fn check_place(&self) -> Result<(), QueueFault>
         ensures answer { result ≡ join_answer self.now }
-        ensures room { OnOk result (length self.now < 16) }
+        ensures room { OnOk result (length self.now.replies < self.now.most) }
     {
         if self.replies.is_full() {
             return Err(QueueFault::NoRoom);
@@ -116,8 +113,9 @@ impl Queue {
 
     /// Drops the reply at a place, whose room can be filled anew then. The others stay, in order.
     pub(crate) fn remove(&mut self, place: usize)
-        requires { place < length self.old }
-        ensures { self.new ≡ remove self.old place }
+        requires { place < length self.old.replies }
+        ensures replies { self.new.replies ≡ remove self.old.replies place }
+        ensures most { self.new.most ≡ self.old.most }
     {
         let waiting = self.replies.remove(place);
         if let Some(room) = waiting.reply.into_room() {

@@ -17,7 +17,7 @@ use thiserror::Error;
 /// Why a control reply isn't queued.
 #[derive(Clone, Copy, PartialEq, Eq, Debug, Error)]
 pub enum QueueFault {
-    /// Sixteen wait already.
+    /// As many wait already as may.
     #[error("F9 NoRoom")]
     NoRoom,
 }

@@ -70,7 +70,8 @@ fn asked_until_over(cache: &ArpCache, now: Moment, hop: Option<Addr>) -> Option<
 
 /// Drops the replies whose time is over and whose next hop isn't known. The others stay, in order.
 fn drop_over(routes: &Routes, cache: &ArpCache, now: Moment, replies: &mut Queue)
-    ensures { replies.new ≡ filter (λ (w : WaitingReply). not (is_unknown routes.now cache.now now (sought w.reply) && is_over now w)) replies.old }
+    ensures replies { replies.new.replies ≡ filter (λ (w : WaitingReply). not (is_unknown routes.now cache.now now (sought w.reply) && is_over now w)) replies.old.replies }
+    ensures most { replies.new.most ≡ replies.old.most }
 {
     for place in (0..replies.len()).rev() {
         if !stays(routes, cache, now, &replies.as_slice()[place]) {

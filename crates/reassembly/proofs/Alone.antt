@@ -1,17 +1,17 @@
 -- One fragment alone.
-use Rattle.std.proofs.Common.{◌≡◌, ℕ, ◌==◌, ◌||◌, not, Bool, true, false, cond, List, [], ◌∷◌, length, find, Option, Some, None, option_map, refl, sym, ◌∙◌}
+use Rattle.std.proofs.Common.{◌≡◌, ℕ, ◌==◌, ◌||◌, not, Bool, true, false, cond, List, [], ◌∷◌, length, Option, Some, None, option_map, refl, sym, ◌∙◌}
 use Rattle.std.specs.Option.{option_map_or}
 use Rattle.std.proofs.lemmas.Bool.{eqb-true}
 use Rattle.clock.specs.declared.moment.Moment.{Moment}
 use Rattle.ipv4.specs.Datagram.{Datagram}
 use Rattle.reassembly.specs.Fragments.{end_of, IsPayload}
 use Rattle.reassembly.specs.Octets.{whole_of}
-use Rattle.reassembly.specs.Reassembly.{Reassembly, Outcome, begun, conflicts, outcome, quoted, with_fragment}
+use Rattle.reassembly.specs.Reassembly.{Reassembly, begun, conflicts, outcome, quoted, with_fragment}
 use Rattle.reassembly.specs.Reassembly.Outcome.{Waits, Completes, GivesUp}
 use Rattle.reassembly.proofs.Found.{quoted_where, wholes_are_quoted}
 use Rattle.reassembly.proofs.Together.{whole_is_payload}
 
-completes_so : (d : Datagram) (r : Reassembly) (payload quote : List ℕ) → outcome d r ≡ Completes payload quote
+pub completes_so : (d : Datagram) (r : Reassembly) (payload quote : List ℕ) → outcome d r ≡ Completes payload quote
     → whole_of (with_fragment r d).end (with_fragment r d).octets ≡ Some payload
 unfolding outcome
 completes_so d r payload quote = by_conflict (conflicts d r.end (length r.octets))

@@ -3,10 +3,15 @@ use Rattle.std.proofs.Common.{◌≡◌, ℕ, ◌+◌, ◌-◌, ◌≤◌, Bool,
 use Rattle.std.specs.List.{count_by, slice_range}
 use Rattle.std.proofs.lemmas.List.{length-take-le, length-drop, length-replicate, take-take, take-append-drop, drop-drop, drop-take}
 use Rattle.std.proofs.Math.Seq.{take-add}
-use Rattle.reassembly.specs.Buffers.{known, count_set, over}
+use Rattle.reassembly.specs.Buffers.{BufferView, known, count_set, over}
 use Rattle.reassembly.specs.Octets.{reaching, put}
 use Rattle.reassembly.proofs.Writes.{take-over, take-over_end}
 use Rattle.reassembly.proofs.Known.{known-append, known-take, known-drop, length-known, known_set, known_clear, count-append, count_all, count-both}
+
+-- what a data buffer shows, where its octets change
+pub shown : (room : ℕ) (old new : List (Option ℕ)) (buffer : BufferView) → room ≡ buffer.room → old ≡ new
+    → record buffer { room = room; octets = old } ≡ record buffer { octets = new }
+shown room old new buffer e f = ap (λ r. record buffer { room = r; octets = old }) e ∙ ap (λ octets. record buffer { octets = octets }) f
 
 -- the places that are in use are as many as the view shows
 pub view_length : (octets : List ℕ) (present : List Bool) (reach : ℕ) → reach ≤ length octets → reach ≤ length present

@@ -16,3 +16,5 @@ pub mod Soonest
 pub mod Oldest
 pub mod Late
 pub mod Alone
+pub mod Views
+pub mod Rooms

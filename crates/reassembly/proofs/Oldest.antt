@@ -8,9 +8,10 @@ use Rattle.std.proofs.lemmas.List.Folds.{list_all_at}
 use Rattle.std.proofs.lemmas.List.Quantifiers.{position-Some}
 use Rattle.std.proofs.lemmas.List.Sums.{fails_before_first, sum_by-set}
 use Rattle.clock.specs.declared.moment.Moment.{Moment}
-use Rattle.reassembly.specs.declared.key.Key.{Key}
-use Rattle.reassembly.specs.Places.{is_of, began_from, is_oldest, oldest, without, without_oldest, place_for, LosesOldest}
-use Rattle.reassembly.specs.Reassembly.{Reassembly}
+use Rattle.ipv4.specs.Datagram.{Datagram}
+use Rattle.reassembly.specs.Fragments.{key_of, ends_within}
+use Rattle.reassembly.specs.Places.{is_of, began_from, is_oldest, oldest, without, without_oldest, fits, place_for, LosesOldest}
+use Rattle.reassembly.specs.Reassembly.{Reassembly, PoolView}
 use Rattle.reassembly.proofs.OverEvents.{at, none_at, within as taken_within}
 
 le_true : (a b : ℕ) → a ≤ b → nat_le a b ≡ true
@@ -147,7 +148,7 @@ is_first places f i other before there = by_test (nat_lt f.r.since.0 other.since
         let both : true ≡ false = sym yes ∙ no in
         cc
 
-loses : (places : List (Option Reassembly)) → Found places → LosesOldest places (without_oldest places)
+loses : (places : List (Option Reassembly)) → Found places → LosesOldest places (without (oldest places) places)
 loses places f =
     subst (λ (o : Option ℕ). LosesOldest places (without o places)) (sym f.is)
     (record {
@@ -179,12 +180,12 @@ all_free places i r all there =
     let both : true ≡ false = sym all ∙ not in
     cc
 
-pub oldest_gone : (places : List (Option Reassembly)) (i : ℕ) (r : Reassembly) → at places i ≡ Some r → LosesOldest places (without_oldest places)
-oldest_gone places i r there = by_least (least places)
+pub oldest_gone : (pool : PoolView) (i : ℕ) (r : Reassembly) → at pool.places i ≡ Some r → LosesOldest pool.places (without_oldest pool).places
+oldest_gone pool i r there = by_least (least pool.places)
   where
-    by_least : (list_all is_none places ≡ true) ⊎ HasOldest places → LosesOldest places (without_oldest places)
-    by_least (inl none) = absurd (all_free places i r none there)
-    by_least (inr h) = loses places (found places h)
+    by_least : (list_all is_none pool.places ≡ true) ⊎ HasOldest pool.places → LosesOldest pool.places (without_oldest pool).places
+    by_least (inl none) = absurd (all_free pool.places i r none there)
+    by_least (inr h) = loses pool.places (found pool.places h)
 
 -- where none is taken
 none_oldest : (places : List (Option Reassembly)) → All (λ place. place ≡ None) places → oldest places ≡ None
@@ -199,37 +200,51 @@ none_oldest places free = by_place (oldest places) refl
         let both : true ≡ false = sym is.1 ∙ no in
         cc
 
-pub none_gone : (places : List (Option Reassembly)) → All (λ place. place ≡ None) places → without_oldest places ≡ places
-none_gone places free = ap (λ (o : Option ℕ). without o places) (none_oldest places free)
+pub none_gone : (pool : PoolView) → All (λ place. place ≡ None) pool.places → without_oldest pool ≡ pool
+none_gone pool free = ap (λ (o : Option ℕ). record pool { places = without o pool.places }) (none_oldest pool.places free)
 
 -- where one is free there is a place
-place_where_free : (key : Key) (places : List (Option Reassembly)) (i : ℕ) → i < length places → at places i ≡ None → is_some (place_for key places) ≡ true
-place_where_free key places i within there = by_own (position (is_of key) places)
+place_where_free : (d : Datagram) (pool : PoolView) (i : ℕ) → ends_within pool.octets d ≡ true → i < length pool.places → at pool.places i ≡ None
+    → is_some (place_for d pool) ≡ true
+place_where_free d pool i fits within there =
+    rw fits (by_own (position (is_of (key_of d)) pool.places))
   where
-    by_free : (o : Option ℕ) → position is_none places ≡ o → is_some o ≡ true
+    by_free : (o : Option ℕ) → position is_none pool.places ≡ o → is_some o ≡ true
     by_free (Some k) e = refl
     by_free None e =
-        let no : is_none (at places i) ≡ false = none_at is_none places None e i within in
+        let no : is_none (at pool.places i) ≡ false = none_at is_none pool.places None e i within in
         let both : true ≡ false = sym (ap is_none there) ∙ no in
         cc
 
-    by_own : (o : Option ℕ) → is_some (option_or o (position is_none places)) ≡ true
+    by_own : (o : Option ℕ) → is_some (option_or o (position is_none pool.places)) ≡ true
     by_own (Some k) = refl
-    by_own None = by_free (position is_none places) refl
+    by_own None = by_free (position is_none pool.places) refl
 
 first_free : (places : List (Option Reassembly)) → list_all is_none places ≡ true → at places 0 ≡ None
 first_free [] all = refl
 first_free (None ∷ places) all = refl
 first_free (Some r ∷ places) all = cc
 
-pub room_left : (places : List (Option Reassembly)) (key : Key) → 0 < length places → is_some (place_for key (without_oldest places)) ≡ true
-room_left places key some = by_least (least places)
+both_true : (a b : Bool) → (a && b) ≡ true → (a ≡ true) × (b ≡ true)
+both_true true true h = (refl, refl)
+both_true true false h = cc
+both_true false b h = cc
+
+pub room_left : (pool : PoolView) (d : Datagram) → fits pool d ≡ true → is_some (place_for d (without_oldest pool)) ≡ true
+room_left pool d fit = by_least (least pool.places)
   where
-    by_least : (list_all is_none places ≡ true) ⊎ HasOldest places → is_some (place_for key (without_oldest places)) ≡ true
+    both : (nat_lt 0 (length pool.places) ≡ true) × (ends_within pool.octets d ≡ true)
+    both = both_true (nat_lt 0 (length pool.places)) (ends_within pool.octets d) fit
+
+    some : 0 < length pool.places
+    some = grind (arith, nat_tests, both.0)
+
+    by_least : (list_all is_none pool.places ≡ true) ⊎ HasOldest pool.places → is_some (place_for d (without_oldest pool)) ≡ true
     by_least (inl none) =
-        subst (λ (o : Option ℕ). is_some (place_for key (without o places)) ≡ true) (sym (none_oldest places (are_free places none)))
-        (place_where_free key places 0 some (first_free places none))
+        subst (λ (p : PoolView). is_some (place_for d p) ≡ true) (sym (none_gone pool (are_free pool.places none)))
+        (place_where_free d pool 0 both.1 some (first_free pool.places none))
     by_least (inr h) =
-        let f = found places h in
-        subst (λ (o : Option ℕ). is_some (place_for key (without o places)) ≡ true) (sym f.is)
-        (place_where_free key (set places f.k None) f.k (omega (arith, f.within, length-set places f.k None)) (get_or-set_same places f.k None None f.within))
+        let f = found pool.places h in
+        subst (λ (o : Option ℕ). is_some (place_for d (record pool { places = without o pool.places })) ≡ true) (sym f.is)
+        (place_where_free d (record pool { places = set pool.places f.k None }) f.k both.1 (omega (arith, f.within, length-set pool.places f.k None))
+        (get_or-set_same pool.places f.k None None f.within))

@@ -4,10 +4,10 @@ use Rattle.std.proofs.lemmas.Bool.Decides.{nat_tests}
 use Rattle.std.proofs.lemmas.List.{length-take-le, length-drop, length-replicate, length-map, take_all}
 use Rattle.ipv4.specs.Datagram.{Datagram}
 use Rattle.clock.specs.declared.moment.Moment.{Moment}
-use Rattle.reassembly.specs.Fragments.{begin_of, end_of, is_last}
+use Rattle.reassembly.specs.Fragments.{begin_of, end_of, ends_within, is_last}
 use Rattle.reassembly.specs.Octets.{reaching, put, laid, is_covered, filled, whole_of}
 use Rattle.reassembly.specs.Inside.{EndsWithin}
-use Rattle.reassembly.specs.Reassembly.{Reassembly, conflicts, end_after, with_fragment, outcome, continued, quoted}
+use Rattle.reassembly.specs.Reassembly.{Reassembly, conflicts, end_after, with_fragment, outcome, outcome_within, continued, quoted}
 use Rattle.reassembly.specs.Reassembly.Outcome.{Waits, Completes, GivesUp}
 
 pub outcome_given_up : (d : Datagram) (r : Reassembly) → conflicts d r.end (length r.octets) ≡ true → outcome d r ≡ GivesUp
@@ -23,6 +23,52 @@ pub outcome_waits : (d : Datagram) (r : Reassembly) → conflicts d r.end (lengt
     → whole_of (with_fragment r d).end (with_fragment r d).octets ≡ None → outcome d r ≡ Waits (with_fragment r d)
 unfolding outcome
 outcome_waits d r h w = rw (h, w) refl
+
+-- in a place with room for so many octets
+abbrev pub gives_up : ℕ → Datagram → Reassembly → Bool
+gives_up room d r = not (ends_within room d) || conflicts d r.end (length r.octets)
+
+both_false : (a b : Bool) → (not a || b) ≡ false → (a ≡ true) × (b ≡ false)
+both_false true false h = (refl, refl)
+both_false true true h = cc
+both_false false b h = cc
+
+pub agrees : (room : ℕ) (d : Datagram) (r : Reassembly) → gives_up room d r ≡ false → (ends_within room d ≡ true) × (conflicts d r.end (length r.octets) ≡ false)
+agrees room d r h = both_false (ends_within room d) (conflicts d r.end (length r.octets)) h
+
+pub fits_in : (room : ℕ) (d : Datagram) (r : Reassembly) → ends_within room d ≡ true → outcome_within room d r ≡ outcome d r
+fits_in room d r h = rw h refl
+
+pub too_long : (room : ℕ) (d : Datagram) (r : Reassembly) → ends_within room d ≡ false → outcome_within room d r ≡ GivesUp
+too_long room d r h = rw h refl
+
+pub within_given_up : (room : ℕ) (d : Datagram) (r : Reassembly) → gives_up room d r ≡ true → outcome_within room d r ≡ GivesUp
+within_given_up room d r = by_room (ends_within room d)
+  where
+    by_room : (fits : Bool) → (not fits || conflicts d r.end (length r.octets)) ≡ true → cond fits (outcome d r) GivesUp ≡ GivesUp
+    by_room true h = outcome_given_up d r h
+    by_room false h = refl
+
+pub within_completes : (room : ℕ) (d : Datagram) (r : Reassembly) (payload : List ℕ) → gives_up room d r ≡ false
+    → whole_of (with_fragment r d).end (with_fragment r d).octets ≡ Some payload → outcome_within room d r ≡ Completes payload (quoted (with_fragment r d).quote)
+within_completes room d r payload h w =
+    let both = agrees room d r h in
+    fits_in room d r both.0 ∙ outcome_completes d r payload both.1 w
+
+pub within_waits : (room : ℕ) (d : Datagram) (r : Reassembly) → gives_up room d r ≡ false
+    → whole_of (with_fragment r d).end (with_fragment r d).octets ≡ None → outcome_within room d r ≡ Waits (with_fragment r d)
+within_waits room d r h w =
+    let both = agrees room d r h in
+    fits_in room d r both.0 ∙ outcome_waits d r both.1 w
+
+pub end_is_within : (room : ℕ) (d : Datagram) → ends_within room d ≡ true → end_of d ≤ room
+end_is_within room d h = grind (arith, nat_tests, h)
+
+pub within_from : (room : ℕ) (d : Datagram) → end_of d ≤ room → ends_within room d ≡ true
+within_from room d h = grind (arith, nat_tests, h)
+
+pub past_from : (room : ℕ) (d : Datagram) → room < end_of d → ends_within room d ≡ false
+past_from room d h = grind (arith, nat_tests, h)
 
 -- how far the octets reach after a fragment
 pub length-laid : (at : ℕ) (new : List ℕ) (octets : List (Option ℕ)) (end : ℕ) → at + length new ≤ end → length octets ≤ end → length (laid at new octets) ≤ end

@@ -1,13 +1,13 @@
 -- The least deadline of the places, and what the time ends before it and from it on.
-use Rattle.std.proofs.Common.{◌≡◌, ◌≢◌, ◌⊎◌, ◌↔◌, suc, ◌<◌, ◌≤◌, Bool, true, false, nat_le, cond, List, [], ◌∷◌, fold, get_or, Option, Some, None, IfSome, option_map, All, inl, inr, refl, sym, ◌∙◌, ap, subst, arith}
+use Rattle.std.proofs.Common.{◌≡◌, ◌≢◌, ◌⊎◌, ◌↔◌, suc, ◌<◌, ◌≤◌, Bool, true, false, nat_le, cond, List, [], ◌∷◌, fold, map, get_or, Option, Some, None, IfSome, option_map, All, inl, inr, refl, sym, ◌∙◌, ap, subst, arith}
 use Rattle.std.proofs.lemmas.Bool.Decides.{nat_tests}
 use Rattle.std.proofs.lemmas.List.{get_or-map}
 use Rattle.std.proofs.lemmas.List.Elements.{All-from_recursion, recursion_from_All}
-use Rattle.std.specs.List.{Any, AllByRecursion}
+use Rattle.std.specs.List.{Any, AllByRecursion, filter_map}
 use Rattle.clock.specs.declared.moment.Moment.{Moment}
 use Rattle.clock.specs.Moments.{sooner}
 use Rattle.reassembly.specs.Places.{is_over, after_time, expired_of, after_age, expired, next_deadline}
-use Rattle.reassembly.specs.Reassembly.{Reassembly, deadline_of}
+use Rattle.reassembly.specs.Reassembly.{Reassembly, PoolView, deadline_of}
 
 -- the soonest of these deadlines and this one
 abbrev soonest : Option Moment → List (Option Reassembly) → Option Moment
@@ -69,10 +69,10 @@ none_soonest [] h = refl
 none_soonest (None ∷ places) h = none_soonest places h.1
 none_soonest (Some r ∷ places) h = let here : Some r ≡ None = h.0 in cc
 
-pub none_is : (places : List (Option Reassembly)) → (next_deadline places ≡ None) ↔ All (λ place. place ≡ None) places
-none_is places = (
-  λ e. All-from_recursion (λ place. place ≡ None) places (soonest_none None places e).1,
-  λ h. none_soonest places (recursion_from_All (λ place. place ≡ None) places h),
+pub none_is : (pool : PoolView) → (next_deadline pool ≡ None) ↔ All (λ place. place ≡ None) pool.places
+none_is pool = (
+  λ e. All-from_recursion (λ place. place ≡ None) pool.places (soonest_none None pool.places e).1,
+  λ h. none_soonest pool.places (recursion_from_All (λ place. place ≡ None) pool.places h),
 )
 
 -- the soonest is one of them
@@ -97,11 +97,11 @@ soonest_some first (place ∷ places) m e = by_rest (soonest_some (sooner first 
     by_rest (inl f) = by_first (sooner_either first (option_map deadline_of place) m f)
     by_rest (inr any) = inr (any_later m place places any)
 
-pub some_is : (places : List (Option Reassembly)) (next : Moment) → next_deadline places ≡ Some next
-    → Any (λ place. option_map deadline_of place ≡ Some next) places
-some_is places next e = of_either (soonest_some None places next e)
+pub some_is : (pool : PoolView) (next : Moment) → next_deadline pool ≡ Some next → Any (λ place. option_map deadline_of place ≡ Some next) pool.places
+some_is pool next e = of_either (soonest_some None pool.places next e)
   where
-    of_either : (None ≡ Some next) ⊎ Any (λ place. option_map deadline_of place ≡ Some next) places → Any (λ place. option_map deadline_of place ≡ Some next) places
+    of_either : (None ≡ Some next) ⊎ Any (λ place. option_map deadline_of place ≡ Some next) pool.places
+        → Any (λ place. option_map deadline_of place ≡ Some next) pool.places
     of_either (inl f) = cc
     of_either (inr any) = any
 
@@ -117,13 +117,13 @@ soonest_reaches first (Some r ∷ places) m h =
     let both = sooner_reaches first (Some (deadline_of r)) m rest.0 in
     (both.0, (both.1, rest.1))
 
-all_end_from : (places : List (Option Reassembly)) (next : Option Moment) (m : Moment) → next_deadline places ≡ next → Reaches m next
+all_end_from : (places : List (Option Reassembly)) (next : Option Moment) (m : Moment) → soonest None places ≡ next → Reaches m next
     → AllByRecursion (EndsFrom m) places
 all_end_from places next m e h = (soonest_reaches None places m (subst (Reaches m) (sym e) h)).1
 
-pub least_is : (places : List (Option Reassembly)) (next : Moment) → next_deadline places ≡ Some next
-    → All (λ place. IfSome place (λ r. next.0 ≤ (deadline_of r).0)) places
-least_is places next e = All-from_recursion (EndsFrom next) places (all_end_from places (Some next) next e (omega arith))
+pub least_is : (pool : PoolView) (next : Moment) → next_deadline pool ≡ Some next
+    → All (λ place. IfSome place (λ r. next.0 ≤ (deadline_of r).0)) pool.places
+least_is pool next e = All-from_recursion (EndsFrom next) pool.places (all_end_from pool.places (Some next) next e (omega arith))
 
 -- before it
 not_over : (now : Moment) (r : Reassembly) → now.0 < (deadline_of r).0 → is_over now r ≡ false
@@ -136,23 +136,26 @@ place_stays now next (Some r) before h =
     (rw yet refl, rw yet refl)
 
 all_stay : (now next : Moment) (places : List (Option Reassembly)) → now.0 < next.0 → AllByRecursion (EndsFrom next) places
-    → (after_age now places ≡ places) × (expired now places ≡ [])
+    → (map (after_time now) places ≡ places) × (filter_map (expired_of now) places ≡ [])
 all_stay now next [] before h = (refl, refl)
 all_stay now next (place ∷ places) before h =
     let here = place_stays now next place before h.0 in
     let rest = all_stay now next places before h.1 in
     (rw (here.0, rest.0) refl, rw (here.1, rest.1) refl)
 
-pub nothing_before : (places : List (Option Reassembly)) (now : Moment) → IfSome (next_deadline places) (λ next. now.0 < next.0)
-    → (after_age now places ≡ places) × (expired now places ≡ [])
-nothing_before places now h = by_next (next_deadline places) refl h
+pub nothing_before : (pool : PoolView) (now : Moment) → IfSome (next_deadline pool) (λ next. now.0 < next.0)
+    → (after_age now pool ≡ pool) × (expired now pool ≡ [])
+nothing_before pool now h = by_next (next_deadline pool) refl h
   where
     later : Moment
     later = record { 0 = suc now.0 }
 
-    by_next : (next : Option Moment) → next_deadline places ≡ next → IfSome next (λ n. now.0 < n.0) → (after_age now places ≡ places) × (expired now places ≡ [])
-    by_next None e before = all_stay now later places (omega arith) (all_end_from places None later e tt)
-    by_next (Some next) e before = all_stay now next places before (all_end_from places (Some next) next e (omega arith))
+    of_all : (map (after_time now) pool.places ≡ pool.places) × (filter_map (expired_of now) pool.places ≡ []) → (after_age now pool ≡ pool) × (expired now pool ≡ [])
+    of_all stay = (ap (λ places. record pool { places = places }) stay.0, stay.1)
+
+    by_next : (next : Option Moment) → next_deadline pool ≡ next → IfSome next (λ n. now.0 < n.0) → (after_age now pool ≡ pool) × (expired now pool ≡ [])
+    by_next None e before = of_all (all_stay now later pool.places (omega arith) (all_end_from pool.places None later e tt))
+    by_next (Some next) e before = of_all (all_stay now next pool.places before (all_end_from pool.places (Some next) next e (omega arith)))
 
 -- from it on
 over_changes : (now next : Moment) (place : Option Reassembly) → option_map deadline_of place ≡ Some next → next.0 ≤ now.0 → after_time now place ≡ place → ⊥
@@ -164,15 +167,14 @@ over_changes now next (Some r) is from same =
     let gone : after_time now (Some r) ≡ None = rw over refl in
     cc
 
-pub ended_from : (places : List (Option Reassembly)) (now : Moment)
-    → IfSome (next_deadline places) (λ next. next.0 ≤ now.0 → after_age now places ≢ places)
-ended_from places now = by_next (next_deadline places) refl
+pub ended_from : (pool : PoolView) (now : Moment) → IfSome (next_deadline pool) (λ next. next.0 ≤ now.0 → after_age now pool ≢ pool)
+ended_from pool now = by_next (next_deadline pool) refl
   where
-    at : (next : Moment) → Any (λ place. option_map deadline_of place ≡ Some next) places → next.0 ≤ now.0 → after_age now places ≢ places
+    at : (next : Moment) → Any (λ place. option_map deadline_of place ≡ Some next) pool.places → next.0 ≤ now.0 → after_age now pool ≢ pool
     at next (k, place, within, there, is) from same =
         over_changes now next place is from
-        (sym (ap (after_time now) there) ∙ sym (get_or-map (after_time now) places k place place within) ∙ ap (λ (ps : List (Option Reassembly)). get_or ps k place) same ∙ there)
+        (sym (ap (after_time now) there) ∙ sym (get_or-map (after_time now) pool.places k place place within) ∙ ap (λ (p : PoolView). get_or p.places k place) same ∙ there)
 
-    by_next : (next : Option Moment) → next_deadline places ≡ next → IfSome next (λ n. n.0 ≤ now.0 → after_age now places ≢ places)
+    by_next : (next : Option Moment) → next_deadline pool ≡ next → IfSome next (λ n. n.0 ≤ now.0 → after_age now pool ≢ pool)
     by_next None e = tt
-    by_next (Some next) e = at next (some_is places next e)
+    by_next (Some next) e = at next (some_is pool next e)

@@ -1,5 +1,5 @@
 -- Whatever befalls a pool: fragments are taken, the time is told and the oldest gives way, in any order.
-use Rattle.std.specs.Prelude.{◌≡◌, ℕ, Bool, true, if◌then◌else◌, List, [], ◌∷◌, ◌++◌, fold, replicate, Option, Some, None}
+use Rattle.std.specs.Prelude.{◌≡◌, ℕ, ◌≤◌, Bool, true, if◌then◌else◌, List, [], ◌∷◌, ◌++◌, length, fold, Some}
 use Rattle.std.specs.List.{list_any}
 use Rattle.clock.specs.declared.moment.Moment.{Moment}
 use Rattle.ipv4.specs.Datagram.{Datagram}
@@ -10,7 +10,7 @@ use Rattle.reassembly.specs.declared.assembled.Assembled.TheVariants.{Waiting, W
 use Rattle.reassembly.specs.Fragments.{key_of, latest_quote, is_contradictory, IsPayload}
 use Rattle.reassembly.specs.Keys.{same_key}
 use Rattle.reassembly.specs.Places.{is_of, after_take, after_age, without_oldest}
-use Rattle.reassembly.specs.Reassembly.{Reassembly}
+use Rattle.reassembly.specs.Reassembly.{PoolView, new_pool}
 
 pub data Event : Type 0 where
   -- a fragment is taken at this moment
@@ -20,18 +20,18 @@ pub data Event : Type 0 where
   -- the oldest gives way
   GivesWay : Event
 
-abbrev pub after_event : List (Option Reassembly) → Event → List (Option Reassembly)
-after_event places (Takes now d) = after_take now d places
-after_event places (Ages now) = after_age now places
-after_event places GivesWay = without_oldest places
+abbrev pub after_event : PoolView → Event → PoolView
+after_event pool (Takes now d) = after_take now d pool
+after_event pool (Ages now) = after_age now pool
+after_event pool GivesWay = without_oldest pool
 
--- the places after these events, all four of which were free before
-abbrev pub after_events : List Event → List (Option Reassembly)
-after_events events = fold after_event (replicate 4 None) events
+-- a new pool of so many places with room for so many octets, after these events
+abbrev pub after_events : ℕ → ℕ → List Event → PoolView
+after_events places octets events = fold after_event (new_pool places octets) events
 
 -- a datagram with this key has a place
-abbrev pub has_place : Key → List (Option Reassembly) → Bool
-has_place key places = list_any (is_of key) places
+abbrev pub has_place : Key → PoolView → Bool
+has_place key pool = list_any (is_of key) pool.places
 
 -- the fragment that is taken, where it has this key
 abbrev pub taken_for : Key → Event → List Datagram
@@ -40,15 +40,15 @@ taken_for key (Ages now) = []
 taken_for key GivesWay = []
 
 -- the fragments with a key that were taken since it had no place last: those before an event, and the one that is taken by it
-abbrev pub gathered_after : Key → List (Option Reassembly) → List Datagram → Event → List Datagram
-gathered_after key places fragments event = if has_place key (after_event places event) then fragments ++ taken_for key event else []
+abbrev pub gathered_after : Key → PoolView → List Datagram → Event → List Datagram
+gathered_after key pool fragments event = if has_place key (after_event pool event) then fragments ++ taken_for key event else []
 
-abbrev pub gathered_from : Key → List (Option Reassembly) → List Datagram → List Event → List Datagram
-gathered_from key places fragments [] = fragments
-gathered_from key places fragments (event ∷ events) = gathered_from key (after_event places event) (gathered_after key places fragments event) events
+abbrev pub gathered_from : Key → PoolView → List Datagram → List Event → List Datagram
+gathered_from key pool fragments [] = fragments
+gathered_from key pool fragments (event ∷ events) = gathered_from key (after_event pool event) (gathered_after key pool fragments event) events
 
-abbrev pub gathered : Key → List Event → List Datagram
-gathered key events = gathered_from key (replicate 4 None) [] events
+abbrev pub gathered : ℕ → ℕ → Key → List Event → List Datagram
+gathered places octets key events = gathered_from key (new_pool places octets) [] events
 
 -- The answer is right for these fragments of one datagram: it is their payload with the quote of the last fragment zero of them, or
 -- they make none yet, or they contradict each other. A fragment that finds no place is of none.
@@ -64,3 +64,9 @@ IsRightFor payload (Whole whole) = whole.octets.now ≡ payload
 IsRightFor payload Waiting = Unit {0}
 IsRightFor payload (Dropped GivenUp) = ⊥
 IsRightFor payload (Dropped NoRoom) = Unit {0}
+
+-- a whole datagram is lent with no more than so many octets
+abbrev pub LendsWithin : ℕ → Assembled → Type 0
+LendsWithin octets (Whole whole) = length whole.octets.now ≤ octets
+LendsWithin octets Waiting = Unit {0}
+LendsWithin octets (Dropped loss) = Unit {0}

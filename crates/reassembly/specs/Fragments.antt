@@ -16,6 +16,10 @@ begin_of d = 8 * d.offset
 abbrev pub end_of : Datagram → ℕ
 end_of d = begin_of d + length d.payload
 
+-- it ends within so many octets of that payload
+abbrev pub ends_within : ℕ → Datagram → Bool
+ends_within octets d = nat_le (end_of d) octets
+
 -- the last fragment of a datagram tells where its payload ends
 abbrev pub is_last : Datagram → Bool
 is_last d = not d.more_fragments

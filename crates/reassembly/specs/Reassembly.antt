@@ -1,5 +1,5 @@
 -- A datagram that is being put together, and one fragment more (RFC 791 section 3.2).
-use Rattle.std.specs.Prelude.{◌≡◌, ℕ, ◌==◌, Bool, not, ◌&&◌, ◌||◌, nat_lt, nat_le, if◌then◌else◌, List, [], length, fold, Option, Some, None, unwrap_or}
+use Rattle.std.specs.Prelude.{◌≡◌, ℕ, ◌==◌, Bool, not, ◌&&◌, ◌||◌, nat_lt, nat_le, if◌then◌else◌, List, [], length, fold, replicate, Option, Some, None, unwrap_or}
 use Rattle.std.specs.Option.{option_or, option_map_or}
 use Rattle.ipv4.specs.Datagram.{Datagram}
 use Rattle.reassembly.specs.declared.key.Key.{Key}
@@ -8,7 +8,7 @@ use Rattle.clock.specs.Moments.{after}
 use Rattle.reassembly.specs.declared.assembled.Loss.TheVariants.{GivenUp}
 use Rattle.reassembly.specs.declared.assembled.Assembled.{Assembled}
 use Rattle.reassembly.specs.declared.assembled.Assembled.TheVariants.{Waiting, Whole, Dropped}
-use Rattle.reassembly.specs.Fragments.{key_of, begin_of, end_of, is_last, quote_of}
+use Rattle.reassembly.specs.Fragments.{key_of, begin_of, end_of, ends_within, is_last, quote_of}
 use Rattle.reassembly.specs.Octets.{laid, whole_of}
 
 pub record Reassembly : Type 0 where
@@ -22,6 +22,17 @@ pub record Reassembly : Type 0 where
   pub end : Option ℕ
   -- what an error message quotes: that of the fragment zero that came last
   pub quote : Option (List ℕ)
+
+-- the datagrams that are being put together
+pub record PoolView : Type 0 where
+  -- how many octets of payload a place has room for
+  pub octets : ℕ
+  -- the places, each free or with a datagram
+  pub places : List (Option Reassembly)
+
+-- so many places, all free, with room for so many octets each
+abbrev pub new_pool : ℕ → ℕ → PoolView
+new_pool places octets = record { octets = octets; places = replicate places None }
 
 -- the time for it runs out sixty seconds after its first fragment arrived, or at the end of the clock
 abbrev pub deadline_after : Moment → Moment
@@ -72,6 +83,10 @@ unfoldable pub outcome : Datagram → Reassembly → Outcome
 outcome d r =
     if conflicts d r.end (length r.octets) then GivesUp
     else let next = with_fragment r d in option_map_or (λ payload. Completes payload (quoted next.quote)) (whole_of next.end next.octets) (Waits next)
+
+-- in a place with room for so many octets: where the fragment ends past them, it is given up as well
+abbrev pub outcome_within : ℕ → Datagram → Reassembly → Outcome
+outcome_within octets d r = if ends_within octets d then outcome d r else GivesUp
 
 -- what stands in its place afterwards
 abbrev pub left : Outcome → Option Reassembly

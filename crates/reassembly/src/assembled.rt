@@ -26,11 +26,11 @@ pub struct Whole<'a> {
 /// Why a fragment is not kept.
 #[derive(Clone, Copy, PartialEq, Eq, Debug, Error)]
 pub enum Loss {
-    /// It is of a datagram of which nothing came before, and four others are being put together.
+    /// It is of a datagram of which nothing came before, and no place is free, or it ends past the room of a place.
     #[error("F9 NoRoom")]
     NoRoom,
-    /// It contradicts those that came before: it has an octet past the end, or tells another end. Its datagram is given up,
-    /// and the place is free again.
+    /// It ends past the room of its datagram's place, or contradicts those that came before: it has an octet past the end, or tells
+    /// another end. Its datagram is given up, and the place is free again.
     #[error("given up")]
     GivenUp,
 }

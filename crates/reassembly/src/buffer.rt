@@ -5,11 +5,11 @@ ghost use Rattle.ipv4.specs.declared.limits.TheConstants.{MAX_PAYLOAD};
 ghost use Rattle.reassembly.specs.Buffers.{over};
 ghost use Rattle.reassembly.specs.Octets.{reaching, put, laid, is_covered, filled};
 
-use ipv4::MAX_PAYLOAD;
 use std::alloc::{AllocError, Global};
 use std::marker::Model;
 
-/// The data buffer of a reassembly, with a flag for each octet (RFC 791 section 3.2). It takes memory where it is made alone.
+/// The data buffer of a reassembly, with a flag for each octet (RFC 791 section 3.2). It takes memory where it is made alone, and as
+/// many octets as it has room for then are its room.
 #[derive(Drop)]
 pub(crate) struct DataBuffer {
     octets: Vec<u8>,
@@ -21,24 +21,25 @@ pub(crate) struct DataBuffer {
 }
 
 impl Model for DataBuffer {
-    ghost use Rattle.std.specs.Prelude.{List, Option, ℕ, take};
-    ghost use Rattle.reassembly.specs.Buffers.{known, IsBuffer};
+    ghost use Rattle.std.specs.Prelude.{length, take};
+    ghost use Rattle.reassembly.specs.Buffers.{BufferView, known, IsBuffer};
 
-    ghost Value = { List (Option ℕ) };
+    ghost Value = { BufferView };
 
-    ghost view = { λ b. known (take b.reach b.octets.items) (take b.reach b.present.items) };
+    ghost view = { λ b. record { room = length b.octets.items; octets = known (take b.reach b.octets.items) (take b.reach b.present.items) } };
 
     ghost invariant = { λ b. IsBuffer b.octets.items b.present.items b.reach b.covered };
 }
 
 impl DataBuffer {
-    /// A buffer in which no octet stands.
-    pub(crate) fn new(alloc: Global) -> Result<DataBuffer, AllocError>
-        ensures { IfOk result (λ buffer. buffer ≡ []) }
+    /// A buffer with room for so many octets, in which none stands.
+    pub(crate) fn new(alloc: Global, room: usize) -> Result<DataBuffer, AllocError>
+        requires { room ≤ MAX_PAYLOAD }
+        ensures { IfOk result (λ buffer. buffer ≡ record { room = room; octets = [] }) }
     {
         Ok(DataBuffer {
-            octets: vec![in alloc; 0; MAX_PAYLOAD]?,
-            present: vec![in alloc; false; MAX_PAYLOAD]?,
+            octets: vec![in alloc; 0; room]?,
+            present: vec![in alloc; false; room]?,
             reach: 0,
             covered: 0,
         })
@@ -46,7 +47,7 @@ impl DataBuffer {
 
     /// Forgets its octets.
     pub(crate) fn clear(&mut self)
-        ensures { self.new ≡ [] }
+        ensures { self.new ≡ record self.old { octets = [] } }
     {
         self.reach = 0;
         self.covered = 0;
@@ -54,8 +55,9 @@ impl DataBuffer {
 
     /// Lays octets over those that stand there, from a place on.
     pub(crate) fn lay(&mut self, at: usize, new: &[u8])
-        requires { at + length new.now ≤ MAX_PAYLOAD }
-        ensures { self.new ≡ laid at new.now self.old }
+        requires longest { at + length new.now ≤ MAX_PAYLOAD }
+        requires room { at + length new.now ≤ self.old.room }
+        ensures { self.new ≡ record self.old { octets = laid at new.now self.old.octets } }
     {
         self.widen(at + new.len());
         self.put(at, new);
@@ -63,8 +65,8 @@ impl DataBuffer {
 
     /// Brings the places up to `end` into use, where they are not.
     fn widen(&mut self, end: usize)
-        requires { end ≤ MAX_PAYLOAD }
-        ensures { self.new ≡ reaching end self.old }
+        requires { end ≤ self.old.room }
+        ensures { self.new ≡ record self.old { octets = reaching end self.old.octets } }
     {
         if self.reach < end {
             mark(&mut self.present, self.reach, end, false);
@@ -74,9 +76,10 @@ impl DataBuffer {
 
     /// Puts octets at places that are in use.
     fn put(&mut self, at: usize, new: &[u8])
-        requires room { at + length new.now ≤ MAX_PAYLOAD }
-        requires in_use { at + length new.now ≤ length self.old }
-        ensures { self.new ≡ put at new.now self.old }
+        requires longest { at + length new.now ≤ MAX_PAYLOAD }
+        requires room { at + length new.now ≤ self.old.room }
+        requires in_use { at + length new.now ≤ length self.old.octets }
+        ensures { self.new ≡ record self.old { octets = put at new.now self.old.octets } }
     {
         let end = at + new.len();
         self.covered += missing(&self.present[at..end]);
@@ -84,9 +87,16 @@ impl DataBuffer {
         copy_to(&mut self.octets, at, new);
     }
 
+    /// How many octets there is room for.
+    pub(crate) fn room(&self) -> usize
+        ensures { result ≡ self.now.room }
+    {
+        self.octets.len()
+    }
+
     /// How many places are in use: up to the last octet that came.
     pub(crate) fn reach(&self) -> usize
-        ensures value { result ≡ length self.now }
+        ensures value { result ≡ length self.now.octets }
         ensures bound { result ≤ MAX_PAYLOAD }
     {
         self.reach
@@ -94,15 +104,15 @@ impl DataBuffer {
 
     /// Whether each of them has its octet.
     pub(crate) fn is_covered(&self) -> bool
-        ensures { result ≡ is_covered self.now }
+        ensures { result ≡ is_covered self.now.octets }
     {
         self.covered == self.reach
     }
 
     /// The octets.
     pub(crate) fn octets(&self) -> &[u8]
-        requires { IsTrue (is_covered self.now) }
-        ensures { result.now ≡ filled self.now }
+        requires { IsTrue (is_covered self.now.octets) }
+        ensures { result.now ≡ filled self.now.octets }
     {
         &self.octets[..self.reach]
     }

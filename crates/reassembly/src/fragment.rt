@@ -2,7 +2,7 @@
 
 ghost use Rattle.std.specs.Prelude.{◌≡◌, ◌≤◌};
 ghost use Rattle.ipv4.specs.declared.limits.TheConstants.{MAX_PAYLOAD};
-ghost use Rattle.reassembly.specs.Fragments.{begin_of, end_of};
+ghost use Rattle.reassembly.specs.Fragments.{begin_of, end_of, ends_within};
 ghost use Rattle.reassembly.specs.Reassembly.{conflicts};
 
 use ipv4::Ipv4View;
@@ -23,6 +23,13 @@ pub(crate) fn end(fragment: &Ipv4View) -> usize
     ensures bound { result ≤ MAX_PAYLOAD }
 {
     begin(fragment) + fragment.payload().len()
+}
+
+/// Whether it ends within so many octets.
+pub(crate) fn ends_within(fragment: &Ipv4View, octets: usize) -> bool
+    ensures { result ≡ ends_within octets fragment.now }
+{
+    end(fragment) <= octets
 }
 
 /// Whether it contradicts those that came before, of which the last tells this end, and which reach so far.

@@ -1,7 +1,8 @@
 //! What was gathered of a datagram that is being put together.
 
-ghost use Rattle.std.specs.Prelude.{◌≡◌, None, [], IfOk, IsTrue};
-ghost use Rattle.reassembly.specs.Fragments.{begin_of};
+ghost use Rattle.std.specs.Prelude.{◌≡◌, ◌≤◌, None, [], IfOk, IsTrue};
+ghost use Rattle.ipv4.specs.declared.limits.TheConstants.{MAX_PAYLOAD};
+ghost use Rattle.reassembly.specs.Fragments.{begin_of, end_of};
 ghost use Rattle.reassembly.specs.Octets.{laid, is_covered, filled};
 ghost use Rattle.reassembly.specs.Reassembly.{quote_after, quoted};
 
@@ -22,19 +23,20 @@ pub(crate) struct Gathered {
 }
 
 impl Gathered {
-    /// Nothing.
-    pub(crate) fn new(alloc: Global) -> Result<Gathered, AllocError>
-        ensures { IfOk result (λ gathered. gathered ≡ record { octets = []; quote = None }) }
+    /// Nothing, with room for so many octets.
+    pub(crate) fn new(alloc: Global, room: usize) -> Result<Gathered, AllocError>
+        requires { room ≤ MAX_PAYLOAD }
+        ensures { IfOk result (λ gathered. gathered ≡ record { octets = record { room = room; octets = [] }; quote = None }) }
     {
         Ok(Gathered {
-            octets: DataBuffer::new(alloc)?,
+            octets: DataBuffer::new(alloc, room)?,
             quote: None,
         })
     }
 
     /// Forgets what there was.
     pub(crate) fn clear(&mut self)
-        ensures { self.new ≡ record { octets = []; quote = None } }
+        ensures { self.new ≡ record { octets = record self.old.octets { octets = [] }; quote = None } }
     {
         self.octets.clear();
         self.quote = None;
@@ -43,7 +45,8 @@ impl Gathered {
     /// Lays a fragment's octets over those that stand there. Of a fragment zero it keeps what is quoted, in place of that of one
     /// that came before.
     pub(crate) fn add(&mut self, fragment: &Ipv4View)
-        ensures octets { self.new.octets ≡ laid (begin_of fragment.now) fragment.now.payload self.old.octets }
+        requires { end_of fragment.now ≤ self.old.octets.room }
+        ensures octets { self.new.octets ≡ record self.old.octets { octets = laid (begin_of fragment.now) fragment.now.payload self.old.octets.octets } }
         ensures quote { self.new.quote ≡ quote_after fragment.now self.old.quote }
     {
         self.octets
@@ -55,8 +58,8 @@ impl Gathered {
 
     /// Lends what makes a whole datagram.
     pub(crate) fn whole(&self) -> Whole<'_>
-        requires { IsTrue (is_covered self.now.octets) }
-        ensures octets { result.octets.now ≡ filled self.now.octets }
+        requires { IsTrue (is_covered self.now.octets.octets) }
+        ensures octets { result.octets.now ≡ filled self.now.octets.octets }
         ensures quote { result.quote.now ≡ quoted self.now.quote }
     {
         let quote: &[u8] = match &self.quote {
@@ -71,7 +74,8 @@ impl Gathered {
 
     /// Takes out what is quoted.
     pub(crate) fn take_quote(&mut self) -> Option<Quote>
-        ensures { result ≡ self.old.quote }
+        ensures quote { result ≡ self.old.quote }
+        ensures octets { self.new.octets ≡ self.old.octets }
     {
         self.quote.take()
     }

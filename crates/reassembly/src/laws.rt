@@ -1,24 +1,26 @@
 //! Laws of the definitions that the contracts of this crate cite: each is the contract of a function that does nothing.
 
-ghost use Rattle.std.specs.Prelude.{◌≡◌, ◌≢◌, ◌<◌, ◌≤◌, ◌↔◌, ◌++◌, ◌∷◌, ◌||◌, [], ℕ, List, All, length, nat_lt, true, false, Option, Some, None, IfSome, IsTrue, is_some, option_map, slice_index_or};
+ghost use Rattle.std.specs.Prelude.{◌≡◌, ◌≢◌, ◌<◌, ◌≤◌, ◌↔◌, ◌⊎◌, ◌++◌, ◌∷◌, ◌||◌, [], ℕ, List, All, if◌then◌else◌, length, nat_lt, true, false, Some, None, IfSome, IsTrue, is_some, option_map, slice_index_or};
 ghost use Rattle.std.specs.List.{Any};
-ghost use Rattle.ipv4.specs.Datagram.{Datagram};
+ghost use Rattle.ipv4.specs.Datagram.{Datagram, IsDatagram};
 ghost use Rattle.clock.specs.declared.moment.Moment.{Moment};
 ghost use Rattle.clock.specs.Moments.{after};
 ghost use Rattle.reassembly.specs.declared.finished.Finished.{Finished};
 ghost use Rattle.reassembly.specs.declared.key.Key.{Key};
 ghost use Rattle.reassembly.specs.declared.lately.TheConstants.{MOST_LATELY};
-ghost use Rattle.reassembly.specs.declared.pool.TheConstants.{PLACES};
+ghost use Rattle.reassembly.specs.declared.pool.TheConstants.{MOST_PLACES};
+ghost use Rattle.ipv4.specs.declared.limits.TheConstants.{MAX_PAYLOAD};
+ghost use Rattle.reassembly.specs.declared.assembled.Loss.TheVariants.{GivenUp, NoRoom};
 ghost use Rattle.reassembly.specs.declared.assembled.Assembled.{Assembled};
-ghost use Rattle.reassembly.specs.declared.assembled.Assembled.TheVariants.{Waiting};
-ghost use Rattle.reassembly.specs.Events.{Event, after_events, gathered, IsRight, IsRightFor};
-ghost use Rattle.reassembly.specs.Fragments.{key_of, latest, latest_quote, end_shown_by, is_contradictory, IsPayload};
+ghost use Rattle.reassembly.specs.declared.assembled.Assembled.TheVariants.{Dropped, Waiting};
+ghost use Rattle.reassembly.specs.Events.{Event, after_events, gathered, has_place, IsRight, IsRightFor, LendsWithin};
+ghost use Rattle.reassembly.specs.Fragments.{key_of, end_of, ends_within, latest, latest_quote, end_shown_by, is_contradictory, IsPayload};
 ghost use Rattle.reassembly.specs.Keys.{same_key};
 ghost use Rattle.reassembly.specs.Lately.{noted, was_whole, with_room};
 ghost use Rattle.reassembly.specs.Octets.{whole_of};
 ghost use Rattle.reassembly.specs.Parts.{ArePartsOf, CoverAll};
-ghost use Rattle.reassembly.specs.Places.{AnswersTake, LosesOldest, after_age, expired, next_deadline, place_for, without_oldest};
-ghost use Rattle.reassembly.specs.Reassembly.{Reassembly, begun, after_fragments, conflicts, deadline_of, outcome};
+ghost use Rattle.reassembly.specs.Places.{AnswersTake, LosesOldest, after_age, after_take, expired, fits, next_deadline, place_for, without_oldest};
+ghost use Rattle.reassembly.specs.Reassembly.{PoolView, Reassembly, begun, after_fragments, conflicts, deadline_of, outcome_within};
 ghost use Rattle.reassembly.specs.Reassembly.Outcome.{Waits, Completes, GivesUp};
 
 /// After some fragments the octet of each place is that of the last of them to arrive which covers it, and there is none where
@@ -46,34 +48,44 @@ pub fn whole_payload()
         → whole_of (after_fragments (begun now first) fragments).end (after_fragments (begun now first) fragments).octets ≡ Some payload }
 {}
 
-/// While no two fragments contradict each other, one more is given up with them exactly where it contradicts one of them: it has an
-/// octet past an end that was told, or it tells another end, or one before an octet that came (RFC 791 section 3.2).
+/// While no two fragments contradict each other, one more is given up with them exactly where it ends past the room of its place or
+/// contradicts one of them: it has an octet past an end that was told, or it tells another end, or one before an octet that came (RFC
+/// 791 section 3.2).
 pub fn given_up()
-    ensures { (now : Moment) (first : Datagram) (fragments : List Datagram) (d : Datagram)
+    ensures conflicts { (now : Moment) (first : Datagram) (fragments : List Datagram) (d : Datagram)
         → is_contradictory fragments ≡ false
         → conflicts d (after_fragments (begun now first) fragments).end (length (after_fragments (begun now first) fragments).octets)
         ≡ is_contradictory (fragments ++ d ∷ []) }
+    ensures given_up { (octets : ℕ) (now : Moment) (first : Datagram) (fragments : List Datagram) (d : Datagram)
+        → is_contradictory fragments ≡ false
+        → (outcome_within octets d (after_fragments (begun now first) fragments) ≡ GivesUp)
+        ↔ ((octets < end_of d) ⊎ (is_contradictory (fragments ++ d ∷ []) ≡ true)) }
 {}
 
 /// What becomes of a datagram with one fragment more, while no two of those before contradict each other: it is given up where this
-/// one contradicts one of them; else its payload is whole where all of them have one, and the last fragment zero of them is quoted;
-/// else it waits, with this one among its fragments (RFC 791 section 3.2, RFC 792).
+/// one ends past the room of its place or contradicts one of them; else its payload is whole where all of them have one, and the last
+/// fragment zero of them is quoted; else it waits, with this one among its fragments (RFC 791 section 3.2, RFC 792).
 pub fn one_more_fragment()
-    ensures given_up { (now : Moment) (first : Datagram) (fragments : List Datagram) (d : Datagram)
+    ensures too_long { (octets : ℕ) (now : Moment) (first : Datagram) (fragments : List Datagram) (d : Datagram)
+        → octets < end_of d
+        → outcome_within octets d (after_fragments (begun now first) fragments) ≡ GivesUp }
+    ensures given_up { (octets : ℕ) (now : Moment) (first : Datagram) (fragments : List Datagram) (d : Datagram)
         → is_contradictory fragments ≡ false
         → is_contradictory (fragments ++ d ∷ []) ≡ true
-        → outcome d (after_fragments (begun now first) fragments) ≡ GivesUp }
-    ensures whole { (now : Moment) (first : Datagram) (fragments : List Datagram) (d : Datagram) (payload : List ℕ) (quote : List ℕ)
+        → outcome_within octets d (after_fragments (begun now first) fragments) ≡ GivesUp }
+    ensures whole { (octets : ℕ) (now : Moment) (first : Datagram) (fragments : List Datagram) (d : Datagram) (payload : List ℕ) (quote : List ℕ)
+        → end_of d ≤ octets
         → is_contradictory fragments ≡ false
         → is_contradictory (fragments ++ d ∷ []) ≡ false
         → IsPayload (fragments ++ d ∷ []) payload
         → latest_quote (fragments ++ d ∷ []) ≡ Some quote
-        → outcome d (after_fragments (begun now first) fragments) ≡ Completes payload quote }
-    ensures waits { (now : Moment) (first : Datagram) (fragments : List Datagram) (d : Datagram)
+        → outcome_within octets d (after_fragments (begun now first) fragments) ≡ Completes payload quote }
+    ensures waits { (octets : ℕ) (now : Moment) (first : Datagram) (fragments : List Datagram) (d : Datagram)
+        → end_of d ≤ octets
         → is_contradictory fragments ≡ false
         → is_contradictory (fragments ++ d ∷ []) ≡ false
         → ((payload : List ℕ) → IsPayload (fragments ++ d ∷ []) payload → ⊥)
-        → outcome d (after_fragments (begun now first) fragments) ≡ Waits (after_fragments (begun now first) (fragments ++ d ∷ [])) }
+        → outcome_within octets d (after_fragments (begun now first) fragments) ≡ Waits (after_fragments (begun now first) (fragments ++ d ∷ [])) }
 {}
 
 /// After some fragments an error message quotes the last fragment zero that arrived, and there is nothing to quote where none did
@@ -100,21 +112,23 @@ pub fn parts_of_one_payload()
         → IsPayload fragments payload }
 {}
 
-/// So a datagram whose fragments are parts of one payload is put together right or not at all: with one more of them it waits, or
-/// that payload is whole; and it is whole where no part is missing (RFC 791 section 3.2).
+/// So a datagram whose fragments are parts of one payload is put together right or not at all: with one more of them, which ends within
+/// the room of its place, it waits, or that payload is whole; and it is whole where no part is missing (RFC 791 section 3.2).
 pub fn right_or_not_at_all()
-    ensures kept { (now : Moment) (first : Datagram) (fragments : List Datagram) (d : Datagram) (payload : List ℕ)
+    ensures kept { (octets : ℕ) (now : Moment) (first : Datagram) (fragments : List Datagram) (d : Datagram) (payload : List ℕ)
+        → end_of d ≤ octets
         → ArePartsOf payload (fragments ++ d ∷ [])
-        → outcome d (after_fragments (begun now first) fragments) ≢ GivesUp }
-    ensures right { (now : Moment) (first : Datagram) (fragments : List Datagram) (d : Datagram) (payload made quote : List ℕ)
+        → outcome_within octets d (after_fragments (begun now first) fragments) ≢ GivesUp }
+    ensures right { (octets : ℕ) (now : Moment) (first : Datagram) (fragments : List Datagram) (d : Datagram) (payload made quote : List ℕ)
         → ArePartsOf payload (fragments ++ d ∷ [])
-        → outcome d (after_fragments (begun now first) fragments) ≡ Completes made quote
+        → outcome_within octets d (after_fragments (begun now first) fragments) ≡ Completes made quote
         → made ≡ payload }
-    ensures whole { (now : Moment) (first : Datagram) (fragments : List Datagram) (d : Datagram) (payload quote : List ℕ)
+    ensures whole { (octets : ℕ) (now : Moment) (first : Datagram) (fragments : List Datagram) (d : Datagram) (payload quote : List ℕ)
+        → end_of d ≤ octets
         → ArePartsOf payload (fragments ++ d ∷ [])
         → CoverAll payload (fragments ++ d ∷ [])
         → latest_quote (fragments ++ d ∷ []) ≡ Some quote
-        → outcome d (after_fragments (begun now first) fragments) ≡ Completes payload quote }
+        → outcome_within octets d (after_fragments (begun now first) fragments) ≡ Completes payload quote }
 {}
 
 /// Whatever fragments come, the time of a datagram runs from the arrival of the first one, whose source, destination, protocol and
@@ -128,66 +142,91 @@ pub fn first_fragment_stays()
 /// place is taken. Before it `Pool::age` ends nothing and tells nothing, and from it on it ends some datagram (RFC 1122 section
 /// 3.3.2).
 pub fn next_is_least()
-    ensures none { (places : List (Option Reassembly)) → (next_deadline places ≡ None) ↔ All (λ place. place ≡ None) places }
-    ensures some { (places : List (Option Reassembly)) (next : Moment)
-        → next_deadline places ≡ Some next
-        → Any (λ place. option_map deadline_of place ≡ Some next) places }
-    ensures least { (places : List (Option Reassembly)) (next : Moment)
-        → next_deadline places ≡ Some next
-        → All (λ place. IfSome place (λ r. next.0 ≤ (deadline_of r).0)) places }
-    ensures before { (places : List (Option Reassembly)) (now : Moment)
-        → IfSome (next_deadline places) (λ next. now.0 < next.0)
-        → (after_age now places ≡ places) × (expired now places ≡ []) }
-    ensures reached { (places : List (Option Reassembly)) (now : Moment)
-        → IfSome (next_deadline places) (λ next. next.0 ≤ now.0 → after_age now places ≢ places) }
+    ensures none { (pool : PoolView) → (next_deadline pool ≡ None) ↔ All (λ place. place ≡ None) pool.places }
+    ensures some { (pool : PoolView) (next : Moment)
+        → next_deadline pool ≡ Some next
+        → Any (λ place. option_map deadline_of place ≡ Some next) pool.places }
+    ensures least { (pool : PoolView) (next : Moment)
+        → next_deadline pool ≡ Some next
+        → All (λ place. IfSome place (λ r. next.0 ≤ (deadline_of r).0)) pool.places }
+    ensures before { (pool : PoolView) (now : Moment)
+        → IfSome (next_deadline pool) (λ next. now.0 < next.0)
+        → (after_age now pool ≡ pool) × (expired now pool ≡ []) }
+    ensures reached { (pool : PoolView) (now : Moment)
+        → IfSome (next_deadline pool) (λ next. next.0 ≤ now.0 → after_age now pool ≢ pool) }
 {}
 
 /// Whatever fragments are taken and whatever moments are told, from a new pool on, no two places have one key.
 pub fn one_place_a_key()
-    ensures { (events : List Event) (i j : ℕ) (a b : Reassembly)
-        → slice_index_or (after_events events) i None ≡ Some a
-        → slice_index_or (after_events events) j None ≡ Some b
+    ensures { (places octets : ℕ) (events : List Event) (i j : ℕ) (a b : Reassembly)
+        → slice_index_or (after_events places octets events).places i None ≡ Some a
+        → slice_index_or (after_events places octets events).places j None ≡ Some b
         → same_key a.key b.key ≡ true
         → i ≡ j }
 {}
 
-/// Whatever was taken and told, from a new pool on, a fragment is answered by those that were taken with its key since this had no
-/// place last: as whole by their payload, with the quote of the last fragment zero of them (RFC 791 section 3.2, RFC 792).
+/// Whatever was taken and told, from a new pool on, a fragment that ends within the room of a place is answered by those that were taken
+/// with its key since this had no place last: as whole by their payload, with the quote of the last fragment zero of them (RFC 791
+/// section 3.2, RFC 792).
 pub fn answers_over_events()
-    ensures { (events : List Event) (now : Moment) (d : Datagram) (taken : Assembled)
-        → AnswersTake now d (after_events events) taken
-        → IsRight (gathered (key_of d) events ++ d ∷ []) taken }
+    ensures { (places octets : ℕ) (events : List Event) (now : Moment) (d : Datagram) (taken : Assembled)
+        → end_of d ≤ octets
+        → AnswersTake now d (after_events places octets events) taken
+        → IsRight (gathered places octets (key_of d) events ++ d ∷ []) taken }
 {}
 
 /// So where all of these are parts of one payload, in any order, some of them repeated or missing, it is put together right or not at
-/// all, whatever else is taken and told; and it no longer waits where no part is missing (RFC 791 section 3.2).
+/// all, where the one that is taken ends within the room of a place, whatever else is taken and told; and it no longer waits where no
+/// part is missing (RFC 791 section 3.2).
 pub fn parts_over_events()
-    ensures right { (events : List Event) (now : Moment) (d : Datagram) (taken : Assembled) (payload : List ℕ)
-        → AnswersTake now d (after_events events) taken
-        → ArePartsOf payload (gathered (key_of d) events ++ d ∷ [])
+    ensures right { (places octets : ℕ) (events : List Event) (now : Moment) (d : Datagram) (taken : Assembled) (payload : List ℕ)
+        → end_of d ≤ octets
+        → AnswersTake now d (after_events places octets events) taken
+        → ArePartsOf payload (gathered places octets (key_of d) events ++ d ∷ [])
         → IsRightFor payload taken }
-    ensures whole { (events : List Event) (now : Moment) (d : Datagram) (taken : Assembled) (payload : List ℕ)
-        → AnswersTake now d (after_events events) taken
-        → ArePartsOf payload (gathered (key_of d) events ++ d ∷ [])
-        → CoverAll payload (gathered (key_of d) events ++ d ∷ [])
+    ensures whole { (places octets : ℕ) (events : List Event) (now : Moment) (d : Datagram) (taken : Assembled) (payload : List ℕ)
+        → AnswersTake now d (after_events places octets events) taken
+        → ArePartsOf payload (gathered places octets (key_of d) events ++ d ∷ [])
+        → CoverAll payload (gathered places octets (key_of d) events ++ d ∷ [])
         → taken ≢ Waiting }
 {}
 
 /// A fragment alone never makes a datagram whole: what does so was never cut. So the fragment that makes a datagram whole always finds
 /// others of it in their place.
 pub fn a_fragment_alone_is_not_whole()
-    ensures { (now : Moment) (d : Datagram) (payload quote : List ℕ) → outcome d (begun now d) ≡ Completes payload quote
+    ensures { (octets : ℕ) (now : Moment) (d : Datagram) (payload quote : List ℕ) → outcome_within octets d (begun now d) ≡ Completes payload quote
         → (d.more_fragments ≡ false) × (d.offset ≡ 0) }
 {}
 
 /// What gives way is the oldest of them and none else: one place becomes free, of a datagram that began no later than any other, and of
-/// several of one moment it is the first place. Where none is put together nothing changes. And then there is a place for the fragments
-/// with any key.
+/// several of one moment it is the first place. Where none is put together nothing changes. And then there is a place for each fragment
+/// that a place has room for.
 pub fn the_oldest_gives_way()
-    ensures none { (places : List (Option Reassembly)) → All (λ place. place ≡ None) places → without_oldest places ≡ places }
-    ensures oldest { (places : List (Option Reassembly)) (i : ℕ) (r : Reassembly) → slice_index_or places i None ≡ Some r
-        → LosesOldest places (without_oldest places) }
-    ensures room { (places : List (Option Reassembly)) (key : Key) → 0 < length places → IsTrue (is_some (place_for key (without_oldest places))) }
+    ensures none { (pool : PoolView) → All (λ place. place ≡ None) pool.places → without_oldest pool ≡ pool }
+    ensures oldest { (pool : PoolView) (i : ℕ) (r : Reassembly) → slice_index_or pool.places i None ≡ Some r
+        → LosesOldest pool.places (without_oldest pool).places }
+    ensures room { (pool : PoolView) (d : Datagram) → IsTrue (fits pool d) → IsTrue (is_some (place_for d (without_oldest pool))) }
+{}
+
+/// A datagram that reaches past the room of a place is never put together. A fragment that ends there is not kept: its datagram is given
+/// up where it has a place, else it finds none. So its key has no place after it, and no whole datagram that is lent has more octets,
+/// whatever was taken and told, from a new pool on.
+pub fn none_past_the_room()
+    ensures refused { (now : Moment) (d : Datagram) (pool : PoolView) (taken : Assembled)
+        → pool.octets < end_of d
+        → AnswersTake now d pool taken
+        → taken ≡ Dropped (if has_place (key_of d) pool then GivenUp else NoRoom) }
+    ensures leaves { (places octets : ℕ) (events : List Event) (now : Moment) (d : Datagram)
+        → octets < end_of d
+        → has_place (key_of d) (after_take now d (after_events places octets events)) ≡ false }
+    ensures lent { (places octets : ℕ) (events : List Event) (now : Moment) (d : Datagram) (taken : Assembled)
+        → AnswersTake now d (after_events places octets events) taken
+        → LendsWithin octets taken }
+{}
+
+/// No fragment ends past the room of the largest places.
+pub fn the_largest_places_hold_every_fragment()
+    ensures { (d : Datagram) → IsDatagram d → IsTrue (ends_within MAX_PAYLOAD d) }
 {}
 
 /// A datagram counts as whole lately for a second from the moment on at which it was noted as whole, and not for longer; it is forgotten
@@ -200,8 +239,9 @@ pub fn whole_within_the_last_second()
     ensures few { (finished : List Finished) (key : Key) (since : Moment) → length finished ≤ 64 → length (noted key since finished) ≤ 64 }
 {}
 
-/// What the public constants are: a pool has four places, and 64 datagrams that were whole are known, which are this stack's own numbers.
+/// What the public constants are: a pool has at most 16 places, and 64 datagrams that were whole are known, which are this stack's own
+/// numbers.
 pub fn constants()
-    ensures places { PLACES ≡ 4 }
+    ensures places { MOST_PLACES ≡ 16 }
     ensures lately { MOST_LATELY ≡ 64 }
 {}

@@ -22,5 +22,5 @@ pub use fault::PoolFault;
 pub use finished::Finished;
 pub use key::Key;
 pub use lately::{Lately, MOST_LATELY};
-pub use pool::{PLACES, Pool};
+pub use pool::{MOST_PLACES, Pool};
 pub use quote::Quote;

@@ -1,8 +1,8 @@
 //! What is known of a datagram that is being put together.
 
-ghost use Rattle.std.specs.Prelude.{◌≡◌, [], None};
-ghost use Rattle.reassembly.specs.Inside.{seen};
-ghost use Rattle.reassembly.specs.Reassembly.{begun, deadline_after, is_over_after, end_after};
+ghost use Rattle.std.specs.Prelude.{◌≡◌, None};
+ghost use Rattle.reassembly.specs.Fragments.{key_of};
+ghost use Rattle.reassembly.specs.Reassembly.{deadline_after, is_over_after, end_after};
 
 use crate::fragment;
 use crate::key::Key;
@@ -25,7 +25,7 @@ pub(crate) struct Pending {
 impl Pending {
     /// A datagram that begins now with a fragment, before that is noted.
     pub(crate) fn new(now: Moment, fragment: &Ipv4View) -> Pending
-        ensures { seen (record { octets = []; quote = None }) result ≡ begun now fragment.now }
+        ensures { result ≡ record { key = key_of fragment.now; since = now; end = None } }
     {
         Pending {
             key: Key::of(fragment),

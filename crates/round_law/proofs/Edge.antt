@@ -142,4 +142,4 @@ over_all [] h all = all
 over_all (e ∷ rest) h all = over_all rest (table_after_event h e) (each_kept h e all)
 
 pub windows_end : (h : SocketsView) → IsReached h → EachEndsAtNumber h
-windows_end h reached = subst EachEndsAtNumber reached.is (over_all reached.events (new_sockets reached.addr reached.manner) tt)
+windows_end h reached = subst EachEndsAtNumber reached.is (over_all reached.events (new_sockets reached.addr reached.manner reached.sizes) tt)

@@ -123,7 +123,7 @@ module _ (h : HostView) (id : SocketId) (c : View) (now : Moment) (isn : ℕ) (s
   heard_view = after_event c (Event.Hears s moment)
 
   abbrev offered : List SocketId
-  offered = offered_with (is_offered_by (later_moment h.sockets moment) s x.role) id h.sockets.offered
+  offered = offered_with h.sockets.sizes.entries (is_offered_by (later_moment h.sockets moment) s x.role) id h.sockets.offered
 
   abbrev next : SocketsView
   next = record h.sockets { entries = alone.before ++ connected id heard_view None ∷ alone.behind; offered = offered }

@@ -1,5 +1,6 @@
 -- Why a minute at a quiet host is one of its connection, and leaves the way to the peer.
-use Rattle.std.proofs.Common.{◌≡◌, ◌≢◌, ◌+◌, ◌^◌, ◌<◌, nat_lt, true, false, List, ◌∷◌, Option, Some, None, is_some, arith, refl, sym, ◌∙◌, ap, subst, filter, length, []}
+use Rattle.host.proofs.Late.{expired-few}
+use Rattle.std.proofs.Common.{◌≡◌, ◌≢◌, ◌+◌, ◌^◌, ◌<◌, nat_lt, true, false, List, ◌∷◌, Option, Some, None, is_some, arith, refl, sym, ◌∙◌, ap, subst, filter, length, [], ◌≤◌}
 use Rattle.std.specs.List.{AllByRecursion}
 use Rattle.std.proofs.lemmas.Bool.{lt-ltb}
 use Rattle.clock.specs.declared.moment.Moment.{Moment}
@@ -35,7 +36,7 @@ use Rattle.round_law.specs.Exchange.{minute_past, after_minute}
 use Rattle.round_law.specs.Progress.{IsQuiet}
 use Rattle.round_law.proofs.Edge.{EndsAtNumber, windows_end}
 use Rattle.round_law.proofs.Found.{alone_there, none_waits}
-use Rattle.round_law.proofs.Reports.{IsReport, HasReported, reported_so}
+use Rattle.round_law.proofs.Reports.{IsReport, HasReported, reported_so, fewer}
 use Rattle.round_law.proofs.Retained.{all_back}
 use Rattle.round_law.proofs.Ticked.{ticked_alone}
 
@@ -98,12 +99,13 @@ module _ (h : HostView) (id : SocketId) (c : View) (mac : Mac) (quiet : IsQuiet 
   minute_kept = ap (later_moment h.sockets) at ∙ at
 
   -- what is reported waits then, and else the frame side is that after a tick
-  pub minute_reports : HasReported c.peer.addr (interface_after_tick h.interface later) (let g = after_minute h in g.interface)
+  pub minute_reports : HasReported c.peer.addr 16 (interface_after_tick h.interface later) (let g = after_minute h in g.interface)
   minute_reports =
       let i = interface_after_tick h.interface later in
       let none : i.replies ≡ [] = ap (λ (l : List Waiting). filter (stays h.interface later) l) (none_waits h id c mac quiet) in
-      subst (HasReported c.peer.addr i) (sym (ap (λ (m : Moment). all_reported m (interface_after_tick h.interface m) (expired m h.pool)) at))
-      (reported_so later c.peer.addr (expired later h.pool) i quiet.reports (subst (λ (l : List Waiting). AllByRecursion (IsReport c.peer.addr) l) (sym none) tt) (let len : length i.replies ≡ 0 = ap length none in omega (arith, len)))
+      let most : 0 + length (expired later h.pool) ≤ 16 = let sound = quiet.kept.sound in omega (arith, expired-few later h.pool.places, sound.pool) in
+      subst (HasReported c.peer.addr 16 i) (sym (ap (λ (m : Moment). all_reported m (interface_after_tick h.interface m) (expired m h.pool)) at))
+      (fewer 16 most (reported_so later c.peer.addr 0 (expired later h.pool) i quiet.reports (subst (λ (l : List Waiting). AllByRecursion (IsReport c.peer.addr) l) (sym none) tt) (let len : length i.replies ≡ 0 = ap length none in omega (arith, len))))
 
   pub minute_way : (let g = after_minute h in way g.interface g.sockets.kept c.peer.addr) ≡ To mac
   minute_way =

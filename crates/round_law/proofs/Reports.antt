@@ -1,8 +1,7 @@
 -- The reports of reassemblies that end with a minute: each goes out to the peer before all else, and is heard there as what changes nothing.
-use Rattle.std.proofs.Common.{◌≡◌, ℕ, ◌≤◌, ◌==◌, ◌&&◌, not, cond, Bool, true, false, List, [], ◌∷◌, length, take, position, Some, None, is_some, Ok, inl, inr, arith, refl, ◌∙◌, ap, subst, length-append}
+use Rattle.std.proofs.Common.{◌≡◌, ℕ, ◌≤◌, ◌&&◌, not, cond, Bool, true, false, List, [], ◌∷◌, length, take, position, Some, None, is_some, Ok, arith, refl, ◌∙◌, ap, subst, length-append, ◌+◌}
 use Rattle.std.specs.List.{AllByRecursion, slice_get, remove}
 use Rattle.std.proofs.lemmas.Bool.{lt-ltb}
-use Rattle.std.proofs.lemmas.Bool.Decides.{eqb_tells}
 use Rattle.clock.specs.declared.moment.Moment.{Moment}
 use Rattle.ether.specs.declared.mac.Mac.{Mac}
 use Rattle.ipv4.specs.declared.addr.Addr.{Addr}
@@ -23,7 +22,6 @@ use Rattle.interface.specs.Emission.{head_to, message_frame_to, reply_frame, fra
 use Rattle.interface.specs.Replies.{is_full, way_of, goes_out, is_due, queued}
 use Rattle.interface.specs.Sound.{IsSound, IsSoundError, IsSoundReply}
 use Rattle.interface.specs.Ways.{is_routed, way}
-use Rattle.tcp_halves.proofs.Choices.{clash, and_right, not_true}
 use Rattle.sockets.specs.SocketsView.{later_moment}
 use Rattle.host.specs.HostView.{HostView, with_interface}
 use Rattle.host.specs.Emission.{Emission, Replies, emission, emission_at, emission_len, emission_octets, after_emission, len_of, octets_of, left_by}
@@ -36,33 +34,34 @@ use Rattle.round_law.proofs.Retained.{all_parts}
 abbrev pub IsReport : Addr → Waiting → Type 0
 IsReport to r = (quoted : List ℕ) × (r.reply ≡ Error to ReassemblyTimeExceeded quoted)
 
--- Of the frame side only the replies that wait changed: they are reports to this address, 16 at most.
-pub record HasReported (to : Addr) (i j : InterfaceView) : Type 0 where
+-- Of the frame side only the replies that wait changed: they are reports to this address, so many at most.
+pub record HasReported (to : Addr) (most : ℕ) (i j : InterfaceView) : Type 0 where
   pub same : j ≡ record i { replies = j.replies }
   pub all : AllByRecursion (IsReport to) j.replies
-  pub few : length j.replies ≤ 16
+  pub few : length j.replies ≤ most
 
-one_reported : (moment : Moment) (to : Addr) (x : Expired) (i : InterfaceView) → x.key.source ≡ to → AllByRecursion (IsReport to) i.replies → length i.replies ≤ 16 → HasReported to i (reported moment i x)
-one_reported moment to x i source all few =
+pub fewer : {to : Addr} {n : ℕ} {i j : InterfaceView} (most : ℕ) → n ≤ most → HasReported to n i j → HasReported to most i j
+fewer most few r = record { same = r.same; all = r.all; few = omega (arith, few, r.few) }
+
+one_reported : (moment : Moment) (to : Addr) (most : ℕ) (x : Expired) (i : InterfaceView) → x.key.source ≡ to → AllByRecursion (IsReport to) i.replies → length i.replies ≤ most → HasReported to (most + 1) i (reported moment i x)
+one_reported moment to most x i source all few =
     by_room (is_routed i x.key.source && not (is_full i)) refl
   where
-    by_room : (b : Bool) → (is_routed i x.key.source && not (is_full i)) ≡ b → HasReported to i (cond b (queued moment (Error x.key.source ReassemblyTimeExceeded (take 68 x.quote)) i) i)
-    by_room false none = record { same = refl; all = all; few = few }
+    by_room : (b : Bool) → (is_routed i x.key.source && not (is_full i)) ≡ b → HasReported to (most + 1) i (cond b (queued moment (Error x.key.source ReassemblyTimeExceeded (take 68 x.quote)) i) i)
+    by_room false none = record { same = refl; all = all; few = omega (arith, few) }
     by_room true room =
-        let open_ : (length i.replies == 16) ≡ false = not_true (is_full i) (and_right (is_routed i x.key.source) (not (is_full i)) room) in
-        let apart : length i.replies ≡ 16 → ⊥ = elim (eqb_tells (length i.replies) 16) [ inl t ↦ clash (length i.replies == 16) t.0 open_ | inr t ↦ t.1 ] in
         record {
           same = refl;
           all = all_parts (IsReport to) i.replies (record { since = moment; reply = Error x.key.source ReassemblyTimeExceeded (take 68 x.quote) } ∷ []) all ((take 68 x.quote, ap (λ (a : Addr). Error a ReassemblyTimeExceeded (take 68 x.quote)) source), tt);
-          few = omega (arith, length-append i.replies (record { since = moment; reply = Error x.key.source ReassemblyTimeExceeded (take 68 x.quote) } ∷ []), few, apart);
+          few = omega (arith, length-append i.replies (record { since = moment; reply = Error x.key.source ReassemblyTimeExceeded (take 68 x.quote) } ∷ []), few);
         }
 
-pub reported_so : (moment : Moment) (to : Addr) (xs : List Expired) (i : InterfaceView) → AllByRecursion (λ (x : Expired). x.key.source ≡ to) xs → AllByRecursion (IsReport to) i.replies → length i.replies ≤ 16 → HasReported to i (all_reported moment i xs)
-reported_so moment to [] i from all few = record { same = refl; all = all; few = few }
-reported_so moment to (x ∷ xs) i from all few =
-    let one = one_reported moment to x i from.0 all few in
-    let more = reported_so moment to xs (reported moment i x) from.1 one.all one.few in
-    record { same = more.same ∙ ap (λ (k : InterfaceView). record k { replies = let j = all_reported moment (reported moment i x) xs in j.replies }) one.same; all = more.all; few = more.few }
+pub reported_so : (moment : Moment) (to : Addr) (most : ℕ) (xs : List Expired) (i : InterfaceView) → AllByRecursion (λ (x : Expired). x.key.source ≡ to) xs → AllByRecursion (IsReport to) i.replies → length i.replies ≤ most → HasReported to (most + length xs) i (all_reported moment i xs)
+reported_so moment to most [] i from all few = record { same = refl; all = all; few = omega (arith, few) }
+reported_so moment to most (x ∷ xs) i from all few =
+    let one = one_reported moment to most x i from.0 all few in
+    let more = reported_so moment to (most + 1) xs (reported moment i x) from.1 one.all one.few in
+    record { same = more.same ∙ ap (λ (k : InterfaceView). record k { replies = let j = all_reported moment (reported moment i x) xs in j.replies }) one.same; all = more.all; few = omega (arith, more.few) }
 
 -- A frame is heard, at this MAC and address, as a message from another address that changes nothing.
 abbrev pub Reports : Mac → Addr → Addr → List ℕ → Type 0

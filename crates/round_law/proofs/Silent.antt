@@ -13,7 +13,7 @@ use Rattle.tcp_state.specs.declared.state.State.{State}
 use Rattle.tcp_state.specs.declared.state.State.TheVariants.{Closed}
 use Rattle.tcp_state.specs.declared.emission.Due.{Due}
 use Rattle.tcp_state.specs.View.{View, IsSound, is_opening, is_syn_sent, is_closed, is_write_finished, awaits_fin_ack, end_of_wait, is_at_end}
-use Rattle.tcp_state.specs.Alive.{may_rest, end_of_silence, is_silent, unanswered_again, after_silence}
+use Rattle.tcp_state.specs.Alive.{may_rest, end_of_silence, is_silent, after_silence}
 use Rattle.tcp_state.specs.Timing.{KeepsTime, probes, clocked, expires, is_silent_for_good, gives_up, after_timers, after_tick, tick_fate}
 use Rattle.tcp_state.specs.New.{sends_new, sends_fin, waits_no_longer}
 use Rattle.tcp_state.specs.Hop.{unheard_until, end_of_hop_wait, hop_wait, after_hopless}

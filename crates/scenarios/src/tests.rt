@@ -32,6 +32,7 @@ mod scale;
 mod segments;
 mod selective;
 mod simultaneous;
+mod sizes;
 mod stations;
 mod tails;
 mod ways;

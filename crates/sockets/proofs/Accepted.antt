@@ -198,7 +198,7 @@ events_all h [] allowed holds all = all
 events_all h (e ∷ rest) allowed holds all = events_all (after_event h e) rest allowed.1 (event-holds h e allowed.0 holds) (event_all h e holds all)
 
 reached_all : (h : SocketsView) → IsReached h → AllByRecursion (λ (x : Entry). IsPast x.role) h.entries
-reached_all h r = subst (λ (w : SocketsView). AllByRecursion (λ (x : Entry). IsPast x.role) w.entries) r.is (events_all (new_sockets r.addr r.manner) r.events r.allowed (fresh-holds r.addr r.manner) tt)
+reached_all h r = subst (λ (w : SocketsView). AllByRecursion (λ (x : Entry). IsPast x.role) w.entries) r.is (events_all (new_sockets r.addr r.manner r.sizes) r.events r.allowed (fresh-holds r.addr r.manner r.sizes) tt)
 
 -- so no socket is half open
 pub socket_past : (h : SocketsView) → IsReached h → (id : SocketId) (role : Role) → role_of h id ≡ Some role → is_half_open role ≡ false

@@ -30,7 +30,7 @@ pub record IsTaker (h : SocketsView) (source : Addr) (s : Segment) (e : Entry) :
 abbrev pub after_taking : SocketsView → Moment → Addr → Segment → Entry → SocketsView
 after_taking h now source s e = record h {
   entries = entries_after_step (fate_of s e.role) (is_between (local_end h s) (peer_end source s)) (role_after_segment (later_moment h now) s) h.entries;
-  offered = offered_with (is_offered_by (later_moment h now) s e.role) e.id h.offered;
+  offered = offered_with h.sizes.entries (is_offered_by (later_moment h now) s e.role) e.id h.offered;
 }
 
 -- a segment that opens a connection where none is, and its listener

@@ -58,7 +58,7 @@ refusal-answered h now isn source s e found refused = rw (found, refused)
 
 -- .. or takes it
 pub taken : (h : SocketsView) (now : Moment) (isn : ℕ) (source : Addr) (s : Segment) (e : Entry) (r : Fate) → find (is_between (local_end h s) (peer_end source s)) h.entries ≡ Some e → fate_of s e.role ≡ r → (r ≡ Rejected → ⊥)
-    → arrival h now isn source s ≡ Becomes (record h { entries = entries_after_step r (is_between (local_end h s) (peer_end source s)) (role_after_segment (later_moment h now) s) h.entries; offered = offered_with (is_offered_by (later_moment h now) s e.role) e.id h.offered })
+    → arrival h now isn source s ≡ Becomes (record h { entries = entries_after_step r (is_between (local_end h s) (peer_end source s)) (role_after_segment (later_moment h now) s) h.entries; offered = offered_with h.sizes.entries (is_offered_by (later_moment h now) s e.role) e.id h.offered })
 taken h now isn source s e Stays found is other = at-connection h now isn source s e found ∙ ap (λ (r : Fate). arrival_at_connection h now source s e r) is
 taken h now isn source s e Removed found is other = at-connection h now isn source s e found ∙ ap (λ (r : Fate). arrival_at_connection h now source s e r) is
 taken h now isn source s e Rejected found is other = absurd (other refl)

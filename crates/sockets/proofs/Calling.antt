@@ -146,4 +146,4 @@ pub others_still : (h : SocketsView) (id other : SocketId) (change : Role → Ro
 others_still h id other change x found apart = found_still id other change h.entries x found apart
 
 pub same_besides : (h : SocketsView) (id : SocketId) (change : Role → Role) → IsSameBesides h (with_socket h id change)
-same_besides h id change = record { addr = refl; kept = refl; last_port = refl; last_id = refl; identification = refl; offered = refl }
+same_besides h id change = record { addr = refl; kept = refl; last_port = refl; last_id = refl; identification = refl; manner = refl; sizes = refl; offered = refl }

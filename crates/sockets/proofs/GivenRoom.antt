@@ -1,25 +1,23 @@
 -- What gives way leaves room.
-use Rattle.std.proofs.Common.{◌≡◌, ◌≢◌, ◌⊎◌, inl, inr, ℕ, ◌+◌, ◌^◌, ◌<◌, ◌≤◌, ◌==◌, ◌&&◌, ◌||◌, not, nat_le, Bool, true, false, cond, List, [], ◌∷◌, length, count_by, Option, Some, None, refl, sym, ◌∙◌, ap, subst, arith}
+use Rattle.std.proofs.Common.{◌≡◌, ◌≢◌, ◌⊎◌, inl, inr, ℕ, ◌+◌, ◌^◌, ◌<◌, ◌≤◌, ◌==◌, not, nat_le, Bool, true, false, List, [], ◌∷◌, length, count_by, Option, Some, None, refl, sym, ◌∙◌, ap, subst, arith}
 use Rattle.std.specs.List.{find}
-use Rattle.std.proofs.lemmas.Bool.{eqb-true, leb-true, leb-false}
-use Rattle.std.proofs.lemmas.Bool.Decides.{nat_tests}
+use Rattle.std.proofs.lemmas.Bool.{eqb-true, leb-true}
 use Rattle.ipv4.specs.declared.addr.Addr.{Addr}
 use Rattle.ipv4.specs.Addresses.{pair_of}
 use Rattle.tcp_segment.specs.Segment.{Segment}
 use Rattle.tcp_segment.specs.declared.head.Head.{Head}
 use Rattle.tcp_state.specs.Asking.{is_rejection}
-use Rattle.tcp_halves.proofs.Choices.{and_left, and_right, both}
+use Rattle.tcp_halves.proofs.Choices.{and_left, and_right}
 use Rattle.sockets.specs.declared.entry.SocketId.{SocketId}
 use Rattle.sockets.specs.declared.entry.Entry.{Entry}
 use Rattle.sockets.specs.declared.role.Role.{Role}
 use Rattle.sockets.specs.declared.role.Role.TheVariants.{Connected, Listener, Idle, Datagrams}
 use Rattle.sockets.specs.declared.needs.Need.{Need}
 use Rattle.sockets.specs.declared.needs.Need.TheVariants.{Backlog, Table, Memory, Reply}
-use Rattle.sockets.specs.declared.table.TheConstants.{ENTRIES}
 use Rattle.sockets.specs.Arrival.{is_opening, local_end, peer_end, pair_opened}
 use Rattle.sockets.specs.Calls.{is_table_full}
 use Rattle.sockets.specs.Entries.{is_between, is_listening_at, is_waiting_at, backlog_of, fate_of}
-use Rattle.sockets.specs.GiveWay.{may_give_way, gives_way, after_giving_way, gives_places, way_for, way_for_socket, IsOpenedAnew, IsForPlace, IsGivenFor, IsGivenForSocket}
+use Rattle.sockets.specs.GiveWay.{may_give_way, gives_way, after_giving_way, gives_places, way_for, way_for_socket, IsOpenedAnew, IsForPlace, IsGivenFor}
 use Rattle.sockets.specs.Ids.{has_id}
 use Rattle.sockets.specs.Lists.{remove_first}
 use Rattle.sockets.specs.Needs.{is_backlog_full, need, need_alone, need_at, need_of_answer}
@@ -30,7 +28,7 @@ use Rattle.sockets.specs.SocketsView.{SocketsView}
 use Rattle.sockets.proofs.Ends.{eqb-same}
 use Rattle.sockets.proofs.Followed.{by_test}
 use Rattle.sockets.proofs.GivenWay.{found_by_id, meant_by_id, longest_may, segment_given, socket_given}
-use Rattle.sockets.proofs.OfferCounts.{one, one-true, one-false, by_option, count-removed, count-found, all-found}
+use Rattle.sockets.proofs.OfferCounts.{one, one-true, by_option, count-removed, count-found, all-found}
 use Rattle.sockets.proofs.OfferHeld.{backlogs-kept, ready-offered}
 use Rattle.sockets.proofs.OneEvent.{ids_once}
 use Rattle.sockets.proofs.Opened.{found_passes}
@@ -86,11 +84,11 @@ module _ (h : SocketsView) (o : IsOrdered h) (x : Entry) (there : find (has_id x
   listener_stays : (port : ℕ) → find (is_listening_at port) left.entries ≡ find (is_listening_at port) h.entries
   listener_stays port = find_removed (gives_way (has_id x.id)) (is_listening_at port) h.entries x found (listens_nowhere port x may)
 
-  pub place_left : length h.entries ≤ 64 → (h.last_id + 1 == 2 ^ 64) ≡ false → is_table_full left ≡ false
+  pub place_left : length h.entries ≤ h.sizes.entries → (h.last_id + 1 == 2 ^ 64) ≡ false → is_table_full left ≡ false
   place_left few id =
-      let less : (length left.entries == ENTRIES) ≡ false = unequal (length left.entries) 64 (omega (arith, few, fewer)) in rw (less, id) refl
+      let less : (length left.entries == left.sizes.entries) ≡ false = unequal (length left.entries) left.sizes.entries (omega (arith, few, fewer)) in rw (less, id) refl
 
-  module _ (few : length h.entries ≤ 64) (id : (h.last_id + 1 == 2 ^ 64) ≡ false) (source : Addr) (s : Segment) (opens : is_opening s.flags ≡ true) (listener : Entry) (listens : find (is_listening_at s.destination) h.entries ≡ Some listener) where
+  module _ (few : length h.entries ≤ h.sizes.entries) (id : (h.last_id + 1 == 2 ^ 64) ≡ false) (source : Addr) (s : Segment) (opens : is_opening s.flags ≡ true) (listener : Entry) (listens : find (is_listening_at s.destination) h.entries ≡ Some listener) where
     roomy : find (is_between (local_end h s) (peer_end source s)) left.entries ≡ None → count_by (is_waiting_at listener.id) left.entries < backlog_of listener.role → need left source s ≡ Some Memory
     roomy none less =
         let at : find (is_listening_at s.destination) left.entries ≡ Some listener = listener_stays s.destination ∙ listens in
@@ -162,13 +160,13 @@ pub segment_placed : (h : SocketsView) (source : Addr) (s : Segment) (id : Socke
 segment_placed h source s id o reached way =
     let keeps : KeepsBacklogs h = backlogs-kept h reached in
     let offers : OffersReady h = ready-offered h reached in
-    let few : length h.entries ≤ 64 = offers.few in
+    let few : length h.entries ≤ h.sizes.entries = offers.few in
     let it = segment_given h source s id o way in
     let left_id = id_left h (gives_to h source s id way) in
     let g = it.2 in
     subst (λ (i : SocketId). need (after_giving_way h (has_id i)) source s ≡ Some Memory) it.1 (by_way keeps few it.0 g left_id g.which)
   where
-    by_way : KeepsBacklogs h → length h.entries ≤ 64 → (x : Entry) (g : IsGivenFor h source s x) → (h.last_id + 1 == 2 ^ 64) ≡ false → IsOpenedAnew h source s g.listener x ⊎ ((find (is_between (local_end h s) (peer_end source s)) h.entries ≡ None) × IsForPlace h g.listener x) → need (after_giving_way h (has_id x.id)) source s ≡ Some Memory
+    by_way : KeepsBacklogs h → length h.entries ≤ h.sizes.entries → (x : Entry) (g : IsGivenFor h source s x) → (h.last_id + 1 == 2 ^ 64) ≡ false → IsOpenedAnew h source s g.listener x ⊎ ((find (is_between (local_end h s) (peer_end source s)) h.entries ≡ None) × IsForPlace h g.listener x) → need (after_giving_way h (has_id x.id)) source s ≡ Some Memory
     by_way keeps few x g left_id (inr (none, place)) = placed h o x g.there g.may few left_id source s g.opens g.listener g.listens keeps none place
     by_way keeps few x g left_id (inl again) = anew h o x g.there g.may few left_id source s g.opens g.listener g.listens again
 

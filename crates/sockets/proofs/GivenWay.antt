@@ -1,38 +1,29 @@
 -- What gives way to another connection.
-use Rattle.std.proofs.Common.{◌≡◌, if◌then◌else◌, ◌⊎◌, inl, inr, ℕ, ◌+◌, ◌^◌, ◌<◌, ◌≤◌, ◌==◌, ◌&&◌, ◌||◌, not, nat_le, Bool, true, false, cond, List, [], ◌∷◌, length, count_by, Option, Some, None, option_map, is_some, refl, sym, ◌∙◌, ap, subst, arith}
+use Rattle.std.proofs.Common.{◌≡◌, if◌then◌else◌, ◌⊎◌, inl, inr, ℕ, ◌<◌, ◌≤◌, ◌==◌, ◌&&◌, not, Bool, true, false, List, [], ◌∷◌, length, count_by, Option, Some, None, is_some, refl, sym, ◌∙◌, ap, subst, arith}
 use Rattle.std.specs.List.{find, AllByRecursion}
 use Rattle.std.specs.Option.{option_or}
 use Rattle.std.proofs.lemmas.Bool.{eqb-true, leb-true, leb-false}
 use Rattle.clock.specs.declared.moment.Moment.{Moment}
 use Rattle.ipv4.specs.declared.addr.Addr.{Addr}
-use Rattle.ipv4.specs.declared.addr.Endpoint.{Endpoint}
 use Rattle.tcp_segment.specs.Segment.{Segment}
-use Rattle.tcp_state.specs.View.{View, is_syn_received}
+use Rattle.tcp_state.specs.View.{is_syn_received}
 use Rattle.tcp_state.specs.Way as of_connection
 use Rattle.tcp_halves.proofs.Choices.{and_left, and_right, both, or_left, or_right}
 use Rattle.sockets.specs.declared.entry.SocketId.{SocketId}
 use Rattle.sockets.specs.declared.entry.Entry.{Entry}
 use Rattle.sockets.specs.declared.role.Role.{Role}
 use Rattle.sockets.specs.declared.role.Role.TheVariants.{Connected, Listener, Idle, Datagrams}
-use Rattle.sockets.specs.declared.needs.Need.{Need}
-use Rattle.sockets.specs.declared.needs.Need.TheVariants.{Memory}
-use Rattle.sockets.specs.declared.table.TheConstants.{ENTRIES}
 use Rattle.sockets.specs.Arrival.{is_opening, local_end, peer_end}
-use Rattle.sockets.specs.Calls.{is_table_full}
-use Rattle.sockets.specs.Entries.{in_connection, is_between, is_half_open, is_listening_at, is_pending, is_waiting_at, backlog_of}
-use Rattle.sockets.specs.GiveWay.{is_unanswered_at, left_since, is_left_since, may_give_way, gives_way, after_giving_way, first_id, longest_left, longest_id, id_in_table, id_at, id_at_port, has_backlog_at, opens_anew, id_for, gives_places, way_for, way_for_socket, IsOldestUnanswered, IsLongestLeft, IsOpenedAnew, IsForPlace, IsGivenFor, IsGivenForSocket}
+use Rattle.sockets.specs.Entries.{is_between, is_half_open, is_listening_at, is_pending, is_waiting_at, backlog_of}
+use Rattle.sockets.specs.GiveWay.{is_unanswered_at, left_since, is_left_since, may_give_way, gives_way, first_id, longest_left, longest_id, id_at, id_at_port, has_backlog_at, opens_anew, id_for, gives_places, way_for, way_for_socket, IsOldestUnanswered, IsLongestLeft, IsForPlace, IsGivenFor, IsGivenForSocket}
 use Rattle.sockets.specs.Ids.{AreAscending, has_id}
-use Rattle.sockets.specs.Lists.{remove_first}
-use Rattle.sockets.specs.Needs.{is_backlog_full, need, need_at}
-use Rattle.sockets.specs.Offered.{KeepsBacklogs}
+use Rattle.sockets.specs.Needs.{is_backlog_full}
 use Rattle.sockets.specs.Order.{IsOrdered}
 use Rattle.sockets.specs.SocketsView.{SocketsView}
 use Rattle.sockets.proofs.Deadlines.{least}
 use Rattle.sockets.proofs.Ends.{eqb-same}
 use Rattle.sockets.proofs.Followed.{by_test}
-use Rattle.sockets.proofs.OfferCounts.{one, one-true, one-false, by_option, count-removed, count-found}
 use Rattle.sockets.proofs.Opened.{found_passes}
-use Rattle.sockets.proofs.OthersReady.{find_removed}
 use Rattle.sockets.proofs.Steps.{entry}
 
 -- Ids ascend: what is found first of its kind has the least id of it.
@@ -155,15 +146,15 @@ place_given h listener id o is =
     by_test (is_backlog_full h listener)
     (λ full. unanswered (inl (leb-true _ _ full)) (rw full at is))
     (λ few.
-    by_test (length h.entries == ENTRIES)
-    (λ all. either few (inr (eqb-true (length h.entries) 64 all)) (first_id U h.entries) refl (rw (few, all) at is))
+    by_test (length h.entries == h.sizes.entries)
+    (λ all. either few (inr (eqb-true (length h.entries) h.sizes.entries all)) (first_id U h.entries) refl (rw (few, all) at is))
     (λ less. let bad : None ≡ Some id = rw (few, less) at is in cc))
   where
     U : Entry → Bool
     U = is_unanswered_at listener.id
 
     Full : Type 0
-    Full = (backlog_of listener.role ≤ count_by (is_waiting_at listener.id) h.entries) ⊎ (length h.entries ≡ 64)
+    Full = (backlog_of listener.role ≤ count_by (is_waiting_at listener.id) h.entries) ⊎ (length h.entries ≡ h.sizes.entries)
 
     unanswered : Full → first_id U h.entries ≡ Some id → Place h listener id
     unanswered full first = let it = unanswered_found h listener.id id o first in (it.0, it.1, record { full = full; which = inl it.2 }, it.3, unanswered_may listener.id it.0 it.2.waits)
@@ -236,10 +227,10 @@ pub socket_given : (h : SocketsView) (id : SocketId) → IsOrdered h → way_for
 socket_given h id o way =
     by_test (gives_places h)
     (λ gives.
-    by_test (length h.entries == ENTRIES)
+    by_test (length h.entries == h.sizes.entries)
     (λ all.
     let it = longest_found h id o (rw (gives, all) at way) in
-    (it.0, it.1, record { guards = and_left h.manner.guards _ gives; full = eqb-true (length h.entries) 64 all; there = it.3; longest = it.2 }))
+    (it.0, it.1, record { guards = and_left h.manner.guards _ gives; full = eqb-true (length h.entries) h.sizes.entries all; there = it.3; longest = it.2 }))
     (λ less. let bad : None ≡ Some id = rw (gives, less) at way in cc))
     (λ none. let bad : None ≡ Some id = rw none at way in cc)
 

@@ -1,16 +1,17 @@
 -- Why every connection of the table leaves its peer a window.
-use Rattle.std.proofs.Common.{◌≡◌, ◌*◌, ◌≤◌, ◌||◌, Bool, true, false, if◌then◌else◌, [], Option, Some, None, option_map, refl, subst, arith}
+use Rattle.std.proofs.Common.{◌≡◌, ◌*◌, ◌≤◌, ◌||◌, ℕ, min, Bool, true, false, if◌then◌else◌, [], Option, Some, None, option_map, refl, subst, arith}
 use Rattle.std.specs.List.{find}
 use Rattle.ipv4.specs.declared.addr.Addr.{Addr}
 use Rattle.tcp_halves.specs.declared.buffers.Manner.{Manner}
 use Rattle.tcp_segment.specs.declared.TheConstants.{MSS}
-use Rattle.tcp_halves.specs.declared.buffers.TheConstants.{CAPACITY, LARGEST_CAPACITY}
+use Rattle.tcp_halves.specs.declared.buffers.TheConstants.{CAPACITY}
 use Rattle.tcp_halves.specs.Stream.{size_in, size_of, receive_window}
 use Rattle.tcp_state.specs.View.{View, is_opening, is_closed}
 use Rattle.tcp_state.specs.Due.{first_due}
 use Rattle.tcp_state.specs.Edges as edge
 use Rattle.tcp_state.specs.Progress as progress
 use Rattle.tcp_state.proofs.LeftWindows.{active_leaves, passive_leaves, event_leaves, quiet_leaves}
+use Rattle.sockets.specs.declared.sizes.Sizes.{Sizes}
 use Rattle.sockets.specs.declared.entry.Entry.{Entry}
 use Rattle.sockets.specs.declared.entry.SocketId.{SocketId}
 use Rattle.sockets.specs.declared.role.Role.TheVariants.{Connected}
@@ -26,13 +27,13 @@ use Rattle.sockets.proofs.OfferCounts.{all-found}
 use Rattle.sockets.proofs.Steps.{IsEventOf, comes_to_it, IsStepOf, stays, moves, binds, opens, accepted, IsJoining, made, made_datagrams, called, IsStepped, followed, joined, stepped}
 use Rattle.sockets.proofs.Timed.{all_left}
 
--- a host's buffers have room for three segments
-pub room_wide : (manner : Manner) → 3 * MSS ≤ size_of (room_of manner)
-room_wide manner = wide manner.scales
+-- buffers have room for three segments where a table's size has
+pub room_wide : (buffer : ℕ) (manner : Manner) → 3 * MSS ≤ buffer → 3 * MSS ≤ size_of (room_of buffer manner)
+room_wide buffer manner holds = wide manner.scales
   where
-    wide : (scales : Bool) → 3 * MSS ≤ size_in scales (if scales then LARGEST_CAPACITY else CAPACITY)
-    wide true = omega arith
-    wide false = omega arith
+    wide : (scales : Bool) → 3 * MSS ≤ size_in scales (if scales then buffer else min buffer CAPACITY)
+    wide true = holds
+    wide false = omega (arith, holds)
 
 -- an event of a connection brings no more octets than that of the table
 sized_of : (h : SocketsView) (x : Entry) (e : Event) (ev : edge.Event) → IsEventOf h x e ev → IsSized e → progress.IsSized ev
@@ -47,20 +48,20 @@ step_leaves h _ sized _ _ (opens now isn named peer routed id buffers bound loca
 step_leaves h _ sized _ _ (accepted named id c l next) sound leaves = leaves
 step_leaves h e sized _ _ _ sound leaves = tt
 
-joining_leaves : (h : SocketsView) (e : Event) → IsNumbered e → IsSized e → (x : Entry) → IsJoining h e x → LeavesAWindowIn x.role
-joining_leaves h _ small sized _ (made buffers) = sized
-joining_leaves h _ small sized _ made_datagrams = tt
-joining_leaves h _ small sized _ (called now isn source s listener call) = passive_leaves (room_for h s) (local_end h s) (peer_end source s) isn s (later_moment h now) small (room_wide (manner_with h s))
+joining_leaves : (h : SocketsView) (e : Event) → 3 * MSS ≤ h.sizes.buffer → IsNumbered e → IsSized e → (x : Entry) → IsJoining h e x → LeavesAWindowIn x.role
+joining_leaves h _ holds small sized _ (made buffers) = sized
+joining_leaves h _ holds small sized _ made_datagrams = tt
+joining_leaves h _ holds small sized _ (called now isn source s listener call) = passive_leaves (room_for h s) (local_end h s) (peer_end source s) isn s (later_moment h now) small (room_wide h.sizes.buffer (manner_with h s) holds)
 
-pub each_leaves : (h : SocketsView) (e : Event) → IsSoundTable h → IsNumbered e → IsSized e → EachLeavesAWindow h → EachLeavesAWindow (after_event h e)
-each_leaves h e sound small sized all = by_step (after_event h e) (stepped h e)
+pub each_leaves : (h : SocketsView) (e : Event) → IsSoundTable h → 3 * MSS ≤ h.sizes.buffer → IsNumbered e → IsSized e → EachLeavesAWindow h → EachLeavesAWindow (after_event h e)
+each_leaves h e sound holds small sized all = by_step (after_event h e) (stepped h e)
   where
     by_step : (w : SocketsView) → IsStepped h e w → EachLeavesAWindow w
     by_step w (followed f) = all_left (IsStepOf h e) (λ (x : Entry). IsSoundRole x.role) (λ (x : Entry). LeavesAWindowIn x.role) (step_leaves h e sized) h.entries w.entries f.entries sound.entries all
-    by_step _ (joined {x = x} j) = all_joined (λ (y : Entry). LeavesAWindowIn y.role) h.entries x all (joining_leaves h e small sized x j)
+    by_step _ (joined {x = x} j) = all_joined (λ (y : Entry). LeavesAWindowIn y.role) h.entries x all (joining_leaves h e holds small sized x j)
 
-pub fresh_leaves : (addr : Addr) (manner : Manner) → EachLeavesAWindow (new_sockets addr manner)
-fresh_leaves addr manner = tt
+pub fresh_leaves : (addr : Addr) (manner : Manner) (sizes : Sizes) → EachLeavesAWindow (new_sockets addr manner sizes)
+fresh_leaves addr manner sizes = tt
 
 -- a socket's connection is one of the table
 pub socket_leaves : (h : SocketsView) (id : SocketId) (c : View) (listener : Option SocketId) → EachLeavesAWindow h → role_of h id ≡ Some (Connected c listener)

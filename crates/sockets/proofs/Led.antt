@@ -2,6 +2,7 @@
 use Rattle.std.proofs.Common.{◌≡◌, List, [], ◌∷◌, ◌++◌, refl, sym, ◌∙◌, ap, subst}
 use Rattle.ipv4.specs.declared.addr.Addr.{Addr}
 use Rattle.tcp_halves.specs.declared.buffers.Manner.{Manner}
+use Rattle.sockets.specs.declared.sizes.Sizes.{Sizes}
 use Rattle.sockets.specs.Causes.{Event, after_event}
 use Rattle.sockets.specs.Offered.{AreAllowed, IsReached}
 use Rattle.sockets.specs.Order.{IsOrdered, IsAllowed}
@@ -20,7 +21,7 @@ kept_by : (P : SocketsView → Type 0) → ((h : SocketsView) (e : Event) → Is
 kept_by P each h [] allowed p = p
 kept_by P each h (e ∷ rest) allowed p = kept_by P each (after_event h e) rest allowed.1 (each h e allowed.0 p)
 
-kept_to : (P : SocketsView → Type 0) → ((h : SocketsView) (e : Event) → IsAllowed h e → P h → P (after_event h e)) → (h new : SocketsView) → LeadsTo h new → P h → P new
+pub kept_to : (P : SocketsView → Type 0) → ((h : SocketsView) (e : Event) → IsAllowed h e → P h → P (after_event h e)) → (h new : SocketsView) → LeadsTo h new → P h → P new
 kept_to P each h new leads p = subst P leads.2 (kept_by P each h leads.0 leads.1 p)
 
 -- nothing happened ..
@@ -45,17 +46,17 @@ led_on h between new first then =
     (first.0 ++ then.0, all.0, all.1 ∙ ap (λ (w : SocketsView). after_events w then.0) first.2 ∙ then.2)
 
 -- a table that is reached
-pub reached_by : (addr : Addr) (manner : Manner) (h : SocketsView) → LeadsTo (new_sockets addr manner) h → IsReached h
-reached_by addr manner h leads = record { addr = addr; manner = manner; events = leads.0; allowed = leads.1; is = leads.2 }
+pub reached_by : (addr : Addr) (manner : Manner) (sizes : Sizes) (h : SocketsView) → LeadsTo (new_sockets addr manner sizes) h → IsReached h
+reached_by addr manner sizes h leads = record { addr = addr; manner = manner; sizes = sizes; events = leads.0; allowed = leads.1; is = leads.2 }
 
 pub further : (h new : SocketsView) → LeadsTo h new → IsReached h → IsReached new
-further h new leads r = reached_by r.addr r.manner new (led_on (new_sockets r.addr r.manner) h new (r.events, r.allowed, r.is) leads)
+further h new leads r = reached_by r.addr r.manner r.sizes new (led_on (new_sockets r.addr r.manner r.sizes) h new (r.events, r.allowed, r.is) leads)
 
 pub reached_ordered : (h : SocketsView) → IsReached h → IsOrdered h
-reached_ordered h r = kept_to IsOrdered stays_ordered (new_sockets r.addr r.manner) h (r.events, r.allowed, r.is) (fresh_ordered r.addr r.manner)
+reached_ordered h r = kept_to IsOrdered stays_ordered (new_sockets r.addr r.manner r.sizes) h (r.events, r.allowed, r.is) (fresh_ordered r.addr r.manner r.sizes)
 
-pub fresh_over : (addr : Addr) (manner : Manner) → NoneIsOver (new_sockets addr manner)
-fresh_over addr manner = tt
+pub fresh_over : (addr : Addr) (manner : Manner) (sizes : Sizes) → NoneIsOver (new_sockets addr manner sizes)
+fresh_over addr manner sizes = tt
 
 pub reached_over : (h : SocketsView) → IsReached h → NoneIsOver h
-reached_over h r = kept_to NoneIsOver (λ w e allowed none. none_over w e none) (new_sockets r.addr r.manner) h (r.events, r.allowed, r.is) (fresh_over r.addr r.manner)
+reached_over h r = kept_to NoneIsOver (λ w e allowed none. none_over w e none) (new_sockets r.addr r.manner r.sizes) h (r.events, r.allowed, r.is) (fresh_over r.addr r.manner r.sizes)

@@ -33,6 +33,7 @@ pub mod Ordering
 pub mod Ordered
 pub mod Held
 pub mod Numbered
+pub mod Roomy
 pub mod Answered
 pub mod GivenUp
 pub mod OfferCounts
@@ -57,6 +58,7 @@ pub mod SoundTicks
 pub mod HopTicks
 pub mod Near
 pub mod Leaving
+pub mod Rooms
 pub mod Telling
 pub mod OneEvent
 pub mod EachOnce

@@ -26,6 +26,7 @@ use Rattle.tcp_state.proofs.Events.{by_event}
 use Rattle.tcp_state.proofs.Guarded.{heard_guard}
 use Rattle.tcp_state.proofs.Segments.{by_ack, by_fin, by_hearing}
 use Rattle.tcp_state.proofs.SetSoon.{soon, never}
+use Rattle.sockets.specs.declared.sizes.Sizes.{Sizes}
 use Rattle.sockets.specs.declared.entry.Entry.{Entry}
 use Rattle.sockets.specs.declared.role.Role.{Role}
 use Rattle.sockets.specs.declared.role.Role.TheVariants.{Idle, Listener, Connected, Datagrams}
@@ -203,8 +204,8 @@ each_near h e last sound up near = record { kept = moment_up_to h e last near.ke
     by_step w (followed f) = all_left (IsStepOf h e) (λ (x : Entry). IsSoundRole x.role) (λ (x : Entry). IsNearIn last x.role) (step_near h e last near.kept up) h.entries w.entries f.entries sound.entries near.each
     by_step _ (joined {x = x} j) = all_joined (λ (y : Entry). IsNearIn last y.role) h.entries x near.each (joining_near h e last near.kept up x j)
 
-pub fresh_near : (addr : Addr) (manner : Manner) (last : Moment) → AreNear last (new_sockets addr manner)
-fresh_near addr manner last = record { kept = omega arith; each = tt }
+pub fresh_near : (addr : Addr) (manner : Manner) (sizes : Sizes) (last : Moment) → AreNear last (new_sockets addr manner sizes)
+fresh_near addr manner sizes last = record { kept = omega arith; each = tt }
 
 pub led_near : (h : SocketsView) (events : List Event) (last : Moment) → AreSound h events → AllByRecursion (IsUpTo last) events → AreNear last h → AreNear last (after_events h events)
 led_near h [] last sound up near = near

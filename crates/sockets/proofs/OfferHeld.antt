@@ -5,7 +5,7 @@ use Rattle.std.proofs.lemmas.Bool.{eqb-false, ne_eqb, and_parts, and_from, and_r
 use Rattle.std.proofs.lemmas.Bool.Decides.{nat_tests}
 use Rattle.std.proofs.lemmas.List.{length-append}
 use Rattle.std.proofs.lemmas.List.Sums.{count_by-le-length}
-use Rattle.sockets.specs.declared.table.TheConstants.{ENTRIES}
+use Rattle.sockets.specs.declared.sizes.Sizes.{Sizes}
 use Rattle.sockets.specs.declared.entry.SocketId.{SocketId}
 use Rattle.sockets.specs.declared.entry.Entry.{Entry}
 use Rattle.sockets.specs.declared.role.Role.{Role}
@@ -37,7 +37,7 @@ IsPlainEntry e = IsPlain e.role
 pub record Holds (h : SocketsView) : Type 0 where
   pub ids : AreAscending 0 h.last_id h.entries
   pub plain : AllByRecursion IsPlainEntry h.entries
-  pub few : length h.entries ≤ ENTRIES
+  pub few : length h.entries ≤ h.sizes.entries
   pub unborn : (id : SocketId) → h.last_id < id.0 → count_by (is_waiting_at id) h.entries ≡ 0
   pub backlogs : KeepsBacklogs h
   pub each : (id : SocketId) → count_by (is_id id) h.offered ≡ count_by (is_ready_as id) h.entries
@@ -132,11 +132,11 @@ pub with-plain : (Step : Entry → Option Entry → Type 0) (xs ys : List Entry)
 with-plain Step xs ys plain f = follows_map Step (λ x o. IsPlainEntry x × Step x o) IsNothing IsNothing IsPlainEntry (λ zs none. none) (λ x o p s. (p, s)) xs ys plain f
 
 -- a table in which all wait where they waited, and those offered are those that are ready
-carried-over : (h w : SocketsView) → Holds h → w.last_id ≡ h.last_id → Follows IsCarried IsNothing h.entries w.entries → ((id : SocketId) → count_by (is_id id) w.offered ≡ count_by (is_ready_as id) w.entries) → Holds w
-carried-over h w holds last f each = record {
+carried-over : (h w : SocketsView) → Holds h → w.last_id ≡ h.last_id → w.sizes ≡ h.sizes → Follows IsCarried IsNothing h.entries w.entries → ((id : SocketId) → count_by (is_id id) w.offered ≡ count_by (is_ready_as id) w.entries) → Holds w
+carried-over h w holds last sizes f each = record {
   ids = rw last (ascends_followed IsCarried (λ x y s. s.0) 0 h.last_id h.entries w.entries f holds.ids);
   plain = all_followed Step IsPlainEntry (λ x y s p. (s.1.1 s.0).plain) h.entries w.entries steps holds.plain;
-  few = omega (arith, holds.few, no-longer IsCarried h.entries w.entries f);
+  few = rw sizes (omega (arith, holds.few, no-longer IsCarried h.entries w.entries f));
   unborn = λ id above. omega (arith, holds.unborn id (rw last at above), waiting id);
   backlogs = all_followed Step Fits (λ x y s room. subst (λ (i : SocketId). count_by (is_waiting_at i) w.entries ≤ backlog_of y.role) (sym s.1.0) (omega (arith, room, (s.1.1 s.0).backlog))) h.entries w.entries steps
       (all-mapped (λ (e : Entry). count_by (is_waiting_at e.id) h.entries ≤ backlog_of e.role) Fits (λ e room. omega (arith, room, waiting e.id)) h.entries holds.backlogs);
@@ -171,7 +171,7 @@ ready-left stays h ys holds f i =
     h.entries ys (with-plain (IsTurned stays) h.entries ys holds.plain f)
 
 still-holds : (h w : SocketsView) → Holds h → IsStill h w → Holds w
-still-holds h w holds s = carried-over h w holds s.last (carried-from all h w.entries holds s.follows) (λ i. rw s.offered (holds.each i ∙ sym (ready-left all h w.entries holds s.follows i)))
+still-holds h w holds s = carried-over h w holds s.last s.sizes (carried-from all h w.entries holds s.follows) (λ i. rw s.offered (holds.each i ∙ sym (ready-left all h w.entries holds s.follows i)))
 
 -- One passes SYN-RECEIVED.
 
@@ -192,10 +192,10 @@ room-left h test e holds found waking =
 
 -- so there is a place for it
 pub passed-offered : (h w : SocketsView) → Holds h → (p : IsPassed h w) → w.offered ≡ h.offered ++ p.e.id ∷ []
-passed-offered h w holds p = p.offered ∙ joins p.e.id h.offered (omega (arith, room-left h p.test p.e holds p.found p.waking, holds.few))
+passed-offered h w holds p = p.offered ∙ joins h.sizes.entries p.e.id h.offered (omega (arith, room-left h p.test p.e holds p.found p.waking, holds.few))
   where
-    joins : (id : SocketId) (ids : List SocketId) → length ids < ENTRIES → offered_with true id ids ≡ ids ++ id ∷ []
-    joins id ids short = rw (ne_eqb (length ids) ENTRIES (λ full. omega arith))
+    joins : (places : ℕ) (id : SocketId) (ids : List SocketId) → length ids < places → offered_with places true id ids ≡ ids ++ id ∷ []
+    joins places id ids short = rw (ne_eqb (length ids) places (λ full. omega arith))
 
 passed-each : (h w : SocketsView) → Holds h → IsPassed h w → (i : SocketId) → count_by (is_id i) w.offered ≡ count_by (is_ready_as i) w.entries
 unfolding one
@@ -295,7 +295,7 @@ joined-holds : (h w : SocketsView) → Holds h → IsJoined h w → Holds w
 joined-holds h w holds j = record {
   ids = rw (j.last, j.entries) (ascends_joined 0 h.last_id h.entries j.new j.id holds.ids);
   plain = rw j.entries (all_joined IsPlainEntry h.entries j.new holds.plain j.plain);
-  few = rw j.entries (simp length-append (omega (arith, holds.few, eqb-false (length h.entries) ENTRIES (or_parts _ _ j.place).0)));
+  few = rw (j.sizes, j.entries) (simp length-append (omega (arith, holds.few, eqb-false (length h.entries) h.sizes.entries (or_parts _ _ j.place).0)));
   unborn = λ id above. rw j.entries (let higher : h.last_id < id.0 = omega (arith, j.last) in omega (arith, joined id, holds.unborn id higher, nobody id higher));
   backlogs = rw j.entries (all_joined Fits h.entries j.new old new);
   each = λ i. rw (j.offered, j.entries) (omega (arith, holds.each i, count-joined (is_ready_as i) h.entries j.new, one-false (is_ready_as i j.new) (and_right (has_id i j.new) (is_ready j.new.role) j.ready)));
@@ -332,8 +332,8 @@ joined-holds h w holds j = record {
 -- Every table.
 
 -- it holds of a new table ..
-pub fresh-holds : (addr : Addr) (manner : Manner) → Holds (new_sockets addr manner)
-fresh-holds addr manner = record { ids = omega arith; plain = tt; few = omega arith; unborn = λ id above. refl; backlogs = tt; each = λ id. refl }
+pub fresh-holds : (addr : Addr) (manner : Manner) (sizes : Sizes) → Holds (new_sockets addr manner sizes)
+fresh-holds addr manner sizes = record { ids = omega arith; plain = tt; few = omega arith; unborn = λ id above. refl; backlogs = tt; each = λ id. refl }
 
 -- an event is a step of the table or two, in which those that stay wait nowhere else, or an entry joins
 pub by-steps : (P : SocketsView → Type 0) → ((h w : SocketsView) → Holds h → w.last_id ≡ h.last_id → Follows IsCarried IsNothing h.entries w.entries → P h → P w) → ((h w : SocketsView) → IsJoined h w → P h → P w)
@@ -349,9 +349,9 @@ by-steps P carried joined h w holds (Left g) p =
 by-outcome : (h w : SocketsView) → Holds h → Outcome h w → Holds w
 by-outcome h w holds (Joined j) = joined-holds h w holds j
 by-outcome h w holds (Still s) = still-holds h w holds s
-by-outcome h w holds (Passed p) = carried-over h w holds p.last p.follows (passed-each h w holds p)
-by-outcome h w holds (Taken t) = carried-over h w holds t.last t.follows (taken-each h w holds t)
-by-outcome h w holds (Left g) = let m = still-holds h g.between holds g.first in carried-over g.between w m g.last (carried-from (elsewhere g.listener) g.between w.entries m g.then_follows) (left-each h w g m)
+by-outcome h w holds (Passed p) = carried-over h w holds p.last p.sizes p.follows (passed-each h w holds p)
+by-outcome h w holds (Taken t) = carried-over h w holds t.last t.sizes t.follows (taken-each h w holds t)
+by-outcome h w holds (Left g) = let m = still-holds h g.between holds g.first in carried-over g.between w m g.last g.sizes (carried-from (elsewhere g.listener) g.between w.entries m g.then_follows) (left-each h w g m)
 
 pub event-holds : (h : SocketsView) (e : Event) → IsAllowed h e → Holds h → Holds (after_event h e)
 event-holds h e allowed holds = by-outcome h (after_event h e) holds (outcome h e allowed)
@@ -361,7 +361,7 @@ all-hold h [] allowed holds = holds
 all-hold h (e ∷ rest) allowed holds = all-hold (after_event h e) rest allowed.1 (event-holds h e allowed.0 holds)
 
 pub reached-holds : (h : SocketsView) → IsReached h → Holds h
-reached-holds h r = subst Holds r.is (all-hold (new_sockets r.addr r.manner) r.events r.allowed (fresh-holds r.addr r.manner))
+reached-holds h r = subst Holds r.is (all-hold (new_sockets r.addr r.manner r.sizes) r.events r.allowed (fresh-holds r.addr r.manner r.sizes))
 
 -- What becomes of those offered.
 

@@ -80,6 +80,7 @@ pub record IsJoined (h w : SocketsView) : Type 0 where
   pub new : Entry
   pub id : new.id.0 ≡ h.last_id + 1
   pub last : w.last_id ≡ h.last_id + 1
+  pub sizes : w.sizes ≡ h.sizes
   pub entries : w.entries ≡ h.entries ++ new ∷ []
   pub offered : w.offered ≡ h.offered
   pub place : is_table_full h ≡ false
@@ -90,25 +91,28 @@ pub record IsJoined (h w : SocketsView) : Type 0 where
 -- those that are there stay as they were
 pub record IsStill (h w : SocketsView) : Type 0 where
   pub last : w.last_id ≡ h.last_id
+  pub sizes : w.sizes ≡ h.sizes
   pub offered : w.offered ≡ h.offered
   pub follows : Follows IsCalm IsNothing h.entries w.entries
 
 -- one passes SYN-RECEIVED
 pub record IsPassed (h w : SocketsView) : Type 0 where
   pub last : w.last_id ≡ h.last_id
+  pub sizes : w.sizes ≡ h.sizes
   pub test : Entry → Bool
   pub change : Role → Role
   pub e : Entry
   pub found : find test h.entries ≡ Some e
   pub waking : is_waking e.role ≡ true
   pub ready : IsPlain e.role → is_ready (change e.role) ≡ true
-  pub offered : w.offered ≡ offered_with true e.id h.offered
+  pub offered : w.offered ≡ offered_with h.sizes.entries true e.id h.offered
   pub entries : w.entries ≡ change_first test (with_role change) h.entries
   pub follows : Follows IsCarried IsNothing h.entries w.entries
 
 -- one is accepted
 pub record IsTaken (h w : SocketsView) : Type 0 where
   pub last : w.last_id ≡ h.last_id
+  pub sizes : w.sizes ≡ h.sizes
   pub listener : SocketId
   pub id : SocketId
   pub next : next_offered h listener ≡ Some id
@@ -122,6 +126,7 @@ pub record IsLeft (h w : SocketsView) : Type 0 where
   pub between : SocketsView
   pub first : IsStill h between
   pub last : w.last_id ≡ between.last_id
+  pub sizes : w.sizes ≡ between.sizes
   pub then_follows : Follows (IsForsaken listener) IsNothing between.entries w.entries
   pub offered : w.offered ≡ filter (λ x. not (is_waiting_id between.entries listener x)) between.offered
 
@@ -143,11 +148,11 @@ carried : (x : Entry) → IsCarried x (Some x)
 carried x = (refl, λ p. (as-it-was x.role p).carries)
 
 -- nobody is offered who was not
-still : (h w : SocketsView) → w.last_id ≡ h.last_id → w.offered ≡ h.offered → Follows IsCalm IsNothing h.entries w.entries → Outcome h w
-still h w last offered follows = Still (record { last = last; offered = offered; follows = follows })
+still : (h w : SocketsView) → w.last_id ≡ h.last_id → w.sizes ≡ h.sizes → w.offered ≡ h.offered → Follows IsCalm IsNothing h.entries w.entries → Outcome h w
+still h w last sizes offered follows = Still (record { last = last; sizes = sizes; offered = offered; follows = follows })
 
 nothing-happens : (h : SocketsView) → Outcome h h
-nothing-happens h = still h h refl refl (as_it_was IsCalm IsNothing refl calm h.entries)
+nothing-happens h = still h h refl refl refl (as_it_was IsCalm IsNothing refl calm h.entries)
 
 -- the first that passes changes ..
 changed : (test : Entry → Bool) (change : Role → Role) (entries : List Entry) → ((x : Entry) → test x ≡ true → IsPlain x.role → StaysReady x.role (change x.role)) → Follows IsCalm IsNothing entries (change_first test (with_role change) entries)
@@ -155,7 +160,7 @@ changed test change entries stays = first_changed IsCalm IsNothing refl test (wi
 
 -- .. or a socket's connection does
 called : (h : SocketsView) (id : SocketId) (change : View → View) → Outcome h (with_socket h id (on_connection change))
-called h id change = still h _ refl refl (changed (is_socket id) (on_connection change) h.entries (λ x passes. socket-stays change x.role (and_right _ _ passes)))
+called h id change = still h _ refl refl refl (changed (is_socket id) (on_connection change) h.entries (λ x passes. socket-stays change x.role (and_right _ _ passes)))
 
 -- .. or goes on or goes, by what it is
 settled : (test : Entry → Bool) (fate : Role → Fate) (change : Role → Role) (entries : List Entry) (e : Entry) → find test entries ≡ Some e
@@ -184,25 +189,25 @@ bind-outcome h id local =
     by_result (port_bound h id local) (λ refusal given. rw given (nothing-happens h))
     (λ port given.
     let there : Endpoint = record { addr = local.addr; port = port } in
-    rw given (still h _ refl refl (changed (is_socket id) (role_after_bind there) h.entries (λ x passes. bound-stays there x.role))))
+    rw given (still h _ refl refl refl (changed (is_socket id) (role_after_bind there) h.entries (λ x passes. bound-stays there x.role))))
 
 connect-outcome : (h : SocketsView) (now : Moment) (isn : ℕ) (id : SocketId) (peer : Endpoint) (routed : Bool) → Outcome h (after_connect h now isn id peer routed)
 connect-outcome h now isn id peer routed =
     by_result (port_connected h id peer routed) (λ refusal given. rw given (nothing-happens h))
     (λ port given.
     let local : Endpoint = record { addr = h.addr; port = port } in
-    rw given (still h _ refl refl (changed (is_socket id) (role_after_connect local peer isn (later_moment h now)) h.entries (λ x passes. connecting-stays local peer isn (later_moment h now) x.role))))
+    rw given (still h _ refl refl refl (changed (is_socket id) (role_after_connect local peer isn (later_moment h now)) h.entries (λ x passes. connecting-stays local peer isn (later_moment h now) x.role))))
 
 sendto-outcome : (h : SocketsView) (id : SocketId) (peer : Endpoint) (octets : List ℕ) (routed : Bool) → Outcome h (after_sendto h id peer octets routed)
 sendto-outcome h id peer octets routed =
     by_result (end_sent_from h id peer octets routed) (λ refusal given. rw given (nothing-happens h))
-    (λ local given. rw given (still h _ refl refl (changed (is_socket id) (on_datagrams _ _) h.entries (λ x passes. queued-stays _ _ x.role))))
+    (λ local given. rw given (still h _ refl refl refl (changed (is_socket id) (on_datagrams _ _) h.entries (λ x passes. queued-stays _ _ x.role))))
 
 datagram-outcome : (h : SocketsView) (source : Addr) (d : UserDatagram) → Outcome h (after_reception h source d)
 datagram-outcome h source d = by_reception (reception h d) refl
   where
     by_reception : (r : Reception) → reception h d ≡ r → Outcome h (after_reception h source d)
-    by_reception Queued given = rw given (still h _ refl refl (changed (is_datagrams_at d.destination) (on_datagrams _ _) h.entries (λ x passes. queued-stays _ _ x.role)))
+    by_reception Queued given = rw given (still h _ refl refl refl (changed (is_datagrams_at d.destination) (on_datagrams _ _) h.entries (λ x passes. queued-stays _ _ x.role)))
     by_reception _ given = rw given (nothing-happens h)
 
 emission-outcome : (h : SocketsView) (goes : Addr → Bool) (now : Moment) → Outcome h (after_segment_sent h goes now)
@@ -213,13 +218,13 @@ emission-outcome h goes now =
     let due = found_due h goes e found in
     let what : Outgoing = due.0.1 in
     subst (Outcome h) (sym (segment_sent-found h goes now e due.0 found due.1))
-    (still h _ refl refl (settled (sends goes) (λ r. emission_fate_of (role_after_emission later what r)) (role_after_emission later what) h.entries e found
+    (still h _ refl refl refl (settled (sends goes) (λ r. emission_fate_of (role_after_emission later what r)) (role_after_emission later what) h.entries e found
     (λ x passes kept same. emission-stays later what x.role) (λ x passes gone. emission-gone later what x.role gone))))
 
 error-outcome : (h : SocketsView) (local peer : Endpoint) (number : ℕ) → Outcome h (after_unreachable h local peer number)
 error-outcome h local peer number =
     by_option (find (is_between local peer) h.entries) (λ none. rw none (nothing-happens h))
-    (λ e found. rw found (still h _ refl refl (settled (is_between local peer) (unreachable_fate_of number) (role_after_unreachable number) h.entries e found
+    (λ e found. rw found (still h _ refl refl refl (settled (is_between local peer) (unreachable_fate_of number) (role_after_unreachable number) h.entries e found
     (λ x passes kept same. told-stays number x.role) (λ x passes gone. told-gone number x.role gone))))
 
 -- Accepting.
@@ -227,10 +232,11 @@ error-outcome h local peer number =
 accept-outcome : (h : SocketsView) (id : SocketId) → Outcome h (after_accept h id)
 accept-outcome h id =
     by_option (next_offered h id)
-    (λ none. still h _ refl (unremoved (is_waiting_id h.entries id) h.offered none)
+    (λ none. still h _ refl refl (unremoved (is_waiting_id h.entries id) h.offered none)
     (first_changed IsCalm IsNothing refl (is_next_at h id) (with_role role_after_accept) h.entries calm (λ y passes found. let nobody = next-none h id none in cc)))
     (λ x next. Taken (record {
       last = refl;
+      sizes = refl;
       listener = id;
       id = x;
       next = next;
@@ -248,9 +254,10 @@ accept-outcome h id =
 -- the socket itself goes, or its connection goes on without it
 socket-left : (h : SocketsView) (how : Leave) (id : SocketId) → IsStill h (after_socket_left h how id)
 socket-left h how id =
-    by_option (find (is_socket id) h.entries) (λ none. rw none (record { last = refl; offered = refl; follows = as_it_was IsCalm IsNothing refl calm h.entries }))
+    by_option (find (is_socket id) h.entries) (λ none. rw none (record { last = refl; sizes = refl; offered = refl; follows = as_it_was IsCalm IsNothing refl calm h.entries }))
     (λ e found. rw found (record {
       last = refl;
+      sizes = refl;
       offered = refl;
       follows = settled (is_socket id) (leaving_fate_of how h.kept) (role_after_leaving how h.kept) h.entries e found
           (λ x passes kept same. socket-stays (λ c. edge.after_event c (leaving_event how h.kept c)) x.role (and_right _ _ passes)) (λ x passes gone. socket-unready x.role (and_right _ _ passes));
@@ -264,6 +271,7 @@ leaving-outcome h how id =
       between = alone;
       first = socket-left h how id;
       last = refl;
+      sizes = refl;
       then_follows = each_followed (IsForsaken id) IsNothing refl (λ x. is_kept (listener_close_fate_of id x.role)) (with_role (role_after_listener_close h.kept id)) alone.entries
           (λ x kept. (refl, forsaken-withdrawn h.kept id x.role kept)) (λ x gone p. rw (forsaken-gone id x.role gone));
       offered = refl;
@@ -282,6 +290,7 @@ opening-outcome h now isn listener source s found place =
       new = new_waiting (record { 0 = h.last_id + 1 }) listener.id (opened_passively (room_for h s) (local_end h s) (peer_end source s) isn s now);
       id = refl;
       last = refl;
+      sizes = refl;
       entries = refl;
       offered = refl;
       place = parts.1;
@@ -302,7 +311,7 @@ taking-outcome h now source s e taker = by_test (is_offered_by moment s e.role) 
     test = is_between (local_end h s) (peer_end source s)
 
     quiet : is_offered_by moment s e.role ≡ false → Outcome h (after_taking h now source s e)
-    quiet none = still h _ refl (rw none) (settled test (fate_of s) (role_after_segment moment s) h.entries e taker.found
+    quiet none = still h _ refl refl (rw none) (settled test (fate_of s) (role_after_segment moment s) h.entries e taker.found
         (λ x passes kept same. heard-stays moment s (local_end h s) (peer_end source s) x.role passes kept (ap (λ (y : Entry). is_offered_by moment s y.role) same ∙ none)) (λ x passes gone. heard-gone s x.role gone))
 
     passed : is_offered_by moment s e.role ≡ true → Outcome h (after_taking h now source s e)
@@ -310,13 +319,14 @@ taking-outcome h now source s e taker = by_test (is_offered_by moment s e.role) 
         let list : entries_after_step (fate_of s e.role) test (role_after_segment moment s) h.entries ≡ change_first test (with_role (role_after_segment moment s)) h.entries = rw (offered-kept moment s e.role offered) in
         Passed (record {
           last = refl;
+          sizes = refl;
           test = test;
           change = role_after_segment moment s;
           e = e;
           found = taker.found;
           waking = offered-waking moment s e.role offered;
           ready = offered-ready moment s (local_end h s) (peer_end source s) e.role (found_passes test h.entries e taker.found) offered;
-          offered = ap (λ (b : Bool). offered_with b e.id h.offered) offered;
+          offered = ap (λ (b : Bool). offered_with h.sizes.entries b e.id h.offered) offered;
           entries = list;
           follows = subst (λ (ws : List Entry). Follows IsCarried IsNothing h.entries ws) (sym list)
               (first_changed IsCarried IsNothing refl test (with_role (role_after_segment moment s)) h.entries carried (λ x passes at. (refl, heard-carries moment s (local_end h s) (peer_end source s) x.role passes)));
@@ -328,10 +338,10 @@ segment-outcome h now isn source s =
     (λ listener called full. nothing-happens h) (λ listener called room. opening-outcome h (later_moment h now) isn listener source s called.found room)
 
 pub outcome : (h : SocketsView) (e : Event) → IsAllowed h e → Outcome h (after_event h e)
-outcome h (Makes buffers) allowed = Joined (record { new = new_socket (record { 0 = h.last_id + 1 }) buffers; id = refl; last = refl; entries = refl; offered = refl; place = allowed; plain = tt; ready = refl; room = λ id w. cc })
-outcome h MakesDatagrams allowed = Joined (record { new = new_datagram_socket (record { 0 = h.last_id + 1 }); id = refl; last = refl; entries = refl; offered = refl; place = allowed; plain = tt; ready = refl; room = λ id w. cc })
+outcome h (Makes buffers) allowed = Joined (record { new = new_socket (record { 0 = h.last_id + 1 }) buffers; id = refl; last = refl; sizes = refl; entries = refl; offered = refl; place = allowed.0; plain = tt; ready = refl; room = λ id w. cc })
+outcome h MakesDatagrams allowed = Joined (record { new = new_datagram_socket (record { 0 = h.last_id + 1 }); id = refl; last = refl; sizes = refl; entries = refl; offered = refl; place = allowed; plain = tt; ready = refl; room = λ id w. cc })
 outcome h (Binds id local) allowed = bind-outcome h id local
-outcome h (Listens id backlog) allowed = still h _ refl refl (changed (is_socket id) (role_after_listen backlog) h.entries (λ x passes. listening-stays backlog x.role))
+outcome h (Listens id backlog) allowed = still h _ refl refl refl (changed (is_socket id) (role_after_listen backlog) h.entries (λ x passes. listening-stays backlog x.role))
 outcome h (Accepts id) allowed = accept-outcome h id
 outcome h (Connects now isn id peer routed) allowed = connect-outcome h now isn id peer routed
 outcome h (Sends id octets) allowed = called h id _
@@ -340,13 +350,13 @@ outcome h (Shuts id) allowed = called h id _
 outcome h (SetsNoDelay id on) allowed = called h id _
 outcome h (SetsKeepAlive id every) allowed = called h id _
 outcome h (Leaves how id) allowed = leaving-outcome h how id
-outcome h (Ticks now) allowed = let later = later_moment h now in still h _ refl refl (all-settled (tick_fate_of later) (role_after_tick later) h.entries (tick-stays later) (tick-gone later))
+outcome h (Ticks now) allowed = let later = later_moment h now in still h _ refl refl refl (all-settled (tick_fate_of later) (role_after_tick later) h.entries (tick-stays later) (tick-gone later))
 outcome h (Hears now isn source s) allowed = segment-outcome h now isn source s
 outcome h (Emits goes now) allowed = emission-outcome h goes now
 outcome h (GivesUp lost now) allowed =
-    let later = later_moment h now in still h _ refl refl (all-settled (give_up_fate_of lost later) (role_after_giving_up lost later) h.entries (give_up-stays lost later) (give_up-gone lost later))
-outcome h (GivesWay meant) allowed = still h _ refl refl (settled_followed IsCalm IsNothing refl Removed (gives_way meant) (λ r. r) h.entries calm (λ kept x passes at. cc) (λ gone x passes at. give_way-gone x.id x.role (and_right (meant x) _ passes)))
+    let later = later_moment h now in still h _ refl refl refl (all-settled (give_up_fate_of lost later) (role_after_giving_up lost later) h.entries (give_up-stays lost later) (give_up-gone lost later))
+outcome h (GivesWay meant) allowed = still h _ refl refl refl (settled_followed IsCalm IsNothing refl Removed (gives_way meant) (λ r. r) h.entries calm (λ kept x passes at. cc) (λ gone x passes at. give_way-gone x.id x.role (and_right (meant x) _ passes)))
 outcome h (Unreachable local peer number) allowed = error-outcome h local peer number
 outcome h (SendsTo id peer octets routed) allowed = sendto-outcome h id peer octets routed
-outcome h (ReceivesFrom id len) allowed = still h _ refl refl (changed (is_socket id) (on_datagrams _ _) h.entries (λ x passes. queued-stays _ _ x.role))
+outcome h (ReceivesFrom id len) allowed = still h _ refl refl refl (changed (is_socket id) (on_datagrams _ _) h.entries (λ x passes. queued-stays _ _ x.role))
 outcome h (HearsDatagram source d) allowed = datagram-outcome h source d

@@ -11,6 +11,7 @@ use Rattle.udp_socket.specs.SocketView.{SocketView as Queues, with_sent}
 use Rattle.tcp_segment.specs.Segment.{Segment}
 use Rattle.tcp_state.specs.Arrival.{opened_passively}
 use Rattle.tcp_state.proofs.Causes.{not_true}
+use Rattle.sockets.specs.declared.sizes.Sizes.{Sizes}
 use Rattle.sockets.specs.declared.refusal.Refusal.{Refusal}
 use Rattle.sockets.specs.declared.refusal.Refusal.TheVariants.{EBADF, EINVAL}
 use Rattle.sockets.specs.declared.entry.SocketId.{SocketId}
@@ -38,8 +39,8 @@ use Rattle.sockets.proofs.Steps.{IsStepOf, stays, moves, ends, binds, listens, o
 use Rattle.sockets.proofs.KeptEnds.{keeps-nothing, keeps-event}
 use Rattle.sockets.proofs.Ordering.{IsBound, Keeps, keeps_role, keeps_connection, keeps_queues, nowhere, no_port, ordered_by, ordered_still, count_changed, count_joined, count_unfound, count_none}
 
-pub fresh_ordered : (addr : Addr) (manner : Manner) → IsOrdered (new_sockets addr manner)
-fresh_ordered addr manner = record { ids = omega arith; ends = λ local peer. omega arith; ports = λ port. omega arith; datagram_ports = λ port. omega arith; own = tt; last_port = record { from_first = omega arith; to_last = omega arith } }
+pub fresh_ordered : (addr : Addr) (manner : Manner) (sizes : Sizes) → IsOrdered (new_sockets addr manner sizes)
+fresh_ordered addr manner sizes = record { ids = omega arith; ends = λ local peer. omega arith; ports = λ port. omega arith; datagram_ports = λ port. omega arith; own = tt; last_port = record { from_first = omega arith; to_last = omega arith } }
 
 -- What an event makes of an entry that takes no end and no port.
 

@@ -21,7 +21,6 @@ use Rattle.sockets.specs.declared.entry.Entry.{Entry}
 use Rattle.sockets.specs.declared.refusal.Refusal.TheVariants.{EBADF}
 use Rattle.sockets.specs.declared.role.Role.{Role}
 use Rattle.sockets.specs.declared.role.Role.TheVariants.{Idle, Listener, Connected, Datagrams}
-use Rattle.sockets.specs.declared.table.TheConstants.{ENTRIES}
 use Rattle.sockets.specs.Arrival.{offered_with, arrival, arrival_with_reply, local_end, peer_end, after_opening}
 use Rattle.sockets.specs.Calls.{of_socket, next_offered}
 use Rattle.sockets.specs.Causes.{after_arrival}
@@ -210,16 +209,16 @@ module _ (h : SocketsView) (local peer : Endpoint) (f : View → View) (keeps : 
     waiting_alike : is_waiting_id (entries_after_step fate (is_between local peer) (on_connection f) h.entries) id ≡ is_waiting_id h.entries id
     waiting_alike = fun_ext (λ x. anys (is_waiting_as id x) (ap (λ (b : Bool). (e.id.0 == x.0) && b) its.waits ∙ and_false (e.id.0 == x.0)) (ap (λ (b : Bool). (e.id.0 == x.0) && b) its.waits_after ∙ and_false (e.id.0 == x.0)))
 
-    offered_alike : find (is_waiting_id h.entries id) (offered_with offers_it e.id h.offered) ≡ find (is_waiting_id h.entries id) h.offered
+    offered_alike : find (is_waiting_id h.entries id) (offered_with h.sizes.entries offers_it e.id h.offered) ≡ find (is_waiting_id h.entries id) h.offered
     offered_alike =
-        by_test (offers_it && not (length h.offered == ENTRIES))
+        by_test (offers_it && not (length h.offered == h.sizes.entries))
         (λ joins. rw joins (find_joined (is_waiting_id h.entries id) h.offered e.id (none_of_id (waits_at id) (is_between local peer) 0 h.last_id h.entries e ordered.ids found its.waits)))
         (λ full. rw full refl)
 
-    pub step_leaves : readiness (record h { entries = entries_after_step fate (is_between local peer) (on_connection f) h.entries; offered = offered_with offers_it e.id h.offered }) id ≡ readiness h id
-    step_leaves = alike_ready h (record h { entries = entries_after_step fate (is_between local peer) (on_connection f) h.entries; offered = offered_with offers_it e.id h.offered }) id (record {
+    pub step_leaves : readiness (record h { entries = entries_after_step fate (is_between local peer) (on_connection f) h.entries; offered = offered_with h.sizes.entries offers_it e.id h.offered }) id ≡ readiness h id
+    step_leaves = alike_ready h (record h { entries = entries_after_step fate (is_between local peer) (on_connection f) h.entries; offered = offered_with h.sizes.entries offers_it e.id h.offered }) id (record {
       role = ap (λ (o : Option Entry). option_map (λ (x : Entry). x.role) o) (finds (is_socket id) its.named its.named_after);
-      offered = ap (λ (t : SocketId → Bool). find t (offered_with offers_it e.id h.offered)) waiting_alike ∙ offered_alike;
+      offered = ap (λ (t : SocketId → Bool). find t (offered_with h.sizes.entries offers_it e.id h.offered)) waiting_alike ∙ offered_alike;
       addr = refl;
       last = refl;
       ports = fun_ext (λ port. ap (λ (b : Bool). not b) (anys (is_datagrams_at port) (its.ports port) (its.ports_after port)));

@@ -109,6 +109,7 @@ pub data IsJoining (h : SocketsView) : Event → Entry → Type 0 where
 pub record IsFollowed (h : SocketsView) (e : Event) (w : SocketsView) : Type 0 where
   pub addr : w.addr ≡ h.addr
   pub manner : w.manner ≡ h.manner
+  pub sizes : w.sizes ≡ h.sizes
   pub last_id : w.last_id ≡ h.last_id
   pub kept : h.kept.0 ≤ w.kept.0
   pub up_to : (last : Moment) → h.kept.0 ≤ last.0 → IsUpTo last e → w.kept.0 ≤ last.0
@@ -175,7 +176,7 @@ module _ (h : SocketsView) (e : Event) where
 
   -- nothing changes but entries and those offered
   plain : (entries : List Entry) (offered : List SocketId) → IsAdded h e [] → Follows (IsStepOf h e) IsNothing h.entries entries → IsStepped h e (record h { entries = entries; offered = offered })
-  plain entries offered added f = followed (record { addr = refl; manner = refl; last_id = refl; kept = omega arith; up_to = λ last before up. before; last_port = λ free. refl; identification = λ none. refl; added = added; entries = f })
+  plain entries offered added f = followed (record { addr = refl; manner = refl; sizes = refl; last_id = refl; kept = omega arith; up_to = λ last before up. before; last_port = λ free. refl; identification = λ none. refl; added = added; entries = f })
 
   -- nothing happens
   unchanged : IsAdded h e [] → IsStepped h e h
@@ -185,7 +186,7 @@ module _ (h : SocketsView) (e : Event) where
   ported : takes_end e ≡ true → (last_port identification : ℕ) (entries : List Entry) → (datagrams_taken h e ≡ 0 → identification ≡ h.identification) → IsAdded h e [] → Follows (IsStepOf h e) IsNothing h.entries entries
       → IsStepped h e (record h { last_port = last_port; identification = identification; entries = entries })
   ported takes last_port identification entries drawn added f =
-      followed (record { addr = refl; manner = refl; last_id = refl; kept = omega arith; up_to = λ last before up. before; last_port = λ free. let bad : true ≡ false = sym takes ∙ free in cc; identification = drawn; added = added; entries = f })
+      followed (record { addr = refl; manner = refl; sizes = refl; last_id = refl; kept = omega arith; up_to = λ last before up. before; last_port = λ free. let bad : true ≡ false = sym takes ∙ free in cc; identification = drawn; added = added; entries = f })
 
   -- the first that passes changes
   changes : (test : Entry → Bool) (change : Role → Role) → ((x : Entry) → test x ≡ true → IsStepOf h e x (Some (with_role change x))) → Follows (IsStepOf h e) IsNothing h.entries (change_first test (with_role change) h.entries)
@@ -344,6 +345,7 @@ tick_stepped h now =
     followed (record {
       addr = refl;
       manner = refl;
+      sizes = refl;
       last_id = refl;
       kept = (later_kept h now).0;
       up_to = λ last before up. later_up_to h now last before up;

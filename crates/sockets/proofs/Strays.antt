@@ -19,11 +19,11 @@ use Rattle.sockets.specs.Strays.{IsResetOf}
 use Rattle.sockets.proofs.Ends.{eqb-same, same_end-same}
 
 -- when there is a place: fewer wait than may, and neither the table nor the ids are used up
-place : (backlog waiting entries ids : ℕ) → waiting < backlog → entries < 64 → ids < 2 ^ 64 → (nat_le backlog waiting || ((entries == 64) || (ids == 2 ^ 64))) ≡ false
-place backlog waiting entries ids fewer few young = grind (arith, nat_tests)
+place : (backlog waiting entries most ids : ℕ) → waiting < backlog → entries < most → ids < 2 ^ 64 → (nat_le backlog waiting || ((entries == most) || (ids == 2 ^ 64))) ≡ false
+place backlog waiting entries most ids fewer few young = grind (arith, nat_tests)
 
-no_place : (backlog waiting entries ids : ℕ) → (backlog ≤ waiting) ⊎ ((entries ≡ 64) ⊎ (ids ≡ 2 ^ 64)) → (nat_le backlog waiting || ((entries == 64) || (ids == 2 ^ 64))) ≡ true
-no_place backlog waiting entries ids full = grind (arith, nat_tests)
+no_place : (backlog waiting entries most ids : ℕ) → (backlog ≤ waiting) ⊎ ((entries ≡ most) ⊎ (ids ≡ 2 ^ 64)) → (nat_le backlog waiting || ((entries == most) || (ids == 2 ^ 64))) ≡ true
+no_place backlog waiting entries most ids full = grind (arith, nat_tests)
 
 module _ (h : SocketsView) (now : Moment) (isn : ℕ) (source : Addr) (s : Segment) where
   at_ack : IsResetOf s s.acknowledgement 0 false (reset_at_ack s)
@@ -67,18 +67,18 @@ module _ (h : SocketsView) (now : Moment) (isn : ℕ) (source : Addr) (s : Segme
   opens_so rst ack syn = rw (syn, rst, ack) refl
 
   pub syn_unplaced : (listener : Entry) → find (is_between (local_end h s) (peer_end source s)) h.entries ≡ None → find (is_listening_at s.destination) h.entries ≡ Some listener → s.flags.rst ≡ false → s.flags.ack ≡ false → s.flags.syn ≡ true
-      → (backlog_of listener.role ≤ count_by (is_waiting_at listener.id) h.entries) ⊎ ((length h.entries ≡ 64) ⊎ (h.last_id + 1 ≡ 2 ^ 64)) → arrival h now isn source s ≡ NoRoom
+      → (backlog_of listener.role ≤ count_by (is_waiting_at listener.id) h.entries) ⊎ ((length h.entries ≡ h.sizes.entries) ⊎ (h.last_id + 1 ≡ 2 ^ 64)) → arrival h now isn source s ≡ NoRoom
   syn_unplaced listener none found rst ack syn full =
-      let no_room : has_no_room h listener ≡ true = no_place (backlog_of listener.role) (count_by (is_waiting_at listener.id) h.entries) (length h.entries) (h.last_id + 1) full in
+      let no_room : has_no_room h listener ≡ true = no_place (backlog_of listener.role) (count_by (is_waiting_at listener.id) h.entries) (length h.entries) h.sizes.entries (h.last_id + 1) full in
       rw (none, found, opens_so rst ack syn, no_room) refl
 
   pub refusal_answered : (e : Entry) → find (is_between (local_end h s) (peer_end source s)) h.entries ≡ Some e → fate_of s e.role ≡ Rejected → (head : Head) × (arrival h now isn source s ≡ Answers head) × IsResetOf s s.acknowledgement 0 false head
   refusal_answered e found rejected = (reset_at_ack s, rw (found, rejected) refl, at_ack)
 
   pub syn_opens : (listener : Entry) → find (is_between (local_end h s) (peer_end source s)) h.entries ≡ None → find (is_listening_at s.destination) h.entries ≡ Some listener → s.flags.rst ≡ false → s.flags.ack ≡ false → s.flags.syn ≡ true
-      → count_by (is_waiting_at listener.id) h.entries < backlog_of listener.role → length h.entries < 64 → h.last_id + 1 < 2 ^ 64 → (next : SocketsView) × (arrival h now isn source s ≡ Opens next) × ((e : Entry) × (next.entries ≡ h.entries ++ e ∷ []) × IsOpenedBy h source s e)
+      → count_by (is_waiting_at listener.id) h.entries < backlog_of listener.role → length h.entries < h.sizes.entries → h.last_id + 1 < 2 ^ 64 → (next : SocketsView) × (arrival h now isn source s ≡ Opens next) × ((e : Entry) × (next.entries ≡ h.entries ++ e ∷ []) × IsOpenedBy h source s e)
   syn_opens listener none found rst ack syn fewer few young =
-      let room : has_no_room h listener ≡ false = place (backlog_of listener.role) (count_by (is_waiting_at listener.id) h.entries) (length h.entries) (h.last_id + 1) fewer few young in
+      let room : has_no_room h listener ≡ false = place (backlog_of listener.role) (count_by (is_waiting_at listener.id) h.entries) (length h.entries) h.sizes.entries (h.last_id + 1) fewer few young in
       let opened = opens_so rst ack syn in
       let waiting : Entry = new_waiting (record { 0 = h.last_id + 1 }) listener.id (opened_passively (room_for h s) (local_end h s) (peer_end source s) isn s (later_moment h now)) in (
         after_opening h (later_moment h now) isn listener source s,

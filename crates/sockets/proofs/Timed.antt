@@ -5,6 +5,7 @@ use Rattle.ipv4.specs.declared.addr.Addr.{Addr}
 use Rattle.tcp_halves.specs.declared.buffers.Manner.{Manner}
 use Rattle.tcp_state.proofs.Timers.{stays_timed, opened_timed, accepted_timed}
 use Rattle.tcp_state.proofs.Congestion.{stays_kept, opened_kept, accepted_kept}
+use Rattle.sockets.specs.declared.sizes.Sizes.{Sizes}
 use Rattle.sockets.specs.Arrival.{room_for}
 use Rattle.sockets.specs.declared.entry.Entry.{Entry}
 use Rattle.sockets.specs.Causes.{Event, Follows, after_event}
@@ -44,5 +45,5 @@ each_timed h e sound small all = by_step (after_event h e) (stepped h e)
     by_step w (followed f) = all_left (IsStepOf h e) (λ (x : Entry). IsSoundRole x.role) (λ (x : Entry). KeepsTimeIn x.role) (step_timed h e small) h.entries w.entries f.entries sound.entries all
     by_step _ (joined {x = x} j) = all_joined (λ (y : Entry). KeepsTimeIn y.role) h.entries x all (joining_timed h e small x j)
 
-pub fresh_timed : (addr : Addr) (manner : Manner) → EachKeepsTime (new_sockets addr manner)
-fresh_timed addr manner = tt
+pub fresh_timed : (addr : Addr) (manner : Manner) (sizes : Sizes) → EachKeepsTime (new_sockets addr manner sizes)
+fresh_timed addr manner sizes = tt

@@ -13,7 +13,6 @@ use Rattle.tcp_state.specs.declared.connection.Fate.{Fate}
 use Rattle.tcp_state.specs.declared.connection.Fate.TheVariants.{Rejected}
 use Rattle.clock.specs.declared.moment.Moment.{Moment}
 use Rattle.tcp_state.specs.Arrival.{opened_passively}
-use Rattle.sockets.specs.declared.table.TheConstants.{ENTRIES}
 use Rattle.sockets.specs.declared.entry.SocketId.{SocketId}
 use Rattle.sockets.specs.declared.entry.Entry.{Entry}
 use Rattle.sockets.specs.declared.taken.Taken.{Taken}
@@ -44,7 +43,7 @@ manner_with h s = record h.manner { scales = h.manner.scales && is_some (scale_o
 
 -- its buffers are made for that
 abbrev pub room_for : SocketsView → Segment → Room
-room_for h s = room_of (manner_with h s)
+room_for h s = room_of h.sizes.buffer (manner_with h s)
 
 -- a connection in SYN-RECEIVED, opened at a moment, at the end of the table, which waits at the listener
 abbrev pub after_opening : SocketsView → Moment → ℕ → Entry → Addr → Segment → SocketsView
@@ -83,15 +82,15 @@ arrival_alone h now isn source s = of_listener (find (is_listening_at s.destinat
     of_listener (Some listener) = arrival_at h now isn source s listener
 
 -- Those offered: the id of a connection that is offered now stands behind the others. The list has as many places as the table.
-abbrev pub offered_with : Bool → SocketId → List SocketId → List SocketId
-offered_with is_offered id offered = if is_offered && not (length offered == ENTRIES) then offered ++ id ∷ [] else offered
+abbrev pub offered_with : ℕ → Bool → SocketId → List SocketId → List SocketId
+offered_with places is_offered id offered = if is_offered && not (length offered == places) then offered ++ id ∷ [] else offered
 
 -- a segment for a connection: it takes it, at the later of the moment and the kept one, or refuses it, which is answered by a reset
 abbrev pub arrival_at_connection : SocketsView → Moment → Addr → Segment → Entry → Fate → Arrival
 arrival_at_connection h now source s e Rejected = arrival_with_reply h (Some (reset_at_ack s))
 arrival_at_connection h now source s e fate = Becomes (record h {
   entries = entries_after_step fate (is_between (local_end h s) (peer_end source s)) (role_after_segment (later_moment h now) s) h.entries;
-  offered = offered_with (is_offered_by (later_moment h now) s e.role) e.id h.offered;
+  offered = offered_with h.sizes.entries (is_offered_by (later_moment h now) s e.role) e.id h.offered;
 })
 
 -- a segment goes to the connection of its two ends, in any state but CLOSED

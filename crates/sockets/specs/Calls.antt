@@ -15,7 +15,6 @@ use Rattle.tcp_state.specs.declared.calls.Refusal as connection_refusal
 use Rattle.tcp_state.specs.declared.calls.Refusal.TheVariants as connection_variants
 use Rattle.tcp_state.specs.Calls as connection_calls
 use Rattle.tcp_state.specs.View.{is_opening}
-use Rattle.sockets.specs.declared.table.TheConstants.{ENTRIES}
 use Rattle.sockets.specs.declared.calls.TheConstants.{MOST_BACKLOG, LEAST_KEEPALIVE}
 use Rattle.tcp_state.specs.declared.alive.TheConstants.{MOST_KEEPALIVE}
 use Rattle.sockets.specs.declared.entry.SocketId.{SocketId}
@@ -56,9 +55,9 @@ unless_refused (Some refusal) value = Err refusal
 abbrev pub any_addr : Addr
 any_addr = record { 0 = 0 ∷ 0 ∷ 0 ∷ 0 ∷ [] }
 
--- socket: no place in a table of 64, or the last id is given
+-- socket: no place in the table, or the last id is given
 abbrev pub is_table_full : SocketsView → Bool
-is_table_full h = (length h.entries == ENTRIES) || (h.last_id + 1 == 2 ^ 64)
+is_table_full h = (length h.entries == h.sizes.entries) || (h.last_id + 1 == 2 ^ 64)
 
 -- a new idle socket at the end of the table
 abbrev pub after_socket : SocketsView → Buffers → SocketsView
@@ -76,7 +75,7 @@ after_datagram_socket h = record h {
 
 -- the table after a socket of this kind was made; the buffers of one of TCP are made for what the table's connections do
 abbrev pub IsMade : Kind → SocketsView → SocketsView → Type 0
-IsMade Tcp old new = new ≡ after_socket old (room_of old.manner)
+IsMade Tcp old new = new ≡ after_socket old (room_of old.sizes.buffer old.manner)
 IsMade Udp old new = new ≡ after_datagram_socket old
 
 -- the port asked for where it is free, and in place of port 0 the first dynamic one that is, behind the last one given

@@ -8,7 +8,6 @@ use Rattle.ipv4.specs.declared.addr.Addr.{Addr}
 use Rattle.tcp_segment.specs.Segment.{Segment}
 use Rattle.tcp_state.specs.View.{View}
 use Rattle.tcp_state.specs.Way as of_connection
-use Rattle.sockets.specs.declared.table.TheConstants.{ENTRIES}
 use Rattle.sockets.specs.declared.entry.SocketId.{SocketId}
 use Rattle.sockets.specs.declared.entry.Entry.{Entry}
 use Rattle.sockets.specs.declared.role.Role.{Role}
@@ -70,13 +69,13 @@ longest_id entries = of_moment (longest_left entries)
 
 -- where the table is full
 abbrev pub id_in_table : SocketsView → Option SocketId
-id_in_table h = if length h.entries == ENTRIES then longest_id h.entries else None
+id_in_table h = if length h.entries == h.sizes.entries then longest_id h.entries else None
 
 -- To what would open at a listener: where the backlog is full or the table, its oldest that is not answered; or else, where the backlog has a place, what waits longest in TIME-WAIT.
 abbrev pub id_at : SocketsView → Entry → Option SocketId
 id_at h listener =
     if is_backlog_full h listener then first_id (is_unanswered_at listener.id) h.entries
-    else if length h.entries == ENTRIES then option_or (first_id (is_unanswered_at listener.id) h.entries) (longest_id h.entries)
+    else if length h.entries == h.sizes.entries then option_or (first_id (is_unanswered_at listener.id) h.entries) (longest_id h.entries)
     else None
 
 abbrev pub id_at_port : SocketsView → ℕ → Option SocketId
@@ -146,7 +145,7 @@ pub record IsOpenedAnew (h : SocketsView) (source : Addr) (s : Segment) (listene
 
 -- A place is wanting to what opens at this listener. Its oldest unanswered gives way, or else, where its backlog has a place, what is longest in TIME-WAIT.
 pub record IsForPlace (h : SocketsView) (listener x : Entry) : Type 0 where
-  pub full : (backlog_of listener.role ≤ count_by (is_waiting_at listener.id) h.entries) ⊎ (length h.entries ≡ 64)
+  pub full : (backlog_of listener.role ≤ count_by (is_waiting_at listener.id) h.entries) ⊎ (length h.entries ≡ h.sizes.entries)
   pub which : IsOldestUnanswered h listener.id x ⊎ (IsLongestLeft h x × (count_by (is_waiting_at listener.id) h.entries < backlog_of listener.role))
 
 -- What gives way to a segment, a SYN that opens at this listener, is an entry of the table that may.
@@ -162,6 +161,6 @@ pub record IsGivenFor (h : SocketsView) (source : Addr) (s : Segment) (x : Entry
 -- what gives way to a socket
 pub record IsGivenForSocket (h : SocketsView) (x : Entry) : Type 0 where
   pub guards : h.manner.guards ≡ true
-  pub full : length h.entries ≡ 64
+  pub full : length h.entries ≡ h.sizes.entries
   pub there : find (has_id x.id) h.entries ≡ Some x
   pub longest : IsLongestLeft h x

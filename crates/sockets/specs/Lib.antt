@@ -25,6 +25,7 @@ pub mod Names
 pub mod Offered
 pub mod Timing
 pub mod Leaving
+pub mod Rooms
 pub mod Steps
 pub mod Closing
 pub mod Strays

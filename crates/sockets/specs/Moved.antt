@@ -29,4 +29,6 @@ pub record IsSameBesides (before after : SocketsView) : Type 0 where
   pub last_port : after.last_port ≡ before.last_port
   pub last_id : after.last_id ≡ before.last_id
   pub identification : after.identification ≡ before.identification
+  pub manner : after.manner ≡ before.manner
+  pub sizes : after.sizes ≡ before.sizes
   pub offered : after.offered ≡ before.offered

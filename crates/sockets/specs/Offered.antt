@@ -3,7 +3,7 @@ use Rattle.std.specs.Prelude.{◌≡◌, ◌≤◌, ◌==◌, ◌&&◌, not, Boo
 use Rattle.std.specs.List.{list_any, AllByRecursion}
 use Rattle.ipv4.specs.declared.addr.Addr.{Addr}
 use Rattle.tcp_halves.specs.declared.buffers.Manner.{Manner}
-use Rattle.sockets.specs.declared.table.TheConstants.{ENTRIES}
+use Rattle.sockets.specs.declared.sizes.Sizes.{Sizes}
 use Rattle.sockets.specs.declared.entry.SocketId.{SocketId}
 use Rattle.sockets.specs.declared.entry.Entry.{Entry}
 use Rattle.sockets.specs.declared.role.Role.{Role}
@@ -22,9 +22,10 @@ AreAllowed h (e ∷ rest) = IsAllowed h e × AreAllowed (after_event h e) rest
 pub record IsReached (h : SocketsView) : Type 0 where
   pub addr : Addr
   pub manner : Manner
+  pub sizes : Sizes
   pub events : List Event
-  pub allowed : AreAllowed (new_sockets addr manner) events
-  pub is : after_events (new_sockets addr manner) events ≡ h
+  pub allowed : AreAllowed (new_sockets addr manner sizes) events
+  pub is : after_events (new_sockets addr manner sizes) events ≡ h
 
 -- A connection is ready that waits at a listener to be accepted and has passed SYN-RECEIVED, also one that was reset since. One that was aborted with
 -- its listener is left, and waits no longer.
@@ -50,10 +51,10 @@ abbrev pub KeepsBacklogs : SocketsView → Type 0
 KeepsBacklogs h = AllByRecursion (λ (e : Entry). count_by (is_waiting_at e.id) h.entries ≤ backlog_of e.role) h.entries
 
 -- Those offered are those that are ready: an id stands among them as often as the table has an entry of this id that is ready, at most once. So there
--- are as many, and no more than the table has entries, which are 64 at most.
+-- are as many, and no more than the table has entries, which are as many at most as it was made for.
 pub record OffersReady (h : SocketsView) : Type 0 where
   pub each : (id : SocketId) → count_by (is_id id) h.offered ≡ count_by (is_ready_as id) h.entries
   pub once : (id : SocketId) → count_by (is_id id) h.offered ≤ 1
   pub number : length h.offered ≡ count_by (λ (e : Entry). is_ready e.role) h.entries
   pub within : length h.offered ≤ length h.entries
-  pub few : length h.entries ≤ ENTRIES
+  pub few : length h.entries ≤ h.sizes.entries

@@ -9,7 +9,7 @@ use Rattle.sockets.specs.declared.role.Role.{Role}
 use Rattle.sockets.specs.declared.role.Role.TheVariants.{Idle, Listener, Connected, Datagrams}
 use Rattle.sockets.specs.Entries.{is_between, is_datagrams_at}
 use Rattle.sockets.specs.Ids.{AreAscending}
-use Rattle.sockets.specs.SocketsView.{SocketsView}
+use Rattle.sockets.specs.SocketsView.{SocketsView, room_of}
 use Rattle.sockets.specs.Ports.{IsDynamic}
 use Rattle.sockets.specs.Calls.{is_table_full, bind_refusal, listen_refusal, accept_answer, connect_refusal, send_answer, recv_answer, shutdown_refusal, nodelay_refusal, keepalive_refusal, close_refusal}
 use Rattle.sockets.specs.Datagrams.{sendto_answer, recvfrom_answer}
@@ -44,9 +44,9 @@ pub record IsOrdered (h : SocketsView) : Type 0 where
   pub own : AllByRecursion (λ (e : Entry). LiesAt h.addr e.role) h.entries
   pub last_port : IsDynamic h.last_port
 
--- a call is not refused, and a segment doesn't come from our own address
+-- a call is not refused, and makes buffers of the table's own size, and a segment doesn't come from our own address
 abbrev pub IsAllowed : SocketsView → Event → Type 0
-IsAllowed h (Makes buffers) = is_table_full h ≡ false
+IsAllowed h (Makes buffers) = (is_table_full h ≡ false) × (buffers ≡ room_of h.sizes.buffer h.manner)
 IsAllowed h MakesDatagrams = is_table_full h ≡ false
 IsAllowed h (Binds id local) = bind_refusal h id local ≡ None
 IsAllowed h (Listens id backlog) = listen_refusal h id backlog ≡ None

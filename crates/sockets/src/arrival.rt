@@ -9,9 +9,8 @@ ghost use Rattle.sockets.specs.SocketsView.{SocketsView, room_of};
 use crate::calls::new_buffers;
 use crate::entry::{Entry, SocketId};
 use crate::sockets::Sockets;
-use crate::table::{self, ENTRIES};
 use crate::taken::Taken;
-use crate::{index, replies};
+use crate::{index, replies, table};
 use clock::Moment;
 use ipv4::{Addr, Endpoint, Pair};
 use std::alloc::AllocError;
@@ -85,7 +84,7 @@ impl Sockets {
             return Taken::NoRoom;
         }
         let listener = listener.id;
-        let buffers = new_buffers(self.alloc, self.manner_with(syn));
+        let buffers = new_buffers(self.alloc, self.sizes.buffer, self.manner_with(syn));
         self.open_with(buffers, now, isn, listener, source, syn)
     }
 
@@ -100,7 +99,7 @@ impl Sockets {
         source: Addr,
         syn: &TcpView<'_>,
     ) -> Taken
-        requires place { length self.old.entries < ENTRIES }
+        requires place { length self.old.entries < self.old.sizes.entries }
         requires id { self.old.last_id < u64.MAX }
         requires size { IfOk buffers (λ given. given ≡ room_for self.old syn.now) }
         ensures answer { MatchResult buffers (λ given. result ≡ Taken.Done) (λ refused. result ≡ Taken.NoRoom) }
@@ -110,8 +109,7 @@ impl Sockets {
             return Taken::NoRoom;
         };
         let (local, peer) = self.ends(source, syn);
-        let manner = self.manner_with(syn);
-        let connection = half_open(buffers, manner, local, peer, isn, syn, now);
+        let connection = Connection::passive(buffers, local, peer, isn, syn, now);
         self.last_id += 1;
         let id = SocketId(self.last_id);
         index::file(&mut self.ends, id, local, peer);
@@ -157,7 +155,7 @@ impl Sockets {
     /// Whether a further connection has no place at this listener.
     fn has_no_room(&self, listener: &Entry) -> bool
         ensures value { result ≡ has_no_room self.now listener.now }
-        ensures bound { length self.now.entries ≤ ENTRIES }
+        ensures bound { length self.now.entries ≤ self.now.sizes.entries }
     {
         table::waiting_at(&self.entries, listener.id) >= listener.role.backlog()
             || self.entries.is_full()
@@ -189,22 +187,6 @@ fn answered(reply: Option<Head>) -> Taken
         Some(head) => Taken::Answer(head),
         None => Taken::Done,
     }
-}
-
-/// A connection that `syn` opens in buffers that were made for one that behaves so.
-fn half_open(
-    buffers: Buffers,
-    manner: Manner,
-    local: Endpoint,
-    peer: Endpoint,
-    isn: Seq,
-    syn: &TcpView<'_>,
-    now: Moment,
-) -> Connection
-    requires { buffers ≡ room_of manner }
-    ensures { result ≡ opened_passively (room_of manner) local peer isn.0 syn.now now }
-{
-    Connection::passive(buffers, local, peer, isn, syn, now)
 }
 
 /// Whether a segment opens a connection at a listener (RFC 9293 section 3.10.7.2): SYN with neither RST nor ACK.

@@ -10,10 +10,10 @@ ghost use Rattle.sockets.specs.SocketsView.{room_of};
 use crate::entry::{Entry, Kind, SocketId};
 use crate::refusal::Refusal;
 use crate::role::Role;
+use crate::sizes::LEAST_BUFFER;
 use crate::sockets::Sockets;
 use crate::state::SocketState;
-use crate::table::{self, ENTRIES};
-use crate::{index, ports};
+use crate::{index, ports, table};
 use clock::Moment;
 use ipv4::{Addr, Endpoint, Pair};
 use std::alloc::{AllocError, Global};
@@ -52,7 +52,7 @@ impl Sockets {
         }
         match kind {
             Kind::Tcp => {
-                let buffers = new_buffers(self.alloc, self.manner);
+                let buffers = new_buffers(self.alloc, self.sizes.buffer, self.manner);
                 self.stream_with(buffers)
             }
             Kind::Udp => {
@@ -64,7 +64,7 @@ impl Sockets {
 
     /// Makes a TCP socket in these buffers. ENOMEM exactly where memory was refused them.
     fn stream_with(&mut self, buffers: Result<Buffers, AllocError>) -> Result<SocketId, Refusal>
-        requires place { length self.old.entries < ENTRIES }
+        requires place { length self.old.entries < self.old.sizes.entries }
         requires id { self.old.last_id < u64.MAX }
         ensures answer { MatchResult buffers (λ given. result ≡ Ok (record { 0 = self.old.last_id + 1 })) (λ refused. result ≡ Err Refusal.ENOMEM) }
         ensures table { MatchResult buffers (λ given. self.new ≡ after_socket self.old given) (λ refused. self.new ≡ self.old) }
@@ -79,7 +79,7 @@ impl Sockets {
 
     /// Makes a UDP socket of this one, whose two queues it owns. ENOMEM exactly where memory was refused it.
     fn datagrams_with(&mut self, socket: Result<UdpSocket, AllocError>) -> Result<SocketId, Refusal>
-        requires place { length self.old.entries < ENTRIES }
+        requires place { length self.old.entries < self.old.sizes.entries }
         requires id { self.old.last_id < u64.MAX }
         requires empty { IfOk socket (λ given. given ≡ new_udp_socket) }
         ensures answer { MatchResult socket (λ given. result ≡ Ok (record { 0 = self.old.last_id + 1 })) (λ refused. result ≡ Err Refusal.ENOMEM) }
@@ -103,7 +103,7 @@ impl Sockets {
 
     /// Puts an entry that has no connection at the end of the table, under the next id.
     fn add(&mut self, entry: Entry)
-        requires place { length self.old.entries < ENTRIES }
+        requires place { length self.old.entries < self.old.sizes.entries }
         requires id { entry.id.0 ≡ self.old.last_id + 1 }
         requires unfiled { filed entry ≡ None }
         ensures { self.new ≡ record self.old { last_id = entry.id.0; entries = self.old.entries ++ entry ∷ [] } }
@@ -468,14 +468,20 @@ fn may_open(role: &Role) -> Result<Option<Endpoint>, Refusal>
     }
 }
 
-/// The buffers of a connection that behaves so.
-pub(crate) fn new_buffers(alloc: Global, manner: Manner) -> Result<Buffers, AllocError>
-    ensures { IfOk result (λ buffers. buffers ≡ room_of manner) }
+/// The buffers of a connection that behaves so, in a table whose connections hold so many octets each way.
+pub(crate) fn new_buffers(
+    alloc: Global,
+    buffer: usize,
+    manner: Manner,
+) -> Result<Buffers, AllocError>
+    requires least { LEAST_BUFFER ≤ buffer }
+    requires most { buffer ≤ LARGEST_CAPACITY }
+    ensures { IfOk result (λ buffers. buffers ≡ room_of buffer manner) }
 {
     let capacity = if manner.scales {
-        LARGEST_CAPACITY
+        buffer
     } else {
-        CAPACITY
+        buffer.min(CAPACITY)
     };
     Buffers::new(alloc, capacity, manner)
 }

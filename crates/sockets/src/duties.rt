@@ -96,7 +96,7 @@ pub fn waits_for_hops_end()
 
 /// A segment for which there is no connection (RFC 9293 sections 3.5.2, 3.10.7.1 and 3.10.7.2). One with RST changes nothing and draws no answer. One with ACK draws <SEQ=SEG.ACK><CTL=RST>, at a
 /// listener too. One with neither draws <SEQ=0><ACK=SEG.SEQ+SEG.LEN><CTL=RST,ACK> where nobody listens, modulo 2^32, and its length counts its SYN and its FIN; at a listener it is dropped, but for a
-/// SYN, which opens a connection in SYN-RECEIVED between the two ends behind all entries wherever fewer wait at the listener than its backlog allows, the table has fewer than 64 entries, and the last
+/// SYN, which opens a connection in SYN-RECEIVED between the two ends behind all entries wherever fewer wait at the listener than its backlog allows, the table is not full, and the last
 /// id is not given.
 pub fn strays_are_answered()
     ensures reset { (h : SocketsView) (now : Moment) (isn : ℕ) (source : Addr) (s : Segment) → find (is_between (local_end h s) (peer_end source s)) h.entries ≡ None → s.flags.rst ≡ true → arrival h now isn source s ≡ Becomes h }
@@ -107,11 +107,11 @@ pub fn strays_are_answered()
     ensures dropped { (h : SocketsView) (now : Moment) (isn : ℕ) (source : Addr) (s : Segment) (listener : Entry) → find (is_between (local_end h s) (peer_end source s)) h.entries ≡ None → find (is_listening_at s.destination) h.entries ≡ Some listener
         → s.flags.rst ≡ false → s.flags.ack ≡ false → s.flags.syn ≡ false → arrival h now isn source s ≡ Becomes h }
     ensures opens { (h : SocketsView) (now : Moment) (isn : ℕ) (source : Addr) (s : Segment) (listener : Entry) → find (is_between (local_end h s) (peer_end source s)) h.entries ≡ None → find (is_listening_at s.destination) h.entries ≡ Some listener
-        → s.flags.rst ≡ false → s.flags.ack ≡ false → s.flags.syn ≡ true → count_by (is_waiting_at listener.id) h.entries < backlog_of listener.role → length h.entries < 64 → h.last_id + 1 < 2 ^ 64
+        → s.flags.rst ≡ false → s.flags.ack ≡ false → s.flags.syn ≡ true → count_by (is_waiting_at listener.id) h.entries < backlog_of listener.role → length h.entries < h.sizes.entries → h.last_id + 1 < 2 ^ 64
         → (next : SocketsView) × (arrival h now isn source s ≡ Opens next) × ((e : Entry) × (next.entries ≡ h.entries ++ e ∷ []) × IsOpenedBy h source s e) }
     ensures no_place { (h : SocketsView) (now : Moment) (isn : ℕ) (source : Addr) (s : Segment) (listener : Entry) → find (is_between (local_end h s) (peer_end source s)) h.entries ≡ None → find (is_listening_at s.destination) h.entries ≡ Some listener
         → s.flags.rst ≡ false → s.flags.ack ≡ false → s.flags.syn ≡ true
-        → (backlog_of listener.role ≤ count_by (is_waiting_at listener.id) h.entries) ⊎ ((length h.entries ≡ 64) ⊎ (h.last_id + 1 ≡ 2 ^ 64)) → arrival h now isn source s ≡ NoRoom }
+        → (backlog_of listener.role ≤ count_by (is_waiting_at listener.id) h.entries) ⊎ ((length h.entries ≡ h.sizes.entries) ⊎ (h.last_id + 1 ≡ 2 ^ 64)) → arrival h now isn source s ≡ NoRoom }
 {}
 
 /// A segment that its connection refuses, since it acknowledges what was not sent while the connection opens (RFC 9293 sections 3.10.7.3 and 3.10.7.4), draws <SEQ=SEG.ACK><CTL=RST> and changes nothing.

@@ -8,6 +8,7 @@ ghost use Rattle.sockets.specs.GivenUp.{outbox_of};
 
 use crate::entry::Entry;
 use crate::role::Role;
+use crate::sizes::MOST_ENTRIES;
 use crate::sockets::Sockets;
 use clock::Moment;
 use ipv4::Addr;
@@ -39,7 +40,7 @@ impl Sockets {
 /// How much the entries give up.
 fn given_up_in<F: Fn(Addr) -> bool>(entries: &[Entry], now: Moment, lost: &F) -> Losses
     requires lost { F.IsAlwaysCallable lost.now }
-    requires few { length entries.now ≤ 64 }
+    requires few { length entries.now ≤ MOST_ENTRIES }
     ensures { (test : Addr → Bool) → ((addr : Addr) (answer : Bool) → F.post lost.now addr answer → answer ≡ test addr)
         → (result.resets ≡ count_by (λ e. is_given_up test now e.role) entries.now) × (result.datagrams ≡ sum_by (λ e. count_by (is_datagram_given_up test now) (outbox_of e.role)) entries.now) }
 {

@@ -7,7 +7,7 @@ ghost use Rattle.sockets.specs.Ids.{AreInOrder, has_id};
 ghost use Rattle.sockets.specs.Index.{key_of, filed_at, is_before, AreSorted, inserted, index_of, is_live_as};
 
 use crate::entry::{Entry, SocketId};
-use crate::table::{ENTRIES, is_there, place_of};
+use crate::table::{is_there, place_of};
 use fixed_vec::FixedVec;
 use ipv4::Endpoint;
 
@@ -39,15 +39,11 @@ fn key_of(local: Endpoint, peer: Endpoint) -> u64
 }
 
 /// Files a further connection, which the id names.
-pub(crate) fn file(
-    index: &mut FixedVec<Filed, ENTRIES>,
-    id: SocketId,
-    local: Endpoint,
-    peer: Endpoint,
-)
+pub(crate) fn file(index: &mut FixedVec<Filed>, id: SocketId, local: Endpoint, peer: Endpoint)
     requires sorted { AreSorted index.old.items }
-    requires room { length index.old.items < ENTRIES }
-    ensures { index.new.items ≡ inserted (filed_at id local peer) index.old.items }
+    requires room { length index.old.items < index.old.most }
+    ensures most { index.new.most ≡ index.old.most }
+    ensures items { index.new.items ≡ inserted (filed_at id local peer) index.old.items }
 {
     let key = key_of(local, peer);
     let filed = Filed { key, id };
@@ -56,9 +52,10 @@ pub(crate) fn file(
 }
 
 /// Takes out the connections that left the table, which held so many entries before.
-pub(crate) fn forget(index: &mut FixedVec<Filed, ENTRIES>, entries: &[Entry], held: usize)
+pub(crate) fn forget(index: &mut FixedVec<Filed>, entries: &[Entry], held: usize)
     requires { AreInOrder entries.now }
-    ensures { index.new.items ≡ (if nat_lt (length entries.now) held then filter (λ filed. list_any (has_id filed.id) entries.now) index.old.items else index.old.items) }
+    ensures most { index.new.most ≡ index.old.most }
+    ensures items { index.new.items ≡ (if nat_lt (length entries.now) held then filter (λ filed. list_any (has_id filed.id) entries.now) index.old.items else index.old.items) }
 {
     if entries.len() < held {
         index.retain(|filed| is_there(entries, filed.id));

@@ -38,9 +38,11 @@ ghost use Rattle.sockets.specs.Timing.{EachKeepsTime, IsNumbered, AreSound, IsNe
 ghost use Rattle.sockets.specs.Leaving.{EachLeavesAWindow, IsSized};
 ghost use Rattle.sockets.specs.Ports.{first_port, IsDynamic, IsFirstBehind};
 ghost use Rattle.sockets.specs.declared.calls.TheConstants.{MOST_BACKLOG};
-ghost use Rattle.sockets.specs.declared.table.TheConstants.{ENTRIES};
+ghost use Rattle.sockets.specs.declared.sizes.TheConstants.{LEAST_BUFFER, MOST_ENTRIES};
+ghost use Rattle.sockets.specs.declared.sizes.Sizes.{Sizes};
 ghost use Rattle.clock.specs.declared.moment.TheConstants.{HOP_WAIT};
 ghost use Rattle.sockets.specs.Offered.{IsReached};
+ghost use Rattle.sockets.specs.Rooms.{KeepsToItsSize};
 ghost use Rattle.sockets.specs.Order.{IsOrdered, IsAllowed};
 ghost use Rattle.sockets.specs.Causes.{Event, after_event, IsAdded, IsStep, Follows, pending_error_in, TellsStill};
 ghost use Rattle.sockets.specs.Steps.{IsOneEvent};
@@ -99,7 +101,7 @@ pub fn an_event_is_one_of_each_connection()
 /// What is over is taken out at once: no event leaves a connection in the table that its caller closed, that is CLOSED and owes no reset. A new
 /// table has none, so none that is reached has one.
 pub fn nothing_over_stays()
-    ensures fresh { (addr : Addr) (manner : Manner) → NoneIsOver (new_sockets addr manner) }
+    ensures fresh { (addr : Addr) (manner : Manner) (sizes : Sizes) → NoneIsOver (new_sockets addr manner sizes) }
     ensures kept { (h : SocketsView) (e : Event) → NoneIsOver h → NoneIsOver (after_event h e) }
     ensures reached { (h : SocketsView) → IsReached h → NoneIsOver h }
 {}
@@ -107,7 +109,7 @@ pub fn nothing_over_stays()
 /// Every connection of the table keeps its time and its congestion window, from its opening on: a timer runs exactly where something waits for it, and the window is one that
 /// events lead to, and counts in the peer's segments. So it is for one in a new table, and each event of the table leaves it so.
 pub fn connections_keep_time()
-    ensures fresh { (addr : Addr) (manner : Manner) → EachKeepsTime (new_sockets addr manner) }
+    ensures fresh { (addr : Addr) (manner : Manner) (sizes : Sizes) → EachKeepsTime (new_sockets addr manner sizes) }
     ensures kept { (h : SocketsView) (e : Event) → IsSoundTable h → IsNumbered e → EachKeepsTime h → EachKeepsTime (after_event h e) }
 {}
 
@@ -120,7 +122,7 @@ pub fn ticks_leave_tables_sound()
 /// of them. So no deadline lies more than a day past it, and none more than 240,000 ms, the time that TIME-WAIT lasts (RFC 9293 section 3.4.2), where no silent peer is asked; and no wait for a hop ends more than 483,000 ms past it. A `connect`, a segment, an emission and what is given up are taken at a moment that the table
 /// doesn't keep; where each names none but what the table keeps, since a tick told it, all this is said of the kept moment.
 pub fn timers_lie_near()
-    ensures fresh { (addr : Addr) (manner : Manner) (latest : Moment) → AreNear latest (new_sockets addr manner) }
+    ensures fresh { (addr : Addr) (manner : Manner) (sizes : Sizes) (latest : Moment) → AreNear latest (new_sockets addr manner sizes) }
     ensures event { (h : SocketsView) (e : Event) (latest : Moment) → IsSoundTable h → IsUpTo latest e → AreNear latest h → AreNear latest (after_event h e) }
     ensures over { (h : SocketsView) (events : List Event) (latest : Moment) → AreSound h events → AllByRecursion (IsUpTo latest) events → AreNear latest h → AreNear latest (after_events h events) }
     ensures kept { (h : SocketsView) (e : Event) → IsSoundTable h → let after = after_event h e in IsUpTo after.kept e → AreNear h.kept h → AreNear after.kept after }
@@ -129,12 +131,12 @@ pub fn timers_lie_near()
     ensures asking { (h : SocketsView) (latest moment : Moment) → AreNear latest h → least_deadline h ≡ Some moment → moment.0 ≤ latest.0 + 86400000 }
 {}
 
-/// An open connection of which nothing is due, and that has nothing to be read, leaves its peer a window of a segment at least, whether it has spoken or not: so it is in a new table, and over each event that makes no socket of less room
+/// An open connection of which nothing is due, and that has nothing to be read, leaves its peer a window of a segment at least, whether it has spoken or not: so it is in a new table, and over each event of one whose connections hold three segments each way, that makes no socket of less room
 /// than a host's, and brings no segment of more octets than a segment may have (RFC 9293 sections 3.8.6.2.2 and 3.8.6.3).
 pub fn quiet_readers_leave_a_window()
-    ensures fresh { (addr : Addr) (manner : Manner) → EachLeavesAWindow (new_sockets addr manner) }
-    ensures room { (manner : Manner) → 3 * MSS ≤ size_of (room_of manner) }
-    ensures event { (h : SocketsView) (e : Event) → IsSoundTable h → IsNumbered e → IsSized e → EachLeavesAWindow h → EachLeavesAWindow (after_event h e) }
+    ensures fresh { (addr : Addr) (manner : Manner) (sizes : Sizes) → EachLeavesAWindow (new_sockets addr manner sizes) }
+    ensures room { (buffer : ℕ) (manner : Manner) → 3 * MSS ≤ buffer → 3 * MSS ≤ size_of (room_of buffer manner) }
+    ensures event { (h : SocketsView) (e : Event) → IsSoundTable h → 3 * MSS ≤ h.sizes.buffer → IsNumbered e → IsSized e → EachLeavesAWindow h → EachLeavesAWindow (after_event h e) }
     ensures quiet { (h : SocketsView) (id : SocketId) (c : View) (listener : Option SocketId) → EachLeavesAWindow h → role_of h id ≡ Some (Connected c listener) → (is_opening c.state || is_closed c.state) ≡ false → first_due c ≡ None
         → c.receiving.readable ≡ [] → MSS ≤ receive_window c.receiving }
 {}
@@ -167,14 +169,23 @@ pub fn ticks_wait()
 /// The table stays in order, from the first on, whatever happens but a call that is refused and a segment from our own address, and so each that is reached is: ids ascend, no two connections but CLOSED
 /// ones have the same two ends (RFC 9293 section 3.4.1), no two TCP sockets without a connection have the same port, and no
 /// two UDP sockets.
-/// The id given last never goes back, so none is given twice. The address stays, and how connections behave.
+/// The id given last never goes back, so none is given twice. The address stays, how connections behave, and how large it is.
 pub fn tables_stay_ordered()
-    ensures fresh { (addr : Addr) (manner : Manner) → IsOrdered (new_sockets addr manner) }
+    ensures fresh { (addr : Addr) (manner : Manner) (sizes : Sizes) → IsOrdered (new_sockets addr manner sizes) }
     ensures kept { (h : SocketsView) (e : Event) → IsAllowed h e → IsOrdered h → IsOrdered (after_event h e) }
     ensures reached { (h : SocketsView) → IsReached h → IsOrdered h }
     ensures numbered { (h : SocketsView) (e : Event) → let after = after_event h e in h.last_id ≤ after.last_id }
     ensures address { (h : SocketsView) (e : Event) → let after = after_event h e in after.addr ≡ h.addr }
     ensures manner { (h : SocketsView) (e : Event) → let after = after_event h e in after.manner ≡ h.manner }
+    ensures sizes { (h : SocketsView) (e : Event) → let after = after_event h e in after.sizes ≡ h.sizes }
+{}
+
+/// No connection of a table has buffers for more octets, either way, than the table's size says, and no socket that may open one: so it is of a new table, over each event that may be, and of each table that
+/// is reached.
+pub fn connections_keep_to_the_size()
+    ensures fresh { (addr : Addr) (manner : Manner) (sizes : Sizes) → KeepsToItsSize (new_sockets addr manner sizes) }
+    ensures kept { (h : SocketsView) (e : Event) → IsAllowed h e → KeepsToItsSize h → KeepsToItsSize (after_event h e) }
+    ensures reached { (h : SocketsView) → IsReached h → KeepsToItsSize h }
 {}
 
 /// No datagram moves a connection: where a UDP socket is made, where a datagram is given to be sent, is read or comes, every TCP socket and
@@ -191,10 +202,10 @@ pub fn identifications_are_drawn_in_turn()
     ensures counted { (h : SocketsView) (events : List Event) → h.identification < 2 ^ 16 → let after = after_events h events in after.identification ≡ (h.identification + datagrams_taken_in h events) % 2 ^ 16 }
 {}
 
-/// A SYN finds no place only at a listener at which as many connections wait as its backlog allows, or where the table has 64 entries, or the last id is given.
+/// A SYN finds no place only at a listener at which as many connections wait as its backlog allows, or where the table is full, or the last id is given.
 pub fn places_are_given_while_there_are_any()
     ensures { (h : SocketsView) (now : Moment) (isn : ℕ) (source : Addr) (s : Segment) → arrival h now isn source s ≡ NoRoom → (listener : Entry) × (find (is_listening_at s.destination) h.entries ≡ Some listener)
-        × ((backlog_of listener.role ≤ count_by (is_waiting_at listener.id) h.entries) ⊎ ((length h.entries ≡ 64) ⊎ (h.last_id + 1 ≡ 2 ^ 64))) }
+        × ((backlog_of listener.role ≤ count_by (is_waiting_at listener.id) h.entries) ⊎ ((length h.entries ≡ h.sizes.entries) ⊎ (h.last_id + 1 ≡ 2 ^ 64))) }
 {}
 
 /// Of the resets that wait to go out those are given up that have waited for 3,000 ms for an address that is lost, and no other: those that are left wait as they did, in order.
@@ -230,9 +241,10 @@ pub fn moments_never_go_back()
     ensures told { (h : SocketsView) (now : Moment) → let after = after_tick h now in now.0 ≤ after.kept.0 }
 {}
 
-/// What the constants are that the definitions cite: the table has 64 places, a backlog is 8 at most, and what can't go out since nobody answers at its hop waits for 3,000 ms.
+/// What the constants are that the definitions cite: a table has 16,384 places at most and a connection 2,048 octets each way at least, a backlog is 8 at most, and what can't go out since nobody answers at its hop waits for 3,000 ms.
 pub fn constants()
-    ensures entries { ENTRIES ≡ 64 }
+    ensures entries { MOST_ENTRIES ≡ 16384 }
+    ensures buffer { LEAST_BUFFER ≡ 2048 }
     ensures backlog { MOST_BACKLOG ≡ 8 }
     ensures wait { HOP_WAIT ≡ 3000 }
 {}

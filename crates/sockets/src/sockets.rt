@@ -4,7 +4,7 @@ ghost use Rattle.std.specs.Prelude.{◌≡◌, ◌≤◌, Some, None, Bool, IfOk
 
 use crate::entry::{Entry, SocketId};
 use crate::index::Filed;
-use crate::table::ENTRIES;
+use crate::sizes::Sizes;
 use crate::{ports, table};
 use clock::Moment;
 use fixed_vec::FixedVec;
@@ -23,9 +23,10 @@ pub struct Sockets {
     pub(crate) last_port: u16,
     pub(crate) last_id: u64,
     pub(crate) identification: u16,
-    pub(crate) entries: FixedVec<Entry, ENTRIES>,
-    pub(crate) ends: FixedVec<Filed, ENTRIES>,
-    pub(crate) offered: FixedVec<SocketId, ENTRIES>,
+    pub(crate) sizes: Sizes,
+    pub(crate) entries: FixedVec<Entry>,
+    pub(crate) ends: FixedVec<Filed>,
+    pub(crate) offered: FixedVec<SocketId>,
 }
 
 impl Model for Sockets {
@@ -41,28 +42,37 @@ impl Model for Sockets {
       last_port = h.last_port;
       last_id = h.last_id;
       identification = h.identification;
+      sizes = h.sizes;
       entries = h.entries.items;
       offered = h.offered.items;
     } };
 
     ghost use Rattle.sockets.specs.Ids.{AreAscending};
     ghost use Rattle.sockets.specs.Index.{index_of};
+    ghost use Rattle.sockets.specs.SocketsView.{HasPlaces};
 
-    ghost invariant = { λ h. (49152 ≤ h.last_port) × AreAscending 0 h.last_id h.entries.items × (h.ends.items ≡ index_of h.entries.items) };
+    ghost invariant = { λ h. ((49152 ≤ h.last_port) × HasPlaces h.sizes h.entries.most h.ends.most h.offered.most)
+        × AreAscending 0 h.last_id h.entries.items × (h.ends.items ≡ index_of h.entries.items) };
 }
 
 #[tactic(auto, using(crate::proofs::Firsts::firsts))]
 impl Sockets {
-    ghost use Rattle.sockets.specs.SocketsView.{later_moment, holder_id, new_sockets};
+    ghost use Rattle.sockets.specs.SocketsView.{IsSizes, later_moment, holder_id, new_sockets};
     ghost use Rattle.sockets.specs.Ticks.{after_tick, least_deadline};
     ghost use Rattle.sockets.specs.Lost.{after_giving_up};
     ghost use Rattle.ipv4.specs.declared.addr.Addr.{Addr};
     ghost use Rattle.sockets.specs.Pairs.{socket_pair};
     ghost use Rattle.sockets.specs.Sound.{IsSoundTable};
 
-    /// A table with no sockets, whose kept moment is 0, and whose connections behave so. Fails only where memory is refused.
-    pub fn new(alloc: Global, addr: Addr, manner: Manner) -> Result<Sockets, AllocError>
-        ensures { IfOk result (λ table. table ≡ new_sockets addr manner) }
+    /// A table of this size with no sockets, whose kept moment is 0, and whose connections behave so. Fails only where memory is refused.
+    pub fn new(
+        alloc: Global,
+        addr: Addr,
+        manner: Manner,
+        sizes: Sizes,
+    ) -> Result<Sockets, AllocError>
+        requires { IsSizes sizes }
+        ensures { IfOk result (λ table. table ≡ new_sockets addr manner sizes) }
     {
         Ok(Sockets {
             alloc,
@@ -72,9 +82,10 @@ impl Sockets {
             last_port: ports::LAST,
             last_id: 0,
             identification: 0,
-            entries: FixedVec::new(alloc)?,
-            ends: FixedVec::new(alloc)?,
-            offered: FixedVec::new(alloc)?,
+            sizes,
+            entries: FixedVec::new(alloc, sizes.entries)?,
+            ends: FixedVec::new(alloc, sizes.entries)?,
+            offered: FixedVec::new(alloc, sizes.entries)?,
         })
     }
 

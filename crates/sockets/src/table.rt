@@ -20,9 +20,6 @@ use fixed_vec::FixedVec;
 use ipv4::{Addr, Endpoint, Pair};
 use tcp_state::Fate;
 
-/// How many entries the table holds: sockets, and connections that no socket names, not yet or no longer.
-pub const ENTRIES: usize = 64;
-
 /// The place of the entry of this id, by binary search: the entries stand in order of id.
 pub(crate) fn place_of(entries: &[Entry], id: SocketId) -> Option<usize>
     requires { AreInOrder entries.now }
@@ -191,8 +188,9 @@ pub(crate) fn next_offered(
 }
 
 /// Puts the connection that `id` names behind those offered, where it is offered now.
-pub(crate) fn offer(offered: &mut FixedVec<SocketId, ENTRIES>, id: SocketId, is_offered: bool)
-    ensures { offered.new.items ≡ offered_with is_offered id offered.old.items }
+pub(crate) fn offer(offered: &mut FixedVec<SocketId>, id: SocketId, is_offered: bool)
+    ensures most { offered.new.most ≡ offered.old.most }
+    ensures items { offered.new.items ≡ offered_with offered.old.most is_offered id offered.old.items }
 {
     if is_offered && !offered.is_full() {
         offered.push(id);
@@ -200,27 +198,21 @@ pub(crate) fn offer(offered: &mut FixedVec<SocketId, ENTRIES>, id: SocketId, is_
 }
 
 /// Takes the connections that wait at `listener` out of those offered.
-pub(crate) fn offer_no_more(
-    offered: &mut FixedVec<SocketId, ENTRIES>,
-    entries: &[Entry],
-    listener: SocketId,
-)
+pub(crate) fn offer_no_more(offered: &mut FixedVec<SocketId>, entries: &[Entry], listener: SocketId)
     requires { AreInOrder entries.now }
-    ensures { offered.new.items ≡ filter (λ id. not (is_waiting_id entries.now listener id)) offered.old.items }
+    ensures most { offered.new.most ≡ offered.old.most }
+    ensures items { offered.new.items ≡ filter (λ id. not (is_waiting_id entries.now listener id)) offered.old.items }
 {
     offered.retain(|id| !is_waiting_id(entries, listener, *id));
 }
 
 /// Lets the timers of every entry act whose moment has come, and takes out those whose connection is gone then.
-pub(crate) fn tick(
-    entries: &mut FixedVec<Entry, ENTRIES>,
-    ends: &mut FixedVec<Filed, ENTRIES>,
-    now: Moment,
-)
+pub(crate) fn tick(entries: &mut FixedVec<Entry>, ends: &mut FixedVec<Filed>, now: Moment)
     requires order { (last : ℕ) × AreAscending 0 last entries.old.items }
     requires index { ends.old.items ≡ index_of entries.old.items }
     ensures entries { entries.new.items ≡ entries_after_steps (tick_fate_of now) (role_after_tick now) entries.old.items }
     ensures index { ends.new.items ≡ index_of entries.new.items }
+    ensures most { (entries.new.most ≡ entries.old.most) × (ends.new.most ≡ ends.old.most) }
 {
     let held = entries.len();
     entries.retain(|entry| entry.tick(now));
@@ -229,8 +221,8 @@ pub(crate) fn tick(
 
 /// Aborts the connections that wait at the listener `id`, which is closed, and takes out those that are CLOSED already.
 pub(crate) fn forsake(
-    entries: &mut FixedVec<Entry, ENTRIES>,
-    ends: &mut FixedVec<Filed, ENTRIES>,
+    entries: &mut FixedVec<Entry>,
+    ends: &mut FixedVec<Filed>,
     now: Moment,
     id: SocketId,
 )
@@ -238,6 +230,7 @@ pub(crate) fn forsake(
     requires index { ends.old.items ≡ index_of entries.old.items }
     ensures entries { entries.new.items ≡ entries_after_steps (listener_close_fate_of id) (role_after_listener_close now id) entries.old.items }
     ensures index { ends.new.items ≡ index_of entries.new.items }
+    ensures most { (entries.new.most ≡ entries.old.most) × (ends.new.most ≡ ends.old.most) }
 {
     let held = entries.len();
     entries.retain(|entry| entry.forsake(now, id));
@@ -247,8 +240,8 @@ pub(crate) fn forsake(
 /// Lets every entry give up what has waited too long for a lost address, and takes out the connections whose reset is given up, and those
 /// that are given up themselves and that no caller has.
 pub(crate) fn give_up<F: Fn(Addr) -> bool>(
-    entries: &mut FixedVec<Entry, ENTRIES>,
-    ends: &mut FixedVec<Filed, ENTRIES>,
+    entries: &mut FixedVec<Entry>,
+    ends: &mut FixedVec<Filed>,
     now: Moment,
     lost: &F,
 )
@@ -256,6 +249,7 @@ pub(crate) fn give_up<F: Fn(Addr) -> bool>(
     requires order { (last : ℕ) × AreAscending 0 last entries.old.items }
     requires index { ends.old.items ≡ index_of entries.old.items }
     ensures index { ends.new.items ≡ index_of entries.new.items }
+    ensures most { (entries.new.most ≡ entries.old.most) × (ends.new.most ≡ ends.old.most) }
     ensures ids { (last : ℕ) → AreAscending 0 last entries.old.items → AreAscending 0 last entries.new.items }
     ensures left { (test : Addr → Bool) → ((addr : Addr) (answer : Bool) → F.post lost.now addr answer → answer ≡ test addr) → entries.new.items ≡ entries_after_steps (give_up_fate_of test now) (role_after_giving_up test now) entries.old.items }
 {
@@ -284,8 +278,8 @@ pub(crate) fn sound(entries: &[Entry])
 
 /// Takes an entry out of the table where its connection is gone.
 pub(crate) fn settle(
-    entries: &mut FixedVec<Entry, ENTRIES>,
-    ends: &mut FixedVec<Filed, ENTRIES>,
+    entries: &mut FixedVec<Entry>,
+    ends: &mut FixedVec<Filed>,
     place: usize,
     fate: Fate,
 )
@@ -294,6 +288,7 @@ pub(crate) fn settle(
     requires index { ends.old.items ≡ index_of entries.old.items }
     ensures entries { entries.new.items ≡ (if is_kept fate then entries.old.items else remove entries.old.items place) }
     ensures index { ends.new.items ≡ index_of entries.new.items }
+    ensures most { (entries.new.most ≡ entries.old.most) × (ends.new.most ≡ ends.old.most) }
 {
     if !is_kept(fate) {
         let held = entries.len();

@@ -1,5 +1,10 @@
 -- Why each host of a world is one that events of its own lead to.
-use Rattle.std.proofs.Common.{◌≡◌, ◌⊎◌, inl, inr, ◌≢◌, ℕ, zero, suc, ◌==◌, ◌<◌, ◌≤◌, ◌^◌, ◌++◌, ◌∷◌, [], List, Contains, length, slice_get, Bool, true, false, Option, Some, None, Result, Ok, Err, is_ok, arith, refl, sym, ◌∙◌, ap, subst}
+use Rattle.host.proofs.Ran.{set_up-stays}
+use Rattle.sockets.specs.declared.sizes.Sizes.{Sizes as TableSizes}
+use Rattle.tcp_halves.specs.Halves.{Room}
+use Rattle.tcp_halves.specs.Stream.{size_of}
+use Rattle.tcp_segment.specs.declared.TheConstants.{MSS}
+use Rattle.std.proofs.Common.{◌≡◌, ◌⊎◌, inl, inr, ◌≢◌, ℕ, zero, suc, ◌==◌, ◌<◌, ◌≤◌, ◌^◌, ◌++◌, ◌∷◌, [], List, Contains, length, slice_get, Bool, true, false, Option, Some, None, Result, Ok, Err, is_ok, arith, refl, sym, ◌∙◌, ap, subst, ◌*◌}
 use Rattle.std.specs.List.{AllByRecursion}
 use Rattle.std.proofs.lemmas.Bool.{eqb-true}
 use Rattle.std.proofs.lemmas.List.Elements.{Contains-append_left, Contains-append_right, Contains-append_cases}
@@ -43,7 +48,7 @@ use Rattle.sockets.proofs.Leaving.{room_wide, fresh_leaves, socket_leaves}
 use Rattle.sockets.proofs.Near.{fresh_near, deadline_near, deadline_in_a_day}
 use Rattle.sockets.proofs.Telling.{socket_told, role_tells}
 use Rattle.host.specs.Emission.{after_emission, emission_octets}
-use Rattle.host.specs.HostView.{HostView}
+use Rattle.host.specs.HostView.{HostView, new_host, sizes_of}
 use Rattle.host.specs.Runs.{Event as HostEvent, Calls, Ticks, Delivers, Emits, IsCall, IsAsked, IsNumbered, IsUpTo, IsSized, Makes, Runs, Begins, GoesOn}
 use Rattle.host.specs.Sound.{IsSoundHost}
 use Rattle.host.specs.ConfigView.{ConfigView}
@@ -72,7 +77,9 @@ use Rattle.wire_sim.specs.Steps.{Answers, MeetsSocket, recv_len, MeetsReceived, 
 use Rattle.wire_sim.specs.Windows.{QuietReadersLeaveAWindow}
 use Rattle.wire_sim.specs.WorldView.{NetworkView, WorldView, station_of, host_of, table_of, clock_of}
 use Rattle.wire_sim.proofs.fairness.NotesAreTraced.{frames-step, got-still, got-last}
-use Rattle.host.proofs.Tables.{run-manner}
+use Rattle.host.specs.declared.sizes.Sizes.{Sizes}
+use Rattle.host.proofs.Causes.{run-stands}
+use Rattle.host.proofs.Tables.{run-manner, sizes-kept}
 use Rattle.wire_sim.proofs.passage.HostsStay.{run-stays}
 use Rattle.wire_sim.proofs.openings.HoldingsAreNoted.{other-stays, side_of}
 use Rattle.wire_sim.proofs.runs.ClocksGoOn.{clock-goes-on, tick-told}
@@ -80,12 +87,8 @@ use Rattle.wire_sim.proofs.runs.RunsAreLawful.{own-again, own-with}
 
 -- What a call makes of a table, behind an interface: it stays, or takes one event that is allowed, and is a call.
 
--- a call of a socket, and one that it makes has room for three segments
-abbrev IsSizedCall : List Route → table.Event → Type 0
-IsSizedCall routes e = IsCall routes e × leaving.IsSized e
-
 abbrev IsCalled : InterfaceView → Moment → SocketsView → SocketsView → Type 0
-IsCalled i now h new = (new ≡ h) ⊎ ((e : table.Event) × IsAllowed h e × timing.IsNumbered e × ((latest : Moment) → now.0 ≤ latest.0 → timing.IsUpTo latest e) × (new ≡ table.after_event h e) × IsSizedCall i.routes e)
+IsCalled i now h new = (new ≡ h) ⊎ ((e : table.Event) × IsAllowed h e × timing.IsNumbered e × ((latest : Moment) → now.0 ≤ latest.0 → timing.IsUpTo latest e) × (new ≡ table.after_event h e) × IsCall i.routes e)
 
 -- a call that changes nothing
 asked : {T : Type 0} (i : InterfaceView) (now : Moment) (r : Result T Refusal) (told : T → Answer) (h : SocketsView) (answer : Answer) (new : SocketsView) → Answers r told h h answer new → IsCalled i now h new
@@ -93,7 +96,7 @@ asked i now (Ok value) told h answer new meets = inl meets.1
 asked i now (Err refusal) told h answer new meets = inl meets.1
 
 -- a call that is allowed where it is answered
-answered : {T : Type 0} (i : InterfaceView) (now : Moment) (r : Result T Refusal) (told : T → Answer) (h : SocketsView) (e : table.Event) (answer : Answer) (new : SocketsView) → timing.IsNumbered e → ((latest : Moment) → now.0 ≤ latest.0 → timing.IsUpTo latest e) → IsSizedCall i.routes e → (is_ok r ≡ true → IsAllowed h e) → Answers r told (table.after_event h e) h answer new → IsCalled i now h new
+answered : {T : Type 0} (i : InterfaceView) (now : Moment) (r : Result T Refusal) (told : T → Answer) (h : SocketsView) (e : table.Event) (answer : Answer) (new : SocketsView) → timing.IsNumbered e → ((latest : Moment) → now.0 ≤ latest.0 → timing.IsUpTo latest e) → IsCall i.routes e → (is_ok r ≡ true → IsAllowed h e) → Answers r told (table.after_event h e) h answer new → IsCalled i now h new
 answered i now (Ok value) told h e answer new small up own allowed meets = inr (e, allowed refl, small, up, meets.1, own)
 answered i now (Err refusal) told h e answer new small up own allowed meets = inl meets.1
 
@@ -103,39 +106,39 @@ unrefused None is = refl
 unrefused (Some refusal) is = cc
 
 made : (i : InterfaceView) (now : Moment) (kind : Kind) (h : SocketsView) (answer : Answer) (new : SocketsView) → MeetsSocket kind h answer new → IsCalled i now h new
-made i now Tcp h (reply.Socket id) new meets = inr (table.Makes (room_of h.manner), meets.0, tt, λ latest up. tt, meets.2, (tt, room_wide h.manner))
-made i now Udp h (reply.Socket id) new meets = inr (table.MakesDatagrams, meets.0, tt, λ latest up. tt, meets.2, (tt, tt))
+made i now Tcp h (reply.Socket id) new meets = inr (table.Makes (room_of h.sizes.buffer h.manner), (meets.0, refl), tt, λ latest up. tt, meets.2, tt)
+made i now Udp h (reply.Socket id) new meets = inr (table.MakesDatagrams, meets.0, tt, λ latest up. tt, meets.2, tt)
 made i now kind h (reply.Refused EMFILE) new meets = inl meets.1
 made i now kind h (reply.Refused ENOMEM) new meets = inl meets.1
 made i now kind h _ new meets = absurd meets
 
 read : (i : InterfaceView) (now : Moment) (h : SocketsView) (id : SocketId) (len : ℕ) (r : Result Received Refusal) → recv_answer h id len ≡ r → (answer : Answer) (new : SocketsView) → MeetsReceived h id len r answer new → IsCalled i now h new
-read i now h id len (Ok (received.Octets count)) is (reply.Octets octets) new meets = inr (table.Receives id len, ap is_ok is, tt, λ latest up. tt, meets.1, (tt, tt))
-read i now h id len (Ok received.EndOfStream) is reply.EndOfStream new meets = inr (table.Receives id len, ap is_ok is, tt, λ latest up. tt, meets, (tt, tt))
+read i now h id len (Ok (received.Octets count)) is (reply.Octets octets) new meets = inr (table.Receives id len, ap is_ok is, tt, λ latest up. tt, meets.1, tt)
+read i now h id len (Ok received.EndOfStream) is reply.EndOfStream new meets = inr (table.Receives id len, ap is_ok is, tt, λ latest up. tt, meets, tt)
 read i now h id len (Err refusal) is (reply.Refused told) new meets = inl meets.1
 read i now h id len _ is _ new meets = absurd meets
 
 read_from : (i : InterfaceView) (now : Moment) (h : SocketsView) (id : SocketId) (len : ℕ) (r : Result (ℕ × Endpoint) Refusal) → recvfrom_answer h id len ≡ r → (answer : Answer) (new : SocketsView) → MeetsReceivedFrom h id r answer new → IsCalled i now h new
-read_from i now h id len (Ok (count, from)) is (reply.Datagram octets told) new meets = inr (table.ReceivesFrom id len, ap is_ok is, tt, λ latest up. tt, meets.2, (tt, tt))
+read_from i now h id len (Ok (count, from)) is (reply.Datagram octets told) new meets = inr (table.ReceivesFrom id len, ap is_ok is, tt, λ latest up. tt, meets.2, tt)
 read_from i now h id len (Err refusal) is (reply.Refused told) new meets = inl meets.1
 read_from i now h id len _ is _ new meets = absurd meets
 
 called : (i : InterfaceView) (now : Moment) (c : Call) (h : SocketsView) (answer : Answer) (new : SocketsView) → IsNumberedCall c → MeetsCall (is_routed i) now c h answer new → IsCalled i now h new
 called i now (call.Socket kind) h answer new small meets = made i now kind h answer new meets
-called i now (call.Bind id local) h answer new small meets = answered i now _ _ h (table.Binds id local) answer new tt (λ latest up. tt) (tt, tt) (unrefused (bind_refusal h id local)) meets
-called i now (call.Listen id backlog) h answer new small meets = answered i now _ _ h (table.Listens id backlog) answer new tt (λ latest up. tt) (tt, tt) (unrefused (listen_refusal h id backlog)) meets
-called i now (call.Accept id) h answer new small meets = answered i now (accept_answer h id) _ h (table.Accepts id) answer new tt (λ latest up. tt) (tt, tt) (λ taken. taken) meets
-called i now (call.Connect isn id peer) h answer new small meets = answered i now _ _ h (table.Connects now isn.0 id peer (is_routed i peer.addr)) answer new small (λ latest up. up) (refl, tt) (unrefused (connect_refusal h id peer (is_routed i peer.addr))) meets
-called i now (call.Send id octets) h answer new small meets = answered i now (send_answer h id octets.items) _ h (table.Sends id octets.items) answer new tt (λ latest up. tt) (tt, tt) (λ taken. taken) meets
+called i now (call.Bind id local) h answer new small meets = answered i now _ _ h (table.Binds id local) answer new tt (λ latest up. tt) tt (unrefused (bind_refusal h id local)) meets
+called i now (call.Listen id backlog) h answer new small meets = answered i now _ _ h (table.Listens id backlog) answer new tt (λ latest up. tt) tt (unrefused (listen_refusal h id backlog)) meets
+called i now (call.Accept id) h answer new small meets = answered i now (accept_answer h id) _ h (table.Accepts id) answer new tt (λ latest up. tt) tt (λ taken. taken) meets
+called i now (call.Connect isn id peer) h answer new small meets = answered i now _ _ h (table.Connects now isn.0 id peer (is_routed i peer.addr)) answer new small (λ latest up. up) refl (unrefused (connect_refusal h id peer (is_routed i peer.addr))) meets
+called i now (call.Send id octets) h answer new small meets = answered i now (send_answer h id octets.items) _ h (table.Sends id octets.items) answer new tt (λ latest up. tt) tt (λ taken. taken) meets
 called i now (call.Recv id len) h answer new small meets = read i now h id (recv_len len) (recv_answer h id (recv_len len)) refl answer new meets
-called i now (call.SendTo id peer octets) h answer new small meets = answered i now (sendto_answer h id peer octets.items (is_routed i peer.addr)) _ h (table.SendsTo id peer octets.items (is_routed i peer.addr)) answer new tt (λ latest up. tt) (refl, tt) (λ taken. taken) meets
+called i now (call.SendTo id peer octets) h answer new small meets = answered i now (sendto_answer h id peer octets.items (is_routed i peer.addr)) _ h (table.SendsTo id peer octets.items (is_routed i peer.addr)) answer new tt (λ latest up. tt) refl (λ taken. taken) meets
 called i now (call.RecvFrom id len) h answer new small meets = read_from i now h id (recv_len len) (recvfrom_answer h id (recv_len len)) refl answer new meets
-called i now (call.Shutdown id) h answer new small meets = answered i now _ _ h (table.Shuts id) answer new tt (λ latest up. tt) (tt, tt) (unrefused (shutdown_refusal h id)) meets
-called i now (call.SetNoDelay id on) h answer new small meets = answered i now _ _ h (table.SetsNoDelay id on) answer new tt (λ latest up. tt) (tt, tt) (unrefused (nodelay_refusal h id)) meets
-called i now (call.SetKeepAlive id every) h answer new small meets = answered i now _ _ h (table.SetsKeepAlive id every) answer new tt (λ latest up. tt) (tt, tt) (unrefused (keepalive_refusal h id every)) meets
-called i now (call.Close id) h answer new small meets = answered i now _ _ h (table.Leaves Close id) answer new tt (λ latest up. tt) (tt, tt) (unrefused (close_refusal h id)) meets
-called i now (call.Abort id) h answer new small meets = answered i now _ _ h (table.Leaves Abort id) answer new tt (λ latest up. tt) (tt, tt) (unrefused (close_refusal h id)) meets
-called i now (call.GiveWay id) h answer new small meets = answered i now (Ok (tt {0})) (λ _. reply.Done) h (table.GivesWay (has_id id)) answer new tt (λ latest up. tt) (tt, tt) (λ _. tt) meets
+called i now (call.Shutdown id) h answer new small meets = answered i now _ _ h (table.Shuts id) answer new tt (λ latest up. tt) tt (unrefused (shutdown_refusal h id)) meets
+called i now (call.SetNoDelay id on) h answer new small meets = answered i now _ _ h (table.SetsNoDelay id on) answer new tt (λ latest up. tt) tt (unrefused (nodelay_refusal h id)) meets
+called i now (call.SetKeepAlive id every) h answer new small meets = answered i now _ _ h (table.SetsKeepAlive id every) answer new tt (λ latest up. tt) tt (unrefused (keepalive_refusal h id every)) meets
+called i now (call.Close id) h answer new small meets = answered i now _ _ h (table.Leaves Close id) answer new tt (λ latest up. tt) tt (unrefused (close_refusal h id)) meets
+called i now (call.Abort id) h answer new small meets = answered i now _ _ h (table.Leaves Abort id) answer new tt (λ latest up. tt) tt (unrefused (close_refusal h id)) meets
+called i now (call.GiveWay id) h answer new small meets = answered i now (Ok (tt {0})) (λ _. reply.Done) h (table.GivesWay (has_id id)) answer new tt (λ latest up. tt) tt (λ _. tt) meets
 called i now (call.State id) h answer new small meets = asked i now (state_answer h id) _ h answer new meets
 called i now (call.Ready id) h answer new small meets = asked i now (readiness h id) _ h answer new meets
 called i now (call.Info id) h answer new small meets = asked i now (info_answer h id) _ h answer new meets
@@ -156,9 +159,9 @@ pub record Brings (n : NetworkView) (side : Side) (happens : Event) (octets : Li
 abbrev pub AreBrought : NetworkView → Side → Event → HostEvent → Type 0
 AreBrought n side happens e = (now : Moment) (isn : ℕ) (octets : List ℕ) → e ≡ Delivers now isn octets → Brings n side happens octets
 
--- a call of a host is one of its table's events that a socket's call is, and a socket that it makes has room for three segments
+-- a call of a host is one of its table's events that a socket's call is
 abbrev pub IsOwnCall : List Route → HostEvent → Type 0
-IsOwnCall routes (Calls e) = IsSizedCall routes e
+IsOwnCall routes (Calls e) = IsCall routes e
 IsOwnCall routes (Ticks now) = Unit {0}
 IsOwnCall routes (Delivers now isn octets) = Unit {0}
 IsOwnCall routes (Emits now) = Unit {0}
@@ -258,19 +261,24 @@ delivered-now w v happens answer step side octets b = record {
   carries = b.carries;
 }
 
--- a host keeps its set-up
-set-up : (c : ConfigView) (events : List HostEvent) (h : HostView) → Runs c events h → c ≡ record { mac = h.interface.mac; addr = h.interface.addr; routes = h.interface.routes; manner = h.sockets.manner }
+-- a host keeps its size
+sized : (c : ConfigView) (events : List HostEvent) (h : HostView) → Runs c events h → c.sizes ≡ sizes_of h
+sized c events h runs = let stays = set_up-stays c events h runs in sym stays.5
+
+-- and its set-up
+set-up : (c : ConfigView) (events : List HostEvent) (h : HostView) → Runs c events h → c ≡ record { mac = h.interface.mac; addr = h.interface.addr; routes = h.interface.routes; manner = h.sockets.manner; sizes = sizes_of h }
 set-up c events h runs =
     let s = run-stays c events h runs in
-    let with_mac : Mac → ConfigView = λ m. record { mac = m; addr = c.addr; routes = c.routes; manner = c.manner } in
-    let with_addr : Addr → ConfigView = λ a. record { mac = h.interface.mac; addr = a; routes = c.routes; manner = c.manner } in
-    let with_routes : List Route → ConfigView = λ rs. record { mac = h.interface.mac; addr = h.interface.addr; routes = rs; manner = c.manner } in
-    let with_manner : Manner → ConfigView = λ m. record { mac = h.interface.mac; addr = h.interface.addr; routes = h.interface.routes; manner = m } in
-    ap with_mac (sym s.mac) ∙ (ap with_addr (sym s.addr) ∙ (ap with_routes (sym s.routes) ∙ ap with_manner (sym (run-manner c events h runs))))
+    let with_mac : Mac → ConfigView = λ m. record { mac = m; addr = c.addr; routes = c.routes; manner = c.manner; sizes = c.sizes } in
+    let with_addr : Addr → ConfigView = λ a. record { mac = h.interface.mac; addr = a; routes = c.routes; manner = c.manner; sizes = c.sizes } in
+    let with_routes : List Route → ConfigView = λ rs. record { mac = h.interface.mac; addr = h.interface.addr; routes = rs; manner = c.manner; sizes = c.sizes } in
+    let with_manner : Manner → ConfigView = λ m. record { mac = h.interface.mac; addr = h.interface.addr; routes = h.interface.routes; manner = m; sizes = c.sizes } in
+    let with_sizes : Sizes → ConfigView = λ z. record { mac = h.interface.mac; addr = h.interface.addr; routes = h.interface.routes; manner = h.sockets.manner; sizes = z } in
+    ap with_mac (sym s.mac) ∙ (ap with_addr (sym s.addr) ∙ (ap with_routes (sym s.routes) ∙ (ap with_manner (sym (run-manner c events h runs)) ∙ ap with_sizes (sized c events h runs))))
 
 -- what may be asked of a host is what its own routes know
 asked-own : (c : ConfigView) (routes : List Route) (e : HostEvent) → c.routes ≡ routes → IsOwnCall routes e → IsAsked c e
-asked-own c routes (Calls e) same own = subst (λ (rs : List Route). IsCall rs e) (sym same) own.0
+asked-own c routes (Calls e) same own = subst (λ (rs : List Route). IsCall rs e) (sym same) own
 asked-own c routes (Ticks now) same own = tt
 asked-own c routes (Delivers now isn octets) same own = tt
 asked-own c routes (Emits now) same own = tt
@@ -318,8 +326,8 @@ nothing-traced w side now isn octets (k, within, is) = absurd (omega (arith, wit
 -- Any world.
 
 pub hosts-run : EveryHostRuns
-hosts-run limit w (begins a b a_is b_is apart small) A = record { run = record { config = a; set_up = a_is; events = []; asked = tt; runs = Begins }; own = refl; traced = nothing-traced w A }
-hosts-run limit w (begins a b a_is b_is apart small) B = record { run = record { config = b; set_up = b_is; events = []; asked = tt; runs = Begins }; own = refl; traced = nothing-traced w B }
+hosts-run limit w (begins a b a_is b_is apart small) A = record { run = record { config = a; set_up = a_is; events = []; asked = tt; runs = Begins }; own = set-up a [] (new_host a) Begins; traced = nothing-traced w A }
+hosts-run limit w (begins a b a_is b_is apart small) B = record { run = record { config = b; set_up = b_is; events = []; asked = tt; runs = Begins }; own = set-up b [] (new_host b) Begins; traced = nothing-traced w B }
 hosts-run limit _ (goes_on w v happens answer reached step) side = run-on w v happens answer step side (sound-at w v step side) (moved w v happens answer step side) (hosts-run limit w reached side)
 
 -- a table is near what a later clock shows, where it is near what an earlier one does
@@ -338,8 +346,8 @@ nearer before after h on_clock near = record { kept = omega (arith, near.kept, o
 
 -- each event of a host names its side's clock at the latest
 pub tables-near : (limit : ℕ) (w : WorldView) → IsReached limit w → (side : Side) → AreNear (clock_of w.network side) (table_of w.network side)
-tables-near limit w (begins a b a_is b_is apart small) A = fresh_near a.addr a.manner (record { 0 = 0 })
-tables-near limit w (begins a b a_is b_is apart small) B = fresh_near b.addr b.manner (record { 0 = 0 })
+tables-near limit w (begins a b a_is b_is apart small) A = let h = new_host a in fresh_near a.addr a.manner h.sockets.sizes (record { 0 = 0 })
+tables-near limit w (begins a b a_is b_is apart small) B = let h = new_host b in fresh_near b.addr b.manner h.sockets.sizes (record { 0 = 0 })
 tables-near limit _ (goes_on w v happens answer reached step) side =
     by_move (nearer (clock_of w.network side) (clock_of v.network side) (table_of w.network side) (clock-goes-on happens (length w.trace) answer w.network v.network step.network side) (tables-near limit w reached side)) (moved w v happens answer step side)
   where
@@ -347,17 +355,23 @@ tables-near limit _ (goes_on w v happens answer reached step) side =
     by_move before (inl same) = subst (λ (h : HostView). AreNear (clock_of v.network side) h.sockets) (sym same) before
     by_move before (inr (e, numbered, makes, brings, up, own)) = event-near e (host_of w.network side) (host_of v.network side) (clock_of v.network side) (sound-at w v step side) numbered up makes before
 
-own-sized : (routes : List Route) (e : HostEvent) → IsOwnCall routes e → IsSized e
-own-sized routes (Calls e) own = own.1
-own-sized routes (Ticks now) own = tt
-own-sized routes (Delivers now isn octets) own = tt
-own-sized routes (Emits now) own = tt
+-- a socket that a call makes has room for three segments where the host's buffers have
+call-sized : (routes : List Route) (h : SocketsView) (e : table.Event) → 3 * MSS ≤ h.sizes.buffer → IsAllowed h e → IsCall routes e → leaving.IsSized e
+call-sized routes h (table.Makes buffers) wide allowed own = subst (λ (r : Room). 3 * MSS ≤ size_of r) (sym allowed.1) (room_wide h.sizes.buffer h.manner wide)
+call-sized routes h (table.Hears now isn source s) wide allowed own = absurd own
+call-sized routes h _ wide allowed own = tt
 
--- each connection leaves its peer a window
-pub tables-leave : (limit : ℕ) (w : WorldView) → IsReached limit w → (side : Side) → EachLeavesAWindow (table_of w.network side)
-tables-leave limit w (begins a b a_is b_is apart small) A = fresh_leaves a.addr a.manner
-tables-leave limit w (begins a b a_is b_is apart small) B = fresh_leaves b.addr b.manner
-tables-leave limit _ (goes_on w v happens answer reached step) side = by_move (tables-leave limit w reached side) (moved w v happens answer step side)
+own-sized : (routes : List Route) (e : HostEvent) (old new : HostView) → 3 * MSS ≤ old.sockets.sizes.buffer → Makes e old new → IsOwnCall routes e → IsSized e
+own-sized routes (Calls e) old new wide makes own = call-sized routes old.sockets e wide makes.0 own
+own-sized routes (Ticks now) old new wide makes own = tt
+own-sized routes (Delivers now isn octets) old new wide makes own = tt
+own-sized routes (Emits now) old new wide makes own = tt
+
+-- each connection leaves its peer a window, where its host's buffers have room for three segments
+pub tables-leave : (limit : ℕ) (w : WorldView) → IsReached limit w → (side : Side) → 3 * MSS ≤ (let t = table_of w.network side in t.sizes.buffer) → EachLeavesAWindow (table_of w.network side)
+tables-leave limit w (begins a b a_is b_is apart small) A wide = let h = new_host a in fresh_leaves a.addr a.manner h.sockets.sizes
+tables-leave limit w (begins a b a_is b_is apart small) B wide = let h = new_host b in fresh_leaves b.addr b.manner h.sockets.sizes
+tables-leave limit _ (goes_on w v happens answer reached step) side wide = by_move (λ was. tables-leave limit w reached side was) (moved w v happens answer step side)
   where
     old : HostView
     old = host_of w.network side
@@ -365,12 +379,14 @@ tables-leave limit _ (goes_on w v happens answer reached step) side = by_move (t
     new : HostView
     new = host_of v.network side
 
-    by_move : EachLeavesAWindow old.sockets → IsMoved w.network (clock_of v.network side) side happens old new → EachLeavesAWindow new.sockets
-    by_move before (inl same) = subst (λ (h : HostView). EachLeavesAWindow h.sockets) (sym same) before
-    by_move before (inr (e, numbered, makes, brings, up, own)) = event-leaves e old new (sound-at w v step side) numbered (own-sized _ e own) makes before
+    by_move : (3 * MSS ≤ old.sockets.sizes.buffer → EachLeavesAWindow old.sockets) → IsMoved w.network (clock_of v.network side) side happens old new → EachLeavesAWindow new.sockets
+    by_move before (inl same) = subst (λ (h : HostView). EachLeavesAWindow h.sockets) (sym same) (before (subst (λ (h : HostView). 3 * MSS ≤ h.sockets.sizes.buffer) same wide))
+    by_move before (inr (e, numbered, makes, brings, up, own)) =
+        let was : 3 * MSS ≤ old.sockets.sizes.buffer = subst (λ (s : TableSizes). 3 * MSS ≤ s.buffer) (sizes-kept e old new (sound-at w v step side) numbered makes) wide in
+        event-leaves e old new (sound-at w v step side) was numbered (own-sized _ e old new was makes own) makes (before was)
 
 pub quiet-leave : QuietReadersLeaveAWindow
-quiet-leave limit w reached side id c listener is opened none read = socket_leaves (table_of w.network side) id c listener (tables-leave limit w reached side) is opened none read
+quiet-leave limit w reached side id c listener wide is opened none read = socket_leaves (table_of w.network side) id c listener (tables-leave limit w reached side wide) is opened none read
 
 pub tables-kept : EveryTableIsKept
 tables-kept limit w reached side =

@@ -79,7 +79,7 @@ pub record IsUnknown (h : HostView) (c : View) : Type 0 where
 pub record HasPlace (h : SocketsView) (port : ℕ) (listener : Entry) : Type 0 where
   pub listens : find (is_listening_at port) h.entries ≡ Some listener
   pub fewer : count_by (is_waiting_at listener.id) h.entries < backlog_of listener.role
-  pub room : length h.entries < 64
+  pub room : length h.entries < h.sizes.entries
   pub young : h.last_id + 1 < 2 ^ 64
 
 -- this control reply waits, behind all that waited before

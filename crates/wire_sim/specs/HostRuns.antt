@@ -26,6 +26,7 @@ use Rattle.sockets.specs.SocketsView.{SocketsView, role_of}
 use Rattle.sockets.specs.Ticks.{least_deadline}
 use Rattle.sockets.specs.Timing.{EachKeepsTime, AreNear, NoneAsks}
 use Rattle.host.specs.Causes.{IsAbout}
+use Rattle.host.specs.HostView.{sizes_of}
 use Rattle.host.specs.Runs as hosts
 use Rattle.host.specs.Runs.{Event as HostEvent, Delivers}
 use Rattle.wire_sim.specs.declared.event.Answer.{Answer}
@@ -51,10 +52,10 @@ pub record WasDelivered (w : WorldView) (side : Side) (octets : List ℕ) : Type
 abbrev pub AreTraced : WorldView → Side → List HostEvent → Type 0
 AreTraced w side events = (now : Moment) (isn : ℕ) (octets : List ℕ) → Contains events (Delivers now isn octets) → WasDelivered w side octets
 
--- a list of events that may be asked of it leads to a side's host, from one that was set up with its own MAC, address and routes, and what the list delivers was delivered in the world
+-- a list of events that may be asked of it leads to a side's host, from one that was set up with its own MAC, address, routes and sizes, and what the list delivers was delivered in the world
 pub record HasRun (w : WorldView) (side : Side) : Type 0 where
   pub run : hosts.HasRun (host_of w.network side)
-  pub own : let h = host_of w.network side in run.config ≡ record { mac = h.interface.mac; addr = h.interface.addr; routes = h.interface.routes; manner = h.sockets.manner }
+  pub own : let h = host_of w.network side in run.config ≡ record { mac = h.interface.mac; addr = h.interface.addr; routes = h.interface.routes; manner = h.sockets.manner; sizes = sizes_of h }
   pub traced : AreTraced w side run.events
 
 abbrev pub EveryHostRuns : Type 0

@@ -4,6 +4,7 @@ use Rattle.ether.specs.declared.mac.Mac.{Mac}
 use Rattle.ipv4.specs.declared.addr.Addr.{Addr}
 use Rattle.routes.specs.declared.route.Route.{Route}
 use Rattle.routes.specs.declared.route.Hop.TheVariants.{Direct}
+use Rattle.host.specs.declared.sizes.TheConstants.Sizes.{USUAL}
 use Rattle.host.specs.ConfigView.{ConfigView, usual_manner}
 use Rattle.sides.specs.declared.side.Side.{Side}
 use Rattle.sides.specs.declared.side.Side.TheVariants.{A, B}
@@ -24,7 +25,7 @@ pub record IsLinkRoute (route : Route) : Type 0 where
   pub length : route.prefix.length ≡ 24
   pub hop : route.hop ≡ Direct
 
--- how a side's host is set up: that is its one route, it uses the window scale option or doesn't, and its small segments wait for all that is outstanding
+-- how a side's host is set up: that is its one route, it uses the window scale option or doesn't, its small segments wait for all that is outstanding, and it is of the usual sizes
 pub record IsSetUp (scales : Bool) (side : Side) (config : ConfigView) : Type 0 where
   pub mac : config.mac ≡ mac_of side
   pub addr : config.addr ≡ address_of side
@@ -32,3 +33,4 @@ pub record IsSetUp (scales : Bool) (side : Side) (config : ConfigView) : Type 0 
   pub link : IsLinkRoute route
   pub routes : config.routes ≡ route ∷ []
   pub manner : config.manner ≡ record usual_manner { scales = scales }
+  pub sizes : config.sizes ≡ USUAL

@@ -40,7 +40,7 @@ fn link() -> Routes
     routes
 }
 
-/// How a side's host is set up: its MAC, its address, and the one route. It uses the window scale option.
+/// How a side's host is set up: its MAC, its address, and the one route. It uses the window scale option, and is of the usual sizes.
 pub fn config(side: Side) -> Config
     ensures { IsSetUp true side result }
 {

@@ -53,12 +53,12 @@ pub fn every_reader_reads()
 {}
 
 /// A round moves data (RFC 9293 sections 3.4, 3.8.1, 3.8.6 and 3.10): from a world in which nothing is due at either host and each has heard the other lately, two sockets are each other's ends and the only live connections, the reader holds no octets of
-/// its own, the writer's timers expired under twelve times, and less was read than was written, more is read than before, or the writer holds fewer octets; and neither connection ends. So no host is safe by silence.
+/// its own and its host's buffers have room for three segments, the writer's timers expired under twelve times, and less was read than was written, more is read than before, or the writer holds fewer octets; and neither connection ends. So no host is safe by silence.
 pub fn every_round_moves_data()
     ensures { EveryRoundMovesData }
 {}
 
-/// Each host of a world is one that a list of its own events leads to, from a new one that was set up with its MAC, its address and its routes: calls that can be made of it and are
+/// Each host of a world is one that a list of its own events leads to, from a new one that was set up with its MAC, its address, its routes and its sizes: calls that can be made of it and are
 /// not refused, ticks, deliveries and emissions. So whatever `host` says of every such list, as that an echo reply has its request, is so of it, and so is whatever it says of a
 /// host that has run so (`HasRun` there), as that what is due comes up; where it asks for a sound host too, `World::sound` says that both are.
 pub fn every_host_runs()
@@ -85,8 +85,8 @@ pub fn every_deadline_lies_near()
     ensures { EveryDeadlineLiesNear }
 {}
 
-/// An open connection of which nothing is due, and that has nothing to be read, leaves its peer a window of a segment at least (RFC 9293 sections 3.8.6.2.2 and 3.8.6.3), also before it has spoken: whatever frame comes, what is heard of it has no more octets than a segment
-/// may have, and each buffer of a world has room for more than three.
+/// An open connection of which nothing is due, and that has nothing to be read, leaves its peer a window of a segment at least (RFC 9293 sections 3.8.6.2.2 and 3.8.6.3), also before it has spoken, where the buffers of its host have room for three segments: whatever frame comes, what is heard of it has
+/// no more octets than a segment may have.
 pub fn quiet_readers_leave_a_window()
     ensures { QuietReadersLeaveAWindow }
 {}

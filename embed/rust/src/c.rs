@@ -36,7 +36,14 @@ pub struct Config {
     pub least_timeout: u16,
     pub first_threshold: u32,
     pub guards: u8,
-    pub zero: [u8; 3],
+    pub replies: u8,
+    pub no_reassembly: u8,
+    pub reassemblies: u8,
+    pub entries: u32,
+    pub buffer: u32,
+    pub neighbours: u16,
+    pub reassembly_octets: u16,
+    pub zero: [u8; 4],
 }
 
 extern "C" {

@@ -88,6 +88,35 @@ pub enum Recovery {
     Selective = 2,
 }
 
+/// How large a host is: how much it has room for, and so how much memory it takes.
+#[derive(Clone, Copy, Debug, PartialEq, Eq, Hash)]
+pub struct Sizes {
+    /// How many sockets and connections there are at most, those among them that still end: 1 to 16,384.
+    pub entries: usize,
+    /// How many octets a connection holds each way: 2,048 to 1,048,576, and 65,535 at most where its windows aren't scaled (RFC 7323 section 2).
+    pub buffer: usize,
+    /// How many datagrams are put together of fragments at a time: 0 to 16.
+    pub reassemblies: usize,
+    /// The longest payload that is put together, in octets, its UDP header among them: 1,480 to 65,515.
+    pub reassembly_octets: usize,
+    /// How many control replies wait at most (ARP, ICMP, resets): 1 to 64.
+    pub replies: usize,
+    /// How many neighbours on the link are known at most: 8 to 4,096.
+    pub neighbours: usize,
+}
+
+impl Sizes {
+    /// Those of a host whose config names no others.
+    pub const USUAL: Sizes = Sizes {
+        entries: 64,
+        buffer: 1_048_576,
+        reassemblies: 4,
+        reassembly_octets: 65_515,
+        replies: 16,
+        neighbours: 64,
+    };
+}
+
 /// How a host is set up.
 #[derive(Clone, Copy, Debug)]
 pub struct Config<'a> {
@@ -101,6 +130,7 @@ pub struct Config<'a> {
     least_timeout: u16,
     first_threshold: u32,
     guards: bool,
+    sizes: Sizes,
 }
 
 impl<'a> Config<'a> {
@@ -117,10 +147,11 @@ impl<'a> Config<'a> {
             least_timeout: 0,
             first_threshold: 0,
             guards: false,
+            sizes: Sizes::USUAL,
         }
     }
 
-    /// With the window scale option a connection holds 1,048,576 octets each way, and else 65,535.
+    /// With the window scale option a connection holds as many octets each way as the sizes say, and else 65,535 at most.
     pub fn with_scale(self, scales: bool) -> Config<'a> {
         Config { scales, ..self }
     }
@@ -173,6 +204,20 @@ impl<'a> Config<'a> {
             ..self
         }
     }
+
+    /// How large the host is; else it has `Sizes::USUAL`. `Host::new` refuses a size that is out of its range. A small machine may want
+    /// `Sizes { entries: 8, buffer: 4096, reassemblies: 0, replies: 4, neighbours: 8, ..Sizes::USUAL }`.
+    pub fn with_sizes(self, sizes: Sizes) -> Config<'a> {
+        Config { sizes, ..self }
+    }
+}
+
+/// A size as C has it, where 0 would stand for the usual one.
+fn sized<N: TryFrom<usize>>(size: usize) -> Result<N, Error> {
+    if size == 0 {
+        return Err(Error::EINVAL);
+    }
+    N::try_from(size).map_err(|_| Error::EINVAL)
 }
 
 /// A host on a link. It gives back what it holds when it is dropped. It may move to another thread; hosts share nothing.
@@ -185,7 +230,7 @@ impl Host {
     /// A host with no sockets.
     ///
     /// EINVAL: the address isn't unicast, the MAC is one of a group, a prefix is longer than 32 bits or has bits set past its length, two routes have the
-    /// same prefix, or there are over 32. ENOMEM.
+    /// same prefix, or there are over 32; or a size is out of its range. ENOMEM.
     pub fn new(config: &Config) -> Result<Host, Error> {
         let mut routes = [c::Route::default(); ROUTES];
         if config.routes.len() > ROUTES {
@@ -196,6 +241,7 @@ impl Host {
             to.gateway = from.gateway.map_or(0, u32::from);
             to.length = from.length;
         }
+        let sizes = config.sizes;
         let given = c::Config {
             size: size_of::<c::Config>(),
             routes: routes.as_ptr(),
@@ -209,7 +255,14 @@ impl Host {
             least_timeout: config.least_timeout,
             first_threshold: config.first_threshold,
             guards: u8::from(config.guards),
-            zero: [0; 3],
+            replies: sized(sizes.replies)?,
+            no_reassembly: u8::from(sizes.reassemblies == 0),
+            reassemblies: sized(sizes.reassemblies.max(1))?,
+            entries: sized(sizes.entries)?,
+            buffer: sized(sizes.buffer)?,
+            neighbours: sized(sizes.neighbours)?,
+            reassembly_octets: sized(sizes.reassembly_octets)?,
+            zero: [0; 4],
         };
         let mut host = Host(c::Host { at: null_mut() });
         Error::check(unsafe { c::host_new_from(&mut host.0, &given, given.size, given.routes, given.count) })?;

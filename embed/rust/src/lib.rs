@@ -27,7 +27,7 @@ mod ready;
 pub use counters::Counters;
 pub use device::{Device, Heard};
 pub use error::{DropCause, Error};
-pub use host::{Config, Host, Kind, Pair, Recovery, Route, SocketId, State};
+pub use host::{Config, Host, Kind, Pair, Recovery, Route, Sizes, SocketId, State};
 pub use info::Info;
 pub use ready::Ready;
 

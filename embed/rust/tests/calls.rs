@@ -1,6 +1,6 @@
 //! What a program sees of the crate, call by call. `examples/two_hosts.rs` has a whole conversation.
 
-use hostc::{Config, Device, DropCause, Error, Heard, Host, Kind, Ready, Recovery, Route, SocketId, State, FRAME_SIZE};
+use hostc::{Config, Device, DropCause, Error, Heard, Host, Kind, Ready, Recovery, Route, Sizes, SocketId, State, FRAME_SIZE};
 use std::net::{Ipv4Addr, SocketAddrV4};
 
 const MAC: [u8; 6] = [2, 0, 0, 0, 0, 1];
@@ -52,6 +52,52 @@ fn each_number_of_a_set_up_is_taken() {
             let config = usual.with_recovery(recovery).with_threshold(number).with_first_segments(number as u8).with_least_timeout(number as u16);
             assert_eq!(Host::new(&config).err(), None);
         }
+    }
+}
+
+#[test]
+fn sizes_lie_in_their_ranges() {
+    let made = |sizes| Host::new(&Config::new(MAC, ADDR, &[LINK]).with_sizes(sizes)).err();
+    let usual = Sizes::USUAL;
+    let from = |least: Sizes, most: Sizes| {
+        assert_eq!(made(least), None);
+        assert_eq!(made(most), None);
+    };
+    from(Sizes { entries: 1, ..usual }, Sizes { entries: 16_384, ..usual });
+    from(Sizes { buffer: 2_048, ..usual }, Sizes { buffer: 1_048_576, ..usual });
+    from(Sizes { reassemblies: 0, ..usual }, Sizes { reassemblies: 16, ..usual });
+    from(Sizes { reassembly_octets: 1_480, ..usual }, Sizes { reassembly_octets: 65_515, ..usual });
+    from(Sizes { replies: 1, ..usual }, Sizes { replies: 64, ..usual });
+    from(Sizes { neighbours: 8, ..usual }, Sizes { neighbours: 4_096, ..usual });
+    for entries in [0, 16_385, 1 << 32] {
+        assert_eq!(made(Sizes { entries, ..usual }), Some(Error::EINVAL));
+    }
+    for buffer in [0, 2_047, 1_048_577, 1 << 32] {
+        assert_eq!(made(Sizes { buffer, ..usual }), Some(Error::EINVAL));
+    }
+    for reassemblies in [17, 256] {
+        assert_eq!(made(Sizes { reassemblies, ..usual }), Some(Error::EINVAL));
+    }
+    for reassembly_octets in [0, 1_479, 65_516, 1 << 16] {
+        assert_eq!(made(Sizes { reassembly_octets, ..usual }), Some(Error::EINVAL));
+    }
+    for replies in [0, 65, 256] {
+        assert_eq!(made(Sizes { replies, ..usual }), Some(Error::EINVAL));
+    }
+    for neighbours in [0, 7, 4_097, 1 << 16] {
+        assert_eq!(made(Sizes { neighbours, ..usual }), Some(Error::EINVAL));
+    }
+}
+
+#[test]
+fn a_host_has_as_many_entries_as_its_sizes_say() {
+    for entries in [1, 3, 200] {
+        let sizes = Sizes { entries, buffer: 2_048, ..Sizes::USUAL };
+        let mut host = Host::new(&Config::new(MAC, ADDR, &[LINK]).with_sizes(sizes)).unwrap();
+        for _ in 0..entries {
+            host.socket(Kind::Tcp).unwrap();
+        }
+        assert_eq!(host.socket(Kind::Tcp), Err(Error::EMFILE));
     }
 }
 

@@ -86,7 +86,7 @@ impl Station {
 }
 
 /// A fragment of the datagram with this identification, below 7, whose checksum is as it should be.
-fn fragment(identification: u8) -> [u8; 60] {
+pub(super) fn fragment(identification: u8) -> [u8; 60] {
     let mut frame = [0; 60];
     for (octet, old) in frame.iter_mut().zip(FRAGMENT_A.iter()) {
         *octet = *old;

@@ -123,7 +123,7 @@ fn all_come_to(pool: &mut Pool, rows: &[Row]) -> bool {
 
 #[test]
 fn overlaps_and_contradictions(rt: HostRuntime) -> Result<(), Fail> {
-    let mut pool = Pool::new(rt.alloc())?;
+    let mut pool = Pool::new(rt.alloc(), 4, 65_515)?;
     assert!(rt; all_come_to(&mut pool, &OVERLAPS));
     assert!(rt; all_come_to(&mut pool, &CONTRADICTIONS));
     Ok(())
@@ -157,7 +157,7 @@ fn expire(pool: &mut Pool, now: u64, firsts: &[&[u8]]) -> bool {
 
 #[test]
 fn a_fifth_datagram_has_no_place(rt: HostRuntime) -> Result<(), Fail> {
-    let mut pool = Pool::new(rt.alloc())?;
+    let mut pool = Pool::new(rt.alloc(), 4, 65_515)?;
     assert!(rt; all_come_to(&mut pool, &FIVE));
     for (now, firsts, deadline) in &AGES {
         assert!(rt; expire(&mut pool, *now, firsts));

@@ -229,7 +229,7 @@ const LEARNT: [(u64, Event); 14] = [
 
 #[test]
 fn pairs_are_learnt_updated_and_forgotten(rt: HostRuntime) -> Result<(), Fail> {
-    let mut cache = ArpCache::new(rt.alloc())?;
+    let mut cache = ArpCache::new(rt.alloc(), 64)?;
     for (now, event) in &LEARNT {
         assert!(rt; answers(&mut cache, *now, event));
     }
@@ -258,7 +258,7 @@ fn heard_at(number: u8) -> Moment {
 
 #[test]
 fn the_longest_unheard_gives_way(rt: HostRuntime) -> Result<(), Fail> {
-    let mut cache = ArpCache::new(rt.alloc())?;
+    let mut cache = ArpCache::new(rt.alloc(), 64)?;
     for number in 0..67 {
         assert!(rt; cache.hear(heard_at(number), &request_of(number), A));
     }
@@ -290,7 +290,7 @@ const ASKED_LATER: [(u64, Event); 7] = [
 
 #[test]
 fn requests_are_few(rt: HostRuntime) -> Result<(), Fail> {
-    let mut cache = ArpCache::new(rt.alloc())?;
+    let mut cache = ArpCache::new(rt.alloc(), 64)?;
     for (now, event) in &ASKED {
         assert!(rt; answers(&mut cache, *now, event));
     }

@@ -36,7 +36,7 @@ use Rattle.wire_sim.proofs.datagrams.TablesOfDatagrams.{read-of_one}
 -- Both hosts keep to what both accepted.
 
 host-fresh : (config : ConfigView) → IsHostOf [] [] (new_host config)
-host-fresh config = record { heard = []; table = kept-fresh config.addr config.manner; few = λ few. kept-fresh config.addr config.manner; pool = new [] }
+host-fresh config = record { heard = []; table = kept-fresh config.addr config.manner (let h = new_host config in h.sockets.sizes); few = λ few. kept-fresh config.addr config.manner (let h = new_host config in h.sockets.sizes); pool = new [] config.sizes.reassemblies config.sizes.reassembly_octets }
 
 -- nothing was accepted
 unadded-here : (own other : List Accepted) (n : NetworkView) → AreHostsOf A B own other n → AreHostsOf A B (own ++ []) other n

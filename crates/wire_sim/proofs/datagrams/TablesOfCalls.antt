@@ -1,4 +1,5 @@
 -- A new table, and what the calls make of one that tell of no datagram.
+use Rattle.sockets.specs.declared.sizes.Sizes.{Sizes}
 use Rattle.std.proofs.Common.{◌≡◌, ℕ, ◌+◌, ◌<◌, ◌==◌, ◌&&◌, ◌^◌, not, Bool, true, false, cond, List, [], ◌++◌, Option, Some, None, Result, Ok, Err, refl, sym, ◌∙◌, subst, append-nil, arith}
 use Rattle.std.specs.List.{find}
 use Rattle.std.specs.Prelude.{option_and_then}
@@ -34,8 +35,8 @@ use Rattle.wire_sim.proofs.datagrams.TablesKeepToAccepted.{IsEntryOf, AreEntries
 none-in_turn : AreInTurn []
 none-in_turn = record { numbered = λ n a e. cc; widths = λ k d within. absurd (omega (arith, within)) }
 
-pub kept-fresh : (addr : Addr) (manner : Manner) → IsTableOf [] [] (new_sockets addr manner)
-kept-fresh addr manner = record { numbered = refl; in_turn = none-in_turn; sockets = tt }
+pub kept-fresh : (addr : Addr) (manner : Manner) (sizes : Sizes) → IsTableOf [] [] (new_sockets addr manner sizes)
+kept-fresh addr manner sizes = record { numbered = refl; in_turn = none-in_turn; sockets = tt }
 
 -- one of the two hosts accepts more
 pub are-own : (own other more : List Accepted) (addr : Addr) (entries : List Entry) → AreEntriesOf own other addr entries → AreEntriesOf (own ++ more) other addr entries
@@ -56,7 +57,7 @@ pub kept-made : (own other : List Accepted) (kind : Kind) (h next : SocketsView)
 kept-made own other Tcp h next made t = subst (IsTableOf own other) (sym made) record {
   numbered = t.numbered;
   in_turn = t.in_turn;
-  sockets = All-added (λ (e : Entry). IsEntryOf own other h.addr e.role) h.entries (new_entry (record { 0 = h.last_id + 1 }) (room_of h.manner)) t.sockets tt;
+  sockets = All-added (λ (e : Entry). IsEntryOf own other h.addr e.role) h.entries (new_entry (record { 0 = h.last_id + 1 }) (room_of h.sizes.buffer h.manner)) t.sockets tt;
 }
 kept-made own other Udp h next made t = subst (IsTableOf own other) (sym made) record {
   numbered = t.numbered;

@@ -14,9 +14,9 @@ use Rattle.frames.specs.declared.meaning.ReceivedDatagram.{ReceivedDatagram}
 use Rattle.frames.proofs.Hearers.{users_from_others, users_are_carried, fragments_from_others}
 use Rattle.interface.specs.Ways.{is_routed}
 use Rattle.reassembly.specs.Events.Event.{Takes as taken, GivesWay}
-use Rattle.reassembly.specs.Fragments.{key_of, quote_of}
-use Rattle.reassembly.specs.Places.{after_take, outcome_at, place_for, without_oldest}
-use Rattle.reassembly.specs.Reassembly.{Outcome, Reassembly}
+use Rattle.reassembly.specs.Fragments.{quote_of}
+use Rattle.reassembly.specs.Places.{after_take, fits, outcome_at, place_for, without_oldest}
+use Rattle.reassembly.specs.Reassembly.{Outcome, PoolView}
 use Rattle.reassembly.specs.Reassembly.Outcome.{Waits, Completes, GivesUp}
 use Rattle.udp.specs.declared.fault.UdpFault.{UdpFault}
 use Rattle.udp.specs.Datagram.{UserDatagram}
@@ -98,8 +98,8 @@ whole-sent other d payload u ours turn whole at read few =
     subst (λ (x : Addr). CameFrom other (record { addr = d.source; port = u.source }) (record { addr = x; port = u.destination }) u.payload) at (came other d payload u turn (whole few) read)
 
 -- A fragment. On guard the oldest of the pool may give way to it.
-made-room : (other : List Accepted) (guards : Bool) (d : Datagram) (pool : List (Option Reassembly)) → IsPoolOf other pool → IsPoolOf other (pool_for guards d pool)
-made-room other guards d pool of = by_test (guards && is_none (place_for (key_of d) pool))
+made-room : (other : List Accepted) (guards : Bool) (d : Datagram) (pool : PoolView) → IsPoolOf other pool → IsPoolOf other (pool_for guards d pool)
+made-room other guards d pool of = by_test (guards && fits pool d && is_none (place_for d pool))
   where
     by_test : (b : Bool) → IsPoolOf other (cond b (without_oldest pool) pool)
     by_test true = one_event other pool GivesWay of (tt {0})
@@ -107,9 +107,9 @@ made-room other guards d pool of = by_test (guards && is_none (place_for (key_of
 
 fragment-takes : (other : List Accepted) (h h' : HostView) (moment : Moment) (d : Datagram) (answer : Result (Unit {0}) DropCause) → AreInTurn other → IsPoolOf other h.pool → IsOfOne other d → d.destination ≡ h.sockets.addr
     → MeetsFragment (fragment_outcome moment d (pool_for h.sockets.manner.guards d h.pool)) (is_late_copy h moment d) h moment d answer h' → HostTakes other h h'
-fragment-takes other h h' moment d answer turn pool of at = by_place (place_for (key_of d) (pool_for h.sockets.manner.guards d h.pool)) (is_late_copy h moment d) refl
+fragment-takes other h h' moment d answer turn pool of at = by_place (place_for d (pool_for h.sockets.manner.guards d h.pool)) (is_late_copy h moment d) refl
   where
-    room : List (Option Reassembly)
+    room : PoolView
     room = pool_for h.sockets.manner.guards d h.pool
 
     next : HostView
@@ -139,13 +139,13 @@ fragment-takes other h h' moment d answer turn pool of at = by_place (place_for 
         from_next (user-takes other (reception h.sockets u) noted h' moment d.source u (take 68 quote) (whole-sent other d payload u h.sockets.addr turn whole at read) next_pool becomes)
     by_payload payload quote whole (Err fault) read becomes = after_it becomes
 
-    by_outcome : (place : ℕ) → place_for (key_of d) room ≡ Some place → (x : Outcome) → outcome_at moment d room place ≡ x → h' ≡ after_outcome x next moment d → HostTakes other h h'
+    by_outcome : (place : ℕ) → place_for d room ≡ Some place → (x : Outcome) → outcome_at moment d room place ≡ x → h' ≡ after_outcome x next moment d → HostTakes other h h'
     by_outcome place placed (Waits r) is becomes = still becomes
     by_outcome place placed GivesUp is becomes = still becomes
     by_outcome place placed (Completes payload quote) is becomes =
         by_payload payload quote (λ few. completed other room moment d place payload quote turn few with_room of placed is) (datagram_or_fault d.source d.destination payload) refl becomes
 
-    by_place : (o : Option ℕ) (late : Bool) → place_for (key_of d) room ≡ o → MeetsFragment (option_map (outcome_at moment d room) o) late h moment d answer h' → HostTakes other h h'
+    by_place : (o : Option ℕ) (late : Bool) → place_for d room ≡ o → MeetsFragment (option_map (outcome_at moment d room) o) late h moment d answer h' → HostTakes other h h'
     by_place None late placed meets = aside other h h' (ap (λ (w : HostView). w.sockets) meets.1) (ap (λ (w : HostView). w.pool) meets.1) pool
     by_place (Some place) true placed meets = aside other h h' (ap (λ (w : HostView). w.sockets) meets.1) (ap (λ (w : HostView). w.pool) meets.1) pool
     by_place (Some place) false placed meets = by_outcome place placed (outcome_at moment d room place) refl meets.1

@@ -193,7 +193,7 @@ hosts-lead limit _ (goes_on w v happens answer run step) side = by_move (hosts-l
     by_event : (e : HostEvent) → Makes e old new → AreBrought w.network side happens e → IsOwnCall old.interface.routes e → EachHasHop leads old.sockets → EachHasHop leads new.sockets
     by_event (Calls e) makes brings own before =
         hop-to leads (with_sockets old (after_event old.sockets e)) new makes.1
-        (each-hop leads old.sockets e sound.table (λ goes now id c l is found. absurd (subst (IsCall old.interface.routes) is own.0)) before)
+        (each-hop leads old.sockets e sound.table (λ goes now id c l is found. absurd (subst (IsCall old.interface.routes) is own)) before)
     by_event (Ticks now) makes brings own before =
         let moment : Moment = later_moment old.sockets now in
         let ticked : SocketsView = after_event old.sockets (table.Ticks moment) in

@@ -90,7 +90,7 @@ is_connecting _ = false
 -- a new socket holds no pair
 made-keeps : (kind : Kind) (own own' : SocketsView) → IsMade kind own own' → KeepsPairs own own'
 made-keeps Tcp own own' made =
-    keeps-next own (after_socket own (room_of own.manner)) own' made (λ pair none. find-added_none (is_of_pair pair) own.entries (record { id = record { 0 = own.last_id + 1 }; role = Idle (room_of own.manner) None }) refl ∙ none)
+    keeps-next own (after_socket own (room_of own.sizes.buffer own.manner)) own' made (λ pair none. find-added_none (is_of_pair pair) own.entries (record { id = record { 0 = own.last_id + 1 }; role = Idle (room_of own.sizes.buffer own.manner) None }) refl ∙ none)
 made-keeps Udp own own' made =
     keeps-next own (after_datagram_socket own) own' made (λ pair none. find-added_none (is_of_pair pair) own.entries (record { id = record { 0 = own.last_id + 1 }; role = Datagrams None new_socket }) refl ∙ none)
 

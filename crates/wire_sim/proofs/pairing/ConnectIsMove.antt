@@ -149,7 +149,7 @@ pub projects-socket_made : (limit : ℕ) (hs ts : Side) (a b : Addr) (own next o
     → Projects limit hs ts a b next other bag openings trace
 projects-socket_made limit hs ts a b own next other bag openings trace Tcp made h =
     subst (λ w. Projects limit hs ts a b w other bag openings trace) (sym made)
-    (projects-joined limit hs ts a b own (after_socket own (room_of own.manner)) other bag openings trace (Idle (room_of own.manner) None) refl refl refl refl (λ id none. none) h)
+    (projects-joined limit hs ts a b own (after_socket own (room_of own.sizes.buffer own.manner)) other bag openings trace (Idle (room_of own.sizes.buffer own.manner) None) refl refl refl refl (λ id none. none) h)
 projects-socket_made limit hs ts a b own next other bag openings trace Udp made h =
     subst (λ w. Projects limit hs ts a b w other bag openings trace) (sym made)
     (projects-joined limit hs ts a b own (after_datagram_socket own) other bag openings trace (Datagrams None new_socket) refl refl refl refl (λ id none. none) h)

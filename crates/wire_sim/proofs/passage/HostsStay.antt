@@ -29,9 +29,9 @@ use Rattle.interface.specs.Replies.{is_full, learnt, owed, queued}
 use Rattle.interface.specs.Timing.{after_tick as interface_after_tick, stays}
 use Rattle.interface.specs.Ways.{is_routed}
 use Rattle.reassembly.specs.declared.expired.Expired.{Expired}
-use Rattle.reassembly.specs.Fragments.{key_of, quote_of}
+use Rattle.reassembly.specs.Fragments.{quote_of}
 use Rattle.reassembly.specs.Places.{after_take, expired, outcome_at, place_for}
-use Rattle.reassembly.specs.Reassembly.{Outcome, Reassembly}
+use Rattle.reassembly.specs.Reassembly.{Outcome, PoolView}
 use Rattle.reassembly.specs.Reassembly.Outcome.{Waits as WaitsOn, Completes, GivesUp}
 use Rattle.sockets.specs.declared.datagrams.Reception.{Reception}
 use Rattle.sockets.specs.declared.datagrams.Reception.TheVariants as socket
@@ -85,19 +85,19 @@ pair-updated knows sender known pair is = by_test (is_pair_of sender.addr pair)
     by_test true = known
     by_test false = is
 
-pairs-known : (knows : Neighbour → Type 0) (sender : Neighbour) (is_for_us : Bool) (pairs : List Neighbour) → AllByRecursion knows pairs → knows sender → AllByRecursion knows (pairs_after sender is_for_us pairs)
+pairs-known : (knows : Neighbour → Type 0) (most : ℕ) (sender : Neighbour) (is_for_us : Bool) (pairs : List Neighbour) → AllByRecursion knows pairs → knows sender → AllByRecursion knows (pairs_after most sender is_for_us pairs)
 unfolding pairs_after
-pairs-known knows sender is_for_us pairs all known = by_known (list_any (is_pair_of sender.addr) pairs)
+pairs-known knows most sender is_for_us pairs all known = by_known (list_any (is_pair_of sender.addr) pairs)
   where
     by_room : (b : Bool) → AllByRecursion knows (cond b pairs (remove pairs (longest_unheard pairs)))
     by_room true = all
     by_room false = All-remove knows pairs (longest_unheard pairs) all
 
-    by_us : (b : Bool) → AllByRecursion knows (cond b (added sender pairs) pairs)
-    by_us true = All-added knows (cond (nat_lt (length pairs) 64) pairs (remove pairs (longest_unheard pairs))) sender (by_room (nat_lt (length pairs) 64)) known
+    by_us : (b : Bool) → AllByRecursion knows (cond b (added most sender pairs) pairs)
+    by_us true = All-added knows (cond (nat_lt (length pairs) most) pairs (remove pairs (longest_unheard pairs))) sender (by_room (nat_lt (length pairs) most)) known
     by_us false = all
 
-    by_known : (b : Bool) → AllByRecursion knows (cond b (updated sender pairs) (cond is_for_us (added sender pairs) pairs))
+    by_known : (b : Bool) → AllByRecursion knows (cond b (updated sender pairs) (cond is_for_us (added most sender pairs) pairs))
     by_known true = All-map knows (after_sender sender) (pair-updated knows sender known) pairs all
     by_known false = by_us is_for_us
 
@@ -174,7 +174,7 @@ stays-fragment : {knows : Neighbour → Type 0} (c : ConfigView) (h : HostView) 
 stays-fragment c h moment d answer new s None late met = to-new c h new met.1 s
 stays-fragment c h moment d answer new s (Some i) true met = to-new c h new met.1 s
 stays-fragment c h moment d answer new s (Some i) false met =
-    let room : List (Option Reassembly) = pool_for h.sockets.manner.guards d h.pool in
+    let room : PoolView = pool_for h.sockets.manner.guards d h.pool in
     let pool = after_take moment d room in
     to-new c (after_outcome (outcome_at moment d room i) (with_pool h pool) moment d) new met.1 (stays-outcome c (outcome_at moment d room i) (with_pool h pool) moment d s)
 
@@ -192,7 +192,7 @@ stays-heard {knows} c h moment isn answer new s (Ok (Arp packet)) teaches met =
       addr = s.addr;
       routes = s.routes;
       replies = s.replies;
-      neighbours = pairs-known knows (sender_of moment packet) (same_addr packet.target_addr h.interface.addr) h.interface.cache.pairs s.neighbours (teaches packet refl);
+      neighbours = pairs-known knows h.interface.cache.most (sender_of moment packet) (same_addr packet.target_addr h.interface.addr) h.interface.cache.pairs s.neighbours (teaches packet refl);
     } in
     to-new c (with_interface h (owed (is_request_for h.interface.addr packet) moment r i)) new met.1
     (stays-owed c (is_request_for h.interface.addr packet) moment r i aware (asked-own c h.interface packet s))
@@ -201,7 +201,7 @@ stays-heard c h moment isn answer new s (Ok (Icmp m)) teaches met = stays-messag
 stays-heard c h moment isn answer new s (Ok (Udp r)) teaches met =
     to-new c (after_user_datagram (reception h.sockets r.datagram) h moment r.carrier.source r.datagram (quote_of r.carrier)) new met.1
     (stays-user c (reception h.sockets r.datagram) h moment r.carrier.source r.datagram (quote_of r.carrier) s)
-stays-heard c h moment isn answer new s (Ok (UdpFragment d)) teaches met = stays-fragment c h moment d answer new s (place_for (key_of d) (pool_for h.sockets.manner.guards d h.pool)) (is_late_copy h moment d) met
+stays-heard c h moment isn answer new s (Ok (UdpFragment d)) teaches met = stays-fragment c h moment d answer new s (place_for d (pool_for h.sockets.manner.guards d h.pool)) (is_late_copy h moment d) met
 stays-heard c h moment isn answer new s (Ok (Other d)) teaches met =
     to-new c (with_interface h (owed (is_routed h.interface d.source) moment (reply.Error d.source ProtocolUnreachable (quote_of d)) h.interface)) new met.1 (stays-told c h moment d.source ProtocolUnreachable (quote_of d) s)
 stays-heard c h moment isn answer new s (Err cause) teaches met = to-new c h new met.1 s

@@ -1,11 +1,9 @@
 -- A host on its guard knows no neighbour whose address it shuts out.
 use Rattle.std.proofs.Common.{◌≡◌, ℕ, ◌&&◌, Bool, false, List, find, Some, inl, inr, refl, sym, ◌∙◌, ap}
 use Rattle.ipv4.specs.declared.addr.Addr.{Addr}
-use Rattle.arp.specs.declared.packet.ArpPacket.{ArpPacket}
 use Rattle.arp.specs.declared.entry.Neighbour.{Neighbour}
 use Rattle.routes.specs.declared.route.Route.{Route}
 use Rattle.routes.specs.Ends.{is_link_end}
-use Rattle.interface.specs.InterfaceView.{InterfaceView}
 use Rattle.tcp_halves.specs.declared.buffers.Manner.{Manner}
 use Rattle.host.specs.ConfigView.{ConfigView}
 use Rattle.host.specs.Heard.{shuts_out}

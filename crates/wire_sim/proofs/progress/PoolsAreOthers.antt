@@ -1,6 +1,6 @@
 -- What a host of a world puts together came from the other host, and so did all whose time runs out.
-use Rattle.std.proofs.Common.{◌≡◌, ◌⊎◌, inl, inr, ℕ, zero, suc, ◌<◌, Bool, true, false, if◌then◌else◌, List, [], ◌∷◌, length, replicate, fold, get_or, Option, Some, None, option_map, Result, Ok, Err, arith, refl, sym, ◌∙◌, ap, subst, All}
-use Rattle.std.specs.List.{AllByRecursion, cons_option, slice_set, slice_index_or}
+use Rattle.std.proofs.Common.{◌≡◌, ◌⊎◌, inl, inr, ℕ, zero, suc, ◌<◌, Bool, true, false, if◌then◌else◌, List, [], ◌∷◌, length, replicate, fold, get_or, Option, Some, None, option_map, Result, Ok, Err, arith, refl, sym, ◌∙◌, ap, subst, All, cond}
+use Rattle.std.specs.List.{AllByRecursion, cons_option, slice_set, slice_index_or, filter_map}
 use Rattle.std.specs.Option.{option_map_or}
 use Rattle.std.proofs.lemmas.List.Elements.{All-append, All-cons, All-nil, All-weaker, recursion_from_All}
 use Rattle.clock.specs.declared.moment.Moment.{Moment}
@@ -10,10 +10,10 @@ use Rattle.ipv4.specs.Datagram.{Datagram}
 use Rattle.reassembly.specs.declared.expired.Expired.{Expired}
 use Rattle.reassembly.specs.Events.{Event, after_event}
 use Rattle.reassembly.specs.Events.Event.{Takes, Ages, GivesWay}
-use Rattle.reassembly.specs.Fragments.{key_of}
+use Rattle.reassembly.specs.Fragments.{ends_within}
 use Rattle.reassembly.specs.Octets.{whole_of}
 use Rattle.reassembly.specs.Places.{after_take_at, after_time, expired, expired_of, is_over, oldest, outcome_at, place_for, without}
-use Rattle.reassembly.specs.Reassembly.{Reassembly, conflicts, continued, left, outcome, quoted, with_fragment}
+use Rattle.reassembly.specs.Reassembly.{Reassembly, conflicts, continued, left, outcome, quoted, with_fragment, PoolView, new_pool, Outcome}
 use Rattle.reassembly.specs.Reassembly.Outcome.{Waits, Completes, GivesUp}
 use Rattle.sockets.specs.declared.entry.SocketId.{SocketId}
 use Rattle.sockets.specs.declared.refusal.Refusal.{Refusal}
@@ -81,10 +81,17 @@ from-left source d r is = by_conflict (conflicts d r.end (length r.octets))
     by_conflict true = tt
     by_conflict false = by_whole (whole_of next.end next.octets)
 
-from-taken : (source : Addr) (now : Moment) (d : Datagram) (places : List (Option Reassembly)) (o : Option ℕ) → d.source ≡ source → AreFrom source places → AreFrom source (after_take_at now d places o)
-from-taken source now d places None of all = all
-from-taken source now d places (Some i) of all =
-    from-set source places i (left (outcome_at now d places i)) all (from-left source d (continued now d (slice_index_or places i None)) (from-continued source now d (slice_index_or places i None) of (from-got source places i all)))
+-- one that reaches past the room gives its datagram up
+from-within : (source : Addr) (o : Outcome) (fit : Bool) → IsFrom source (left o) → IsFrom source (left (cond fit o GivesUp))
+from-within source o true is = is
+from-within source o false is = tt
+
+from-taken : (source : Addr) (now : Moment) (d : Datagram) (pool : PoolView) (o : Option ℕ) → d.source ≡ source → AreFrom source pool.places → AreFrom source (after_take_at now d pool o)
+from-taken source now d pool None of all = all
+from-taken source now d pool (Some i) of all =
+    let r : Reassembly = continued now d (slice_index_or pool.places i None) in
+    from-set source pool.places i (left (outcome_at now d pool i)) all
+    (from-within source (outcome d r) (ends_within pool.octets d) (from-left source d r (from-continued source now d (slice_index_or pool.places i None) of (from-got source pool.places i all))))
 
 from-aged : (source : Addr) (now : Moment) (o : Option Reassembly) → IsFrom source o → IsFrom source (after_time now o)
 from-aged source now None one = tt
@@ -104,14 +111,14 @@ from-without : (source : Addr) (places : List (Option Reassembly)) (o : Option �
 from-without source places None all = all
 from-without source places (Some i) all = from-set source places i None all tt
 
-from-event : (source : Addr) (places : List (Option Reassembly)) (e : Event) → TakesFrom source e → AreFrom source places → AreFrom source (after_event places e)
-from-event source places (Takes now d) of all = from-taken source now d places (place_for (key_of d) places) of all
-from-event source places (Ages now) of all = All-map (IsFrom source) (after_time now) (from-aged source now) places all
-from-event source places GivesWay of all = from-without source places (oldest places) all
+from-event : (source : Addr) (pool : PoolView) (e : Event) → TakesFrom source e → AreFrom source pool.places → AreFrom source (after_event pool e).places
+from-event source pool (Takes now d) of all = from-taken source now d pool (place_for d pool) of all
+from-event source pool (Ages now) of all = All-map (IsFrom source) (after_time now) (from-aged source now) pool.places all
+from-event source pool GivesWay of all = from-without source pool.places (oldest pool.places) all
 
-from-events : (source : Addr) (places : List (Option Reassembly)) (events : List Event) → AllByRecursion (TakesFrom source) events → AreFrom source places → AreFrom source (fold after_event places events)
-from-events source places [] of all = all
-from-events source places (e ∷ events) of all = from-events source (after_event places e) events of.1 (from-event source places e of.0 all)
+from-events : (source : Addr) (pool : PoolView) (events : List Event) → AllByRecursion (TakesFrom source) events → AreFrom source pool.places → AreFrom source (fold after_event pool events).places
+from-events source pool [] of all = all
+from-events source pool (e ∷ events) of all = from-events source (after_event pool e) events of.1 (from-event source pool e of.0 all)
 
 from-free : (source : Addr) (count : ℕ) → AreFrom source (replicate count None)
 from-free source zero = tt
@@ -138,9 +145,9 @@ expired-more : (source : Addr) (o : Option Expired) (xs : List Expired) → IsTo
 expired-more source None xs one all = all
 expired-more source (Some x) xs one all = (one, all)
 
-expired-from : (source : Addr) (now : Moment) (places : List (Option Reassembly)) → AreFrom source places → AllByRecursion (λ (x : Expired). x.key.source ≡ source) (expired now places)
+expired-from : (source : Addr) (now : Moment) (places : List (Option Reassembly)) → AreFrom source places → AllByRecursion (λ (x : Expired). x.key.source ≡ source) (filter_map (expired_of now) places)
 expired-from source now [] all = tt
-expired-from source now (o ∷ places) all = expired-more source (expired_of now o) (expired now places) (told-from source now o all.0) (expired-from source now places all.1)
+expired-from source now (o ∷ places) all = expired-more source (expired_of now o) (filter_map (expired_of now) places) (told-from source now o all.0) (expired-from source now places all.1)
 
 -- What a host accepts is from its own address.
 
@@ -201,9 +208,10 @@ one-from source (x ∷ xs) (suc k) a all within is = one-from source xs k a all.
 of-one-from : (source : Addr) (accepted : List Accepted) (d : Datagram) → AllByRecursion (IsFromHere source) accepted → IsOfOne accepted d → d.source ≡ source
 of-one-from source accepted d all (k, a, within, there, is) = is.source ∙ one-from source accepted k a all within there
 
-pool-from : (source : Addr) (accepted : List Accepted) (places : List (Option Reassembly)) → All (IsFromHere source) accepted → IsPoolOf accepted places → AreFrom source places
-pool-from source accepted places all pool =
-    subst (AreFrom source) pool.after (from-events source (replicate 4 None) pool.events (recursion_from_All (TakesFrom source) pool.events (All-weaker (TakesOfOne accepted) (TakesFrom source) takes pool.events pool.taken)) (from-free source 4))
+pool-from : (source : Addr) (accepted : List Accepted) (pool : PoolView) → All (IsFromHere source) accepted → IsPoolOf accepted pool → AreFrom source pool.places
+pool-from source accepted pool all of =
+    subst (λ (p : PoolView). AreFrom source p.places) of.after
+    (from-events source (new_pool of.number pool.octets) of.events (recursion_from_All (TakesFrom source) of.events (All-weaker (TakesOfOne accepted) (TakesFrom source) takes of.events of.taken)) (from-free source of.number))
   where
     takes : (e : Event) → TakesOfOne accepted e → TakesFrom source e
     takes (Takes now d) one = of-one-from source accepted d (recursion_from_All (IsFromHere source) accepted all) one
@@ -214,8 +222,8 @@ pub reports-from : (limit : ℕ) (w : WorldView) (run : IsReached limit w) (side
     → AllByRecursion (λ (x : Expired). x.key.source ≡ addr_at w.network (other_side side)) (let h = host_of w.network side in expired now h.pool)
 reports-from limit w run side now =
     let stays = hosts-stay limit w run (other_side side) in
-    expired-from (addr_at w.network (other_side side)) now _ (subst (λ (a : Addr). AreFrom a (let h = host_of w.network side in h.pool)) (sym stays.addr) (by_side side))
+    expired-from (addr_at w.network (other_side side)) now _ (subst (λ (a : Addr). AreFrom a (let h = host_of w.network side in h.pool.places)) (sym stays.addr) (by_side side))
   where
-    by_side : (s : Side) → AreFrom (let c = config_of limit w run (other_side s) in c.addr) (let h = host_of w.network s in h.pool)
+    by_side : (s : Side) → AreFrom (let c = config_of limit w run (other_side s) in c.addr) (let h = host_of w.network s in h.pool.places)
     by_side A = let k = hosts-keep limit w run in pool-from _ (accepted_in limit w run B) _ (accepted-from limit w run B) k.here.pool
     by_side B = let k = hosts-keep limit w run in pool-from _ (accepted_in limit w run A) _ (accepted-from limit w run A) k.there.pool

@@ -91,7 +91,7 @@ module _ (limit : ℕ) (writer : Side) (writer_id reader_id : SocketId) (count :
       by_readable [] is =
           inr (
             met.held may.unread is,
-            quiet-leave limit old run reader reader_id d None may.reads.socket (ap (λ b. b || is_closed d.state) past ∙ lives) (none-due d.peer (first_due d) (nothing_to_send (host_of old.network reader) reader_id (Connected d None) may.reads.nothing may.reads.socket)) is,
+            quiet-leave limit old run reader reader_id d None may.roomy may.reads.socket (ap (λ b. b || is_closed d.state) past ∙ lives) (none-due d.peer (first_due d) (nothing_to_send (host_of old.network reader) reader_id (Connected d None) may.reads.nothing may.reads.socket)) is,
           )
 
   asked : law.MayMove (hosts_from writer old) writer_id reader_id v d

@@ -58,7 +58,7 @@ segment-arrived h now isn source s opened said new seen = by_entry (find (is_bet
 
     -- those offered once an entry has heard the segment
     offered_then : Entry → List SocketId
-    offered_then e = offered_with (is_offered_by (later_moment h now) s e.role) e.id h.offered
+    offered_then e = offered_with h.sizes.entries (is_offered_by (later_moment h now) s e.role) e.id h.offered
 
     by_fate : (e : Entry) (c : View) (l : Option SocketId) (id : SocketId) → find (is_between local peer) h.entries ≡ Some (record { id = id; role = Connected c l })
         → (x : Fate) → fate c s ≡ x → Meets (arrival_at_connection h now source s e x) h said new → Shown

@@ -1,5 +1,5 @@
 -- Why the segments of a close that come lead both ends on.
-use Rattle.std.proofs.Common.{◌≡◌, ℕ, zero, suc, ◌-◌, ◌+◌, ◌%◌, ◌^◌, ◌<◌, ◌≤◌, ◌==◌, ◌||◌, ◌&&◌, not, nat_le, nat_lt, if◌then◌else◌, Bool, true, false, List, [], ◌∷◌, length, drop, Option, Some, None, arith, refl, sym, ◌∙◌, ap, ap₂, subst, inl, inr}
+use Rattle.std.proofs.Common.{◌≡◌, ℕ, zero, suc, ◌-◌, ◌+◌, ◌%◌, ◌^◌, ◌<◌, ◌==◌, ◌||◌, ◌&&◌, not, nat_le, nat_lt, if◌then◌else◌, Bool, true, false, List, [], ◌∷◌, length, drop, Option, Some, None, arith, refl, sym, ◌∙◌, ap, ap₂, subst, inr}
 use Rattle.std.proofs.lemmas.Bool.{lt-ltb}
 use Rattle.std.specs.Option.{ForSome}
 use Rattle.clock.specs.declared.moment.Moment.{Moment}
@@ -8,20 +8,20 @@ use Rattle.tcp_segment.specs.Wire.{past, wire}
 use Rattle.tcp_halves.specs.Halves.{Sending, Receiving}
 use Rattle.tcp_halves.specs.Numbers.{is_before}
 use Rattle.tcp_halves.specs.Stream.{outstanding, is_new_ack, is_acceptable, is_in_window, receive_window, after_end}
-use Rattle.tcp_halves.specs.Windows.{window_in, updates_window}
+use Rattle.tcp_halves.specs.Windows.{updates_window}
 use Rattle.tcp_halves.proofs.Choices.{either, and_false, unowed}
 use Rattle.tcp_state.specs.declared.connection.Fate.{Fate}
 use Rattle.tcp_state.specs.declared.connection.Fate.TheVariants.{Stays, Removed, Rejected}
 use Rattle.tcp_state.specs.declared.emission.Due.TheVariants.{Text, Ack}
 use Rattle.tcp_state.specs.declared.state.State.{State}
 use Rattle.tcp_state.specs.declared.state.State.TheVariants.{SynSent, SynReceived, Established, FinWait1, FinWait2, CloseWait, LastAck, TimeWait, Closed}
-use Rattle.tcp_state.specs.Arrival.{octets_outstanding, fate, is_lost, is_rejected, ends_opening, ends_by_reset, ends_by_syn, is_acceptable_to, is_receiving, is_read, is_off, is_read_on, is_of_fin, beyond_fin, fin_acknowledged, after_new_ack, after_establishment, brings_more, beyond_end, counts_fin, owing_ack, resend_after, after_segment, after_lost, after_ack, after_window, after_text, after_fin, after_segment_at, before, timed_by, is_counted_duplicate, counts_duplicates}
+use Rattle.tcp_state.specs.Arrival.{fate, is_lost, is_rejected, ends_opening, ends_by_reset, ends_by_syn, is_acceptable_to, is_receiving, is_read, is_off, is_read_on, is_of_fin, beyond_fin, fin_acknowledged, after_new_ack, after_establishment, brings_more, beyond_end, counts_fin, owing_ack, resend_after, after_segment, after_lost, after_ack, after_window, after_text, after_fin, after_segment_at, before, timed_by}
 use Rattle.tcp_state.specs.Edges.{Hears, after_event}
 use Rattle.tcp_state.specs.Said.{segment_of}
 use Rattle.tcp_state.specs.View.{View, IsSound, is_opening, is_closed, is_over, is_syn_sent, is_syn_received, awaits_fin_ack}
 use Rattle.tcp_state.specs.Due.{first_due}
 use Rattle.tcp_state.specs.Resend.{Resend, stopped, mark_left}
-use Rattle.tcp_state.proofs.Clocked.{comes_to, unmarked_after, unmoved}
+use Rattle.tcp_state.proofs.Clocked.{comes_to, unmarked_after}
 use Rattle.tcp_state.proofs.Guarded.{in_reach, kept_mark, read_owes}
 use Rattle.tcp_state.proofs.Segments.{IsRead, reads}
 use Rattle.wire_sim.specs.Handshakes.{IsOut, IsAtRest, IsEnding, fin_alone}

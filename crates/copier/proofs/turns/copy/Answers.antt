@@ -1,4 +1,4 @@
-use Rattle.std.proofs.Common.{ℕ, Option, Ok, Err, Some, rules, sym, ◌∙◌, ap}
+use Rattle.std.proofs.Common.{ℕ, Option, Ok, Err, Some, rules, ◌∙◌, ap}
 use Rattle.std.proofs.lemmas.Result.{err_from_is_err_and}
 use Rattle.devices.specs.Streams.{counted}
 use Rattle.copier.specs.declared.fault.CopyFault.TheVariants.{Stalled}

@@ -1,4 +1,4 @@
-use Rattle.host.proofs.Parts.{always-taken, as-before, copy-is-nothing, none-goes, nothing-lacks, oldest-goes, unguarded-noted, whole-is-known}
+use Rattle.host.proofs.Parts.{always-taken, as-before, copy-is-nothing, none-for-long, none-goes, nothing-lacks, oldest-goes, unguarded-noted, whole-is-known}
 use Rattle.host.proofs.guards.an_old_reassembly_gives_way.Goals as goal
 
 pub returns-clause-oldest : goal.returns-clause-oldest
@@ -6,6 +6,9 @@ returns-clause-oldest c = λ h d on some none. oldest-goes h.sockets.manner.guar
 
 pub returns-clause-none_else : goal.returns-clause-none_else
 returns-clause-none_else c = λ h d place at. none-goes h.sockets.manner.guards d h.pool place at
+
+pub returns-clause-too_long : goal.returns-clause-too_long
+returns-clause-too_long c = λ h d long. none-for-long h.sockets.manner.guards d h.pool long
 
 pub returns-clause-taken : goal.returns-clause-taken
 returns-clause-taken c = λ h now isn octets d answer new on some is delivered. (always-taken h now isn octets d answer new on some is delivered, nothing-lacks h octets d on some is)

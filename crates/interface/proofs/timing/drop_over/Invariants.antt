@@ -12,6 +12,7 @@ stays_over routes cache now w = not (is_unknown routes cache now (sought w.reply
 
 abbrev pub invariant-loop-place : goal.invariant-loop-place
 invariant-loop-place l =
-    (l.place ≤ length l.replies)
-    × (filter (stays_over l.routes l.cache l.now) l.replies ≡ filter (stays_over l.routes l.cache l.now) l.initial.replies)
-    × (filter (stays_over l.routes l.cache l.now) (drop l.place l.replies) ≡ drop l.place l.replies)
+    (l.place ≤ length l.replies.replies)
+    × (filter (stays_over l.routes l.cache l.now) l.replies.replies ≡ filter (stays_over l.routes l.cache l.now) l.initial.replies.replies)
+    × (filter (stays_over l.routes l.cache l.now) (drop l.place l.replies.replies) ≡ drop l.place l.replies.replies)
+    × (l.replies.most ≡ l.initial.replies.most)

@@ -21,7 +21,7 @@ returns g c = λ test computes.
     let gone : Entry → Bool = λ e. is_given_up test c.args.now e.role in
     let one : Entry → ℕ = λ e. cond (gone e) 1 0 in
     let of : Entry → ℕ = λ e. count_by (datagrams.is_given_up test c.args.now) (outbox_of e.role) in
-    let J : List Entry → Losses → Type 0 = λ ys a. length ys ≤ 64 → (a.resets ≡ sum_by one ys) × (a.datagrams ≡ sum_by of ys) × (a.datagrams ≤ 64 * length ys) in
+    let J : List Entry → Losses → Type 0 = λ ys a. length ys ≤ 16384 → (a.resets ≡ sum_by one ys) × (a.datagrams ≡ sum_by of ys) × (a.datagrams ≤ 64 * length ys) in
     let all = fold_over fronts (λ y. y.now) _ J _
     (λ ys a x b f' so called.
     let owed : b.resets ≡ min (a.resets + one x.now) (2 ^ 64 - 1) = search rules in

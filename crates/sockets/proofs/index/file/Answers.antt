@@ -6,8 +6,8 @@ use Rattle.sockets.specs.Index.{is_before, inserted}
 use Rattle.sockets.proofs.Filed.{filed_there}
 use Rattle.sockets.proofs.index.file.Goals as goal
 
-pub returns : goal.returns
-returns c =
+pub returns-clause-items : goal.returns-clause-items
+returns-clause-items c =
     let x : Filed = record { key = c.key_of-key.result; id = c.args.id } in
     c.insert.ensures.items
     ∙ filed_there x c.args.index.now.items _ c.partition_point-place.result c.requires.sorted c.deref.ensures.0 c.partition_point-place.ensures.bound

@@ -8,8 +8,8 @@ use Rattle.sockets.specs.declared.index.Filed.{Filed}
 use Rattle.sockets.specs.Ids.{has_id}
 use Rattle.sockets.proofs.index.forget.Goals as goal
 
-pub returns-then-entries-held : goal.returns-then-entries-held
-returns-then-entries-held c =
+pub returns-then-entries-held-clause-items : goal.returns-then-entries-held-clause-items
+returns-then-entries-held-clause-items c =
     let fewer : nat_lt (length c.args.entries.now) c.args.held ≡ true = grind (arith, nat_tests, c.if-entries-held.true) in
     filter-from_retain _ (λ (filed : Filed). list_any (has_id filed.id) c.args.entries.now) _ (λ x b f' y called. search rules) _ _ c.retain.ensures.filtered
     ∙ ap (λ (b : Bool). if b then filter (λ (filed : Filed). list_any (has_id filed.id) c.args.entries.now) c.args.index.now.items else c.args.index.now.items) (sym fewer)

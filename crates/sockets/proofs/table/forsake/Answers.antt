@@ -19,4 +19,4 @@ forget-requires c =
 pub returns-clause-index : goal.returns-clause-index
 returns-clause-index c =
     index_settled c.args.ends.now.items _ c.args.entries.now.items _ _ _ c.requires.order c.requires.index
-    (left_in_turn _ _ (λ x b f' y called. let is : y ≡ with_role (role_after_listener_close c.args.now c.args.id) x = search rules in (search rules, ap (λ (e : Entry). e.id) is, filed_after (role_after_listener_close c.args.now c.args.id) x y (filed-listener_close c.args.now c.args.id x.role) is)) _ _ c.retain.ensures.filtered) c.deref.ensures.0 c.len-held.ensures.value c.forget.ensures
+    (left_in_turn _ _ (λ x b f' y called. let is : y ≡ with_role (role_after_listener_close c.args.now c.args.id) x = search rules in (search rules, ap (λ (e : Entry). e.id) is, filed_after (role_after_listener_close c.args.now c.args.id) x y (filed-listener_close c.args.now c.args.id x.role) is)) _ _ c.retain.ensures.filtered) c.deref.ensures.0 c.len-held.ensures.value c.forget.ensures.items

@@ -23,4 +23,4 @@ forget-requires g c =
 pub returns-clause-index : goal.returns-clause-index
 returns-clause-index g c =
     index_settled c.args.ends.now.items _ c.args.entries.now.items _ _ _ c.requires.order c.requires.index
-    (left_in_turn _ _ (λ x b f' y called. search rules) _ _ c.retain.ensures.filtered) c.deref.ensures.0 c.len-held.ensures.value c.forget.ensures
+    (left_in_turn _ _ (λ x b f' y called. search rules) _ _ c.retain.ensures.filtered) c.deref.ensures.0 c.len-held.ensures.value c.forget.ensures.items

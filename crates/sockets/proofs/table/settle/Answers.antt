@@ -14,4 +14,4 @@ forget-requires c =
 pub returns-then-not-is_kept-clause-index : goal.returns-then-not-is_kept-clause-index
 returns-then-not-is_kept-clause-index c =
     index_settled c.args.ends.now.items _ c.args.entries.now.items _ _ _ c.requires.order c.requires.index
-    (subst (λ (ws : List Entry). Follows StaysFiled IsNothing c.args.entries.now.items ws) (sym c.remove.ensures.items) (left_by_removal c.args.entries.now.items c.args.place)) c.deref.ensures.0 c.len-held.ensures.value c.forget.ensures
+    (subst (λ (ws : List Entry). Follows StaysFiled IsNothing c.args.entries.now.items ws) (sym c.remove.ensures.items) (left_by_removal c.args.entries.now.items c.args.place)) c.deref.ensures.0 c.len-held.ensures.value c.forget.ensures.items

@@ -12,4 +12,5 @@ returns c =
       link = c.link.ensures.2;
       routes = ap (λ (x : ConfigView). x.routes) value ∙ c.link.ensures.1;
       manner = ap (λ (x : ConfigView). x.manner) value;
+      sizes = ap (λ (x : ConfigView). x.sizes) value;
     }

@@ -7,7 +7,7 @@ use Rattle.arp.proofs.cache.ArpCache.ask.Goals as goal
 pub returns-then-may_go_out-clause-cache : goal.returns-then-may_go_out-clause-cache
 returns-then-may_go_out-clause-cache c =
     let kept = filter-from_retain _ (is_live_note c.args.now) _ (λ x b f' y called. search rules) _ _ c.retain.ensures.filtered in
-    ap (λ notes. record { pairs = c.self.inside.pairs.items; asked = notes })
+    ap (λ notes. record { most = c.self.inside.pairs.most; pairs = c.self.inside.pairs.items; asked = notes })
     (noted c.args.now c.args.addr c.self.inside.asked.items c.retain.new.self.items c.push.new.self.items kept (search rules) c.push.ensures.items)
     ∙ ap (after_ask c.args.now c.args.addr) c.self.view_is
 
@@ -20,7 +20,7 @@ returns-then-may_go_out-clause-answer c =
 pub returns-else-may_go_out-clause-cache : goal.returns-else-may_go_out-clause-cache
 returns-else-may_go_out-clause-cache c =
     let kept = filter-from_retain _ (is_live_note c.args.now) _ (λ x b f' y called. search rules) _ _ c.retain.ensures.filtered in
-    ap (λ notes. record { pairs = c.self.inside.pairs.items; asked = notes }) (unnoted c.args.now c.args.addr c.self.inside.asked.items c.retain.new.self.items kept (search rules))
+    ap (λ notes. record { most = c.self.inside.pairs.most; pairs = c.self.inside.pairs.items; asked = notes }) (unnoted c.args.now c.args.addr c.self.inside.asked.items c.retain.new.self.items kept (search rules))
     ∙ ap (after_ask c.args.now c.args.addr) c.self.view_is
 
 pub returns-else-may_go_out-clause-answer : goal.returns-else-may_go_out-clause-answer

@@ -1,8 +1,4 @@
 -- What is heard as a message fits into a frame.
-use Rattle.std.proofs.Common.{Ok, sym, ◌∙◌, ap}
-use Rattle.frames.specs.declared.meaning.Meaning.{Meaning}
-use Rattle.frames.specs.declared.meaning.Meaning.TheVariants.{Icmp}
-use Rattle.frames.proofs.Hearers.{messages_fit}
 use Rattle.host.proofs.Guarded.{heard_fits}
 use Rattle.host.proofs.layers.Layers.deliver.Goals as goal
 

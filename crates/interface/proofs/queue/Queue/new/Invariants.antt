@@ -4,4 +4,4 @@ use Rattle.std.specs.Vec.{vec_len, vec_capacity}
 use Rattle.interface.proofs.queue.Queue.new.Given as goal
 
 abbrev pub invariant-loop : goal.invariant-loop
-invariant-loop l = (vec_len l.spare ≡ l.counter) × (16 ≤ vec_capacity l.spare)
+invariant-loop l = (vec_len l.spare ≡ l.counter) × (l.most ≤ vec_capacity l.spare)

@@ -6,6 +6,7 @@ use Rattle.sockets.specs.Entries.{is_waiting_id, role_after_accept, with_role}
 use Rattle.sockets.specs.SocketsView.{SocketsView}
 use Rattle.sockets.specs.Calls.{is_next_at}
 use Rattle.sockets.specs.Lists.{change_first, remove_first}
+use Rattle.sockets.proofs.Roomy.{places_stay}
 use Rattle.sockets.proofs.Firsts.{remove_first-position}
 use Rattle.sockets.proofs.Written.{role_written}
 use Rattle.sockets.proofs.Ascending.{ascends_written}
@@ -28,7 +29,7 @@ returns-clause-ok c =
 -- the entry keeps its id
 pub invariant_of-self-2 : goal.invariant_of-self-2
 invariant_of-self-2 c = (
-  c.self.invariant.0,
+  (c.self.invariant.0.0, places_stay refl refl c.remove.ensures.most c.self.invariant.0.1),
   ascends_written _ _ _ _ _ c.index-deref_mut-place.result c.self.invariant.1 c.deref_mut.ensures.value refl,
   index_written _ _ _ _ _ c.index-deref_mut-place.result c.self.invariant.2 c.deref_mut.ensures.value (filed_role role_after_accept _ _ (filed-accept _) c.accept.ensures),
 )

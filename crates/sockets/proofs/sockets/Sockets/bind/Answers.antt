@@ -25,7 +25,7 @@ returns-clause-ok c =
 -- the entry keeps its id
 pub invariant_of-self : goal.invariant_of-self
 invariant_of-self c = (
-  c.last_port_bound-self-inside.ensures.dynamic,
+  (c.last_port_bound-self-inside.ensures.dynamic, c.self.invariant.0.1),
   ascends_written _ _ _ _ _ c.index-deref_mut-place.result c.self.invariant.1 c.deref_mut.ensures.value refl,
   index_written _ _ _ _ _ c.index-deref_mut-place.result c.self.invariant.2 c.deref_mut.ensures.value (filed_role (role_after_bind (record { addr = c.args.local.addr; port = c.in_ok-place.port })) _ _ (filed-bind _ _) c.bind.ensures),
 )

@@ -9,6 +9,7 @@ use Rattle.sockets.specs.Entries.{is_socket, role_after_connect}
 use Rattle.sockets.specs.SocketsView.{SocketsView, with_socket}
 use Rattle.sockets.specs.Calls.{open_answer, reach_refusal, port_for, last_port_after}
 use Rattle.sockets.specs.Index.{AreSorted, index_of}
+use Rattle.sockets.proofs.Roomy.{places_stay}
 use Rattle.sockets.proofs.Filed.{sorted_index}
 use Rattle.sockets.proofs.KeptFiled.{room_connected, index_after_connect}
 use Rattle.sockets.proofs.Connected.{after_connect-accepted, some_from_ok}
@@ -41,10 +42,10 @@ pub invariant_of-self : goal.invariant_of-self
 invariant_of-self c =
     let local : Endpoint = record { addr = c.self.inside.addr; port = c.in_ok-port.port } in
     let entries : c.self.inside.entries.items ≡ c.args.self.now.entries = ap (λ (w : SocketsView). w.entries) c.self.view_is in (
-      c.last_port_after-self-inside.ensures.dynamic,
+      (c.last_port_after-self-inside.ensures.dynamic, places_stay refl c.file.ensures.most refl c.self.invariant.0.1),
       ascends_written _ _ _ _ _ c.index-deref_mut-place.result c.self.invariant.1 c.deref_mut.ensures.value refl,
       index_after_connect c.self.inside.entries.items c.deref.result.now c.in_ok-place.place c.index-deref-place.result c.args.id c.in_ok-bound.bound (ap (λ (es : List Entry). position (is_socket c.args.id) es) entries ∙ c.in_ok-place.ensures.place) c.deref.ensures.0 (sym c.in_ok-bound.ensures)
-          _ _ _ c.index-deref_mut-place.result _ local c.args.peer c.args.isn.0 c.later_moment-now.result c.self.invariant.2 c.file.ensures c.deref_mut.ensures.value (role_changed (role_after_connect local c.args.peer c.args.isn.0 c.later_moment-now.result) _ _ c.connect.ensures),
+          _ _ _ c.index-deref_mut-place.result _ local c.args.peer c.args.isn.0 c.later_moment-now.result c.self.invariant.2 c.file.ensures.items c.deref_mut.ensures.value (role_changed (role_after_connect local c.args.peer c.args.isn.0 c.later_moment-now.result) _ _ c.connect.ensures),
     )
 
 pub file-requires-clause-sorted : goal.file-requires-clause-sorted
@@ -58,4 +59,4 @@ file-requires-clause-room c =
     in
     let filed : length c.self.inside.ends.items ≡ length (index_of c.self.inside.entries.items) = ap length c.self.invariant.2 in
     let lent : length c.deref.result.now ≡ length c.self.inside.entries.items = ap length c.deref.ensures.0 in
-    omega (arith, c.deref.ensures.1)
+    omega (arith, c.deref.ensures.1, c.self.invariant.0.1.entries, c.self.invariant.0.1.ends)

@@ -6,6 +6,7 @@ use Rattle.sockets.specs.declared.emission.Outgoing.{Outgoing}
 use Rattle.sockets.specs.declared.entry.Entry.{Entry}
 use Rattle.sockets.specs.Entries.{sends, due_emitted, due_front, role_after_emission, emission_fate_of, entries_after_step}
 use Rattle.sockets.specs.SocketsView.{SocketsView, later_moment}
+use Rattle.sockets.proofs.Roomy.{places_stay}
 use Rattle.sockets.proofs.Arrived.{entry_settled}
 use Rattle.sockets.proofs.Emitting.{next-at, segment_sent-found, emitted-found, emitted_front-found}
 use Rattle.sockets.proofs.Written.{role_changed}
@@ -65,7 +66,7 @@ returns-clause-after c = λ goes next.
 
 -- the entry keeps its id, or is taken out
 pub invariant_of-self : goal.invariant_of-self
-invariant_of-self c = (c.self.invariant.0, ascends_settled _ c.emission_fate_of-fate.result _ _ _ (ascends_written _ _ _ _ _ c.index-deref_mut-place.result c.self.invariant.1 c.deref_mut.ensures.value refl) c.settle.ensures.entries, c.settle.ensures.index)
+invariant_of-self c = ((c.self.invariant.0.0, places_stay c.settle.ensures.most.0 c.settle.ensures.most.1 refl c.self.invariant.0.1), ascends_settled _ c.emission_fate_of-fate.result _ _ _ (ascends_written _ _ _ _ _ c.index-deref_mut-place.result c.self.invariant.1 c.deref_mut.ensures.value refl) c.settle.ensures.entries, c.settle.ensures.index)
 
 -- its connection stays filed by its ends
 pub settle-requires-clause-order : goal.settle-requires-clause-order

@@ -1,5 +1,5 @@
 -- The one entry that the id names goes, or none does.
-use Rattle.std.proofs.Common.{◌≡◌, ◌∙◌, ℕ, List, Option, Some, None, sym, ap}
+use Rattle.std.proofs.Common.{refl, ◌≡◌, ◌∙◌, List, Some, None, sym, ap}
 use Rattle.std.specs.List.{position, remove}
 use Rattle.tcp_state.specs.declared.connection.Fate.TheVariants.{Removed}
 use Rattle.sockets.specs.declared.entry.Entry.{Entry}
@@ -8,6 +8,7 @@ use Rattle.sockets.specs.Ids.{has_id}
 use Rattle.sockets.specs.Lists.{remove_first}
 use Rattle.sockets.specs.SocketsView.{SocketsView}
 use Rattle.sockets.specs.contracts.sockets.Sockets.{the_view}
+use Rattle.sockets.proofs.Roomy.{places_stay}
 use Rattle.sockets.proofs.Ascending.{ascends_settled, lent_in_order}
 use Rattle.sockets.proofs.Firsts.{remove_first-position, found_by_place, find-position_none}
 use Rattle.sockets.proofs.GivenRoom.{unremoved}
@@ -19,7 +20,7 @@ giving_way-requires c = lent_in_order _ _ _ c.deref.ensures.0 c.self.invariant.1
 
 -- the others stay in order
 pub invariant_of-self : goal.invariant_of-self
-invariant_of-self c = (c.self.invariant.0, ascends_settled _ Removed _ _ _ c.self.invariant.1 c.settle.ensures.entries, c.settle.ensures.index)
+invariant_of-self c = ((c.self.invariant.0.0, places_stay c.settle.ensures.most.0 c.settle.ensures.most.1 refl c.self.invariant.0.1), ascends_settled _ Removed _ _ _ c.self.invariant.1 c.settle.ensures.entries, c.settle.ensures.index)
 
 pub returns-in-Some : goal.returns-in-Some
 returns-in-Some c =

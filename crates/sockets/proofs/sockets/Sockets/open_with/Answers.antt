@@ -4,6 +4,7 @@ use Rattle.sockets.specs.declared.entry.Entry.{Entry}
 use Rattle.sockets.specs.declared.entry.SocketId.{SocketId}
 use Rattle.sockets.specs.SocketsView.{SocketsView}
 use Rattle.sockets.specs.Index.{filed_at, filed, AreSorted, index_of}
+use Rattle.sockets.proofs.Roomy.{places_stay}
 use Rattle.sockets.proofs.Ascending.{ascends_pushed}
 use Rattle.sockets.proofs.Filed.{index_pushed, sorted_index, length_index}
 use Rattle.sockets.proofs.sockets.Sockets.open_with.Goals as goal
@@ -12,10 +13,10 @@ use Rattle.sockets.proofs.sockets.Sockets.open_with.Goals as goal
 pub invariant_of-self : goal.invariant_of-self
 invariant_of-self c =
     let id : SocketId = record { 0 = c.self.inside.last_id + 1 } in (
-      c.self.invariant.0,
+      (c.self.invariant.0.0, places_stay c.push.ensures.most c.file.ensures.most refl c.self.invariant.0.1),
       ascends_pushed _ _ _ _ c.passive.result refl (ap (λ (e : Entry). e.id.0) c.passive.ensures) c.push.ensures.items c.self.invariant.1,
       index_pushed _ _ _ _ c.passive.result _ c.self.invariant.2 c.push.ensures.items
-          (ap (λ (e : Entry). filed e) c.passive.ensures ∙ ap (λ (v : View). Some (filed_at id v.local v.peer)) c.half_open-connection.ensures) c.file.ensures,
+          (ap (λ (e : Entry). filed e) c.passive.ensures ∙ ap (λ (v : View). Some (filed_at id v.local v.peer)) c.passive-connection.ensures) c.file.ensures.items,
     )
 
 -- there is room to file it
@@ -27,4 +28,5 @@ file-requires-clause-room c =
     let most : length (index_of c.self.inside.entries.items) ≤ length c.self.inside.entries.items = length_index c.self.inside.entries.items in
     let filed : length c.self.inside.ends.items ≡ length (index_of c.self.inside.entries.items) = ap length c.self.invariant.2 in
     let entries : length c.self.inside.entries.items ≡ length c.args.self.now.entries = ap (λ (w : SocketsView). length w.entries) c.self.view_is in
-    omega (arith, c.requires.place)
+    let sizes : c.self.inside.sizes.entries ≡ (let s = c.args.self.now.sizes in s.entries) = ap (λ (w : SocketsView). w.sizes.entries) c.self.view_is in
+    omega (arith, c.requires.place, c.self.invariant.0.1.ends)

@@ -55,7 +55,7 @@ pub invariant_of-self-2 : goal.invariant_of-self-2
 invariant_of-self-2 c =
     let change : Role → Role = role_after_sendto c.in_ok-local.local c.self.inside.kept c.args.peer c.self.inside.identification c.args.octets.now in
     let x : Entry = c.index-deref_mut-place.result in (
-      c.last_port_after-last_port.ensures.dynamic,
+      (c.last_port_after-last_port.ensures.dynamic, c.self.invariant.0.1),
       ascends_written _ _ _ _ _ x c.self.invariant.1 c.deref_mut.ensures.value refl,
       index_written _ _ _ _ _ x c.self.invariant.2 c.deref_mut.ensures.value (filed_or_not c.send_to.result change (get_or c.deref_mut.result.now c.in_ok-place.place x) _ (filed-sendto _ _ _ _ _ _) c.send_to.ensures.after),
     )

@@ -1,5 +1,5 @@
 -- The write at the place is the change, or the removal, of the segment's connection, and those offered; a segment that is refused changes nothing.
-use Rattle.std.proofs.Common.{◌≡◌, ◌∙◌, List, get_or, Bool, Some, ap, sym}
+use Rattle.std.proofs.Common.{ℕ, ◌≡◌, ◌∙◌, List, get_or, Bool, Some, ap, sym}
 use Rattle.std.specs.List.{find}
 use Rattle.tcp_segment.specs.Segment.{Segment}
 use Rattle.tcp_state.specs.declared.connection.Fate.{Fate}
@@ -11,6 +11,7 @@ use Rattle.sockets.specs.Arrival.{local_end, peer_end, offered_with}
 use Rattle.sockets.specs.Replies.{reset_at_ack}
 use Rattle.sockets.specs.Entries.{is_between, fate_of, is_offered_by, entries_after_step, role_after_segment}
 use Rattle.sockets.specs.SocketsView.{SocketsView, later_moment}
+use Rattle.sockets.proofs.Roomy.{places_stay}
 use Rattle.sockets.proofs.Arrived.{entry_settled, meets_becomes, meets_answered, refusal-answered, taken}
 use Rattle.sockets.proofs.Refused.{entry_refused_segment}
 use Rattle.sockets.proofs.Written.{found_lent, entry_kept}
@@ -43,12 +44,13 @@ returns-in_default c isn =
     let fates : fate_of s x.role ≡ fate = ap (λ (e : Entry). fate_of s e.role) c.index-deref_mut-place.is ∙ sym c.segment-fate.ensures.fate in
     let now : Moment = c.later_moment-now.result in
     let there : Entry = get_or c.deref_mut.result.now c.args.place x in
-    let offers : c.offer.new.offered.items ≡ offered_with (is_offered_by (later_moment h c.args.now) s x.role) x.id h.offered =
-    c.offer.ensures
-    ∙ ap (λ (b : Bool). offered_with b there.id c.self.inside.offered.items) c.segment-fate.ensures.offered
-    ∙ ap (λ (e : Entry). offered_with (is_offered_by now s e.role) e.id c.self.inside.offered.items) (sym c.index-deref_mut-place.is)
-    ∙ ap (λ (m : Moment). offered_with (is_offered_by m s x.role) x.id c.self.inside.offered.items) c.later_moment-now.ensures
-    ∙ ap (λ (w : SocketsView). offered_with (is_offered_by (later_moment h c.args.now) s x.role) x.id w.offered) c.self.view_is
+    let offers : c.offer.new.offered.items ≡ offered_with h.sizes.entries (is_offered_by (later_moment h c.args.now) s x.role) x.id h.offered =
+    c.offer.ensures.items
+    ∙ ap (λ (n : ℕ). offered_with n c.segment-fate.result.1 there.id c.self.inside.offered.items) c.self.invariant.0.1.offered
+    ∙ ap (λ (b : Bool). offered_with c.self.inside.sizes.entries b there.id c.self.inside.offered.items) c.segment-fate.ensures.offered
+    ∙ ap (λ (e : Entry). offered_with c.self.inside.sizes.entries (is_offered_by now s e.role) e.id c.self.inside.offered.items) (sym c.index-deref_mut-place.is)
+    ∙ ap (λ (m : Moment). offered_with c.self.inside.sizes.entries (is_offered_by m s x.role) x.id c.self.inside.offered.items) c.later_moment-now.ensures
+    ∙ ap (λ (w : SocketsView). offered_with w.sizes.entries (is_offered_by (later_moment h c.args.now) s x.role) x.id w.offered) c.self.view_is
     in
     meets_becomes _ _ _ _ (taken h c.args.now isn c.args.source s x fate found fates c.in_default.not-Rejected)
     (
@@ -60,7 +62,7 @@ returns-in_default c isn =
 
 -- the entry keeps its id, or is taken out
 pub invariant_of-self-in_default : goal.invariant_of-self-in_default
-invariant_of-self-in_default c = (c.self.invariant.0, ascends_settled _ c.segment-fate.result.0 _ _ _ (ascends_written _ _ _ _ _ c.index-deref_mut-place.result c.self.invariant.1 c.deref_mut.ensures.value (ap (λ (e : Entry). e.id) c.segment-fate.ensures.after)) c.settle.ensures.entries, c.settle.ensures.index)
+invariant_of-self-in_default c = ((c.self.invariant.0.0, places_stay c.settle.ensures.most.0 c.settle.ensures.most.1 c.offer.ensures.most c.self.invariant.0.1), ascends_settled _ c.segment-fate.result.0 _ _ _ (ascends_written _ _ _ _ _ c.index-deref_mut-place.result c.self.invariant.1 c.deref_mut.ensures.value (ap (λ (e : Entry). e.id) c.segment-fate.ensures.after)) c.settle.ensures.entries, c.settle.ensures.index)
 
 -- or it stays
 pub invariant_of-self : goal.invariant_of-self

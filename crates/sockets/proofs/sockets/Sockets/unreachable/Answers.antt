@@ -5,6 +5,7 @@ use Rattle.tcp_state.specs.declared.connection.Fate.{Fate}
 use Rattle.sockets.specs.declared.entry.Entry.{Entry}
 use Rattle.sockets.specs.Entries.{is_between, role_after_unreachable, unreachable_fate_of, entries_after_step}
 use Rattle.sockets.specs.SocketsView.{SocketsView}
+use Rattle.sockets.proofs.Roomy.{places_stay}
 use Rattle.sockets.proofs.Arrived.{entry_settled}
 use Rattle.sockets.proofs.Written.{found_lent, role_changed}
 use Rattle.sockets.proofs.Told.{told-found}
@@ -30,7 +31,7 @@ returns-in-Some c =
 
 -- the entry keeps its id, or is taken out
 pub invariant_of-self : goal.invariant_of-self
-invariant_of-self c = (c.self.invariant.0, ascends_settled _ c.unreachable-fate.result _ _ _ (ascends_written _ _ _ _ _ c.index-deref_mut-place.result c.self.invariant.1 c.deref_mut.ensures.value refl) c.settle.ensures.entries, c.settle.ensures.index)
+invariant_of-self c = ((c.self.invariant.0.0, places_stay c.settle.ensures.most.0 c.settle.ensures.most.1 refl c.self.invariant.0.1), ascends_settled _ c.unreachable-fate.result _ _ _ (ascends_written _ _ _ _ _ c.index-deref_mut-place.result c.self.invariant.1 c.deref_mut.ensures.value refl) c.settle.ensures.entries, c.settle.ensures.index)
 
 -- its connection stays filed by its ends
 pub settle-requires-clause-order : goal.settle-requires-clause-order
