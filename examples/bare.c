@@ -68,7 +68,7 @@ int memcmp(const void *one, const void *other, size_t len)
 
 /* The heap: a pile of blocks, each behind its size. What is freed is not used again, but for the block on top. Blocks are aligned to 16. */
 static uint8_t heap[512 << 10] __attribute__((aligned(16)));
-static size_t top;
+static size_t top, room = sizeof heap;
 
 struct block {
     size_t size;
@@ -80,7 +80,7 @@ void *malloc(size_t size)
     struct block *block = (struct block *)(void *)&heap[top];
     size_t whole = sizeof *block + ((size + 15) & ~(size_t)15);
 
-    if (size > sizeof heap || whole > sizeof heap - top)
+    if (size > room || whole > room - top)
         return 0;
     top += whole;
     block->size = whole;
@@ -226,20 +226,24 @@ static void turns(void)
     now++;
 }
 
-/* Sends octets from one end of a connection to the other, more than a segment has, and says whether they came out equal. */
+/* Sends octets from one end of a connection to the other, more than a segment and a small buffer have, and says whether they came out equal. */
 static int passes(struct host *from, uint64_t from_id, struct host *to, uint64_t to_id)
 {
     static uint8_t sent[10000], read[10000];
-    size_t i, count = 0;
+    size_t i, written = 0, count = 0;
     int64_t len;
+    int turn;
 
     for (i = 0; i < sizeof sent; i++)
         sent[i] = (uint8_t)(i % 251);
-    if (host_send(from, from_id, sent, sizeof sent) != sizeof sent)
-        return 0;
-    for (turns(); (len = host_recv(to, to_id, read + count, sizeof read - count)) > 0 && count + (size_t)len < sizeof read; turns())
-        count += (size_t)len;
-    return len > 0 && count + (size_t)len == sizeof read && memcmp(sent, read, sizeof read) == 0;
+    for (turn = 0; turn < 1000 && count < sizeof read; turn++) {
+        len = written < sizeof sent ? host_send(from, from_id, sent + written, sizeof sent - written) : 0;
+        written += len > 0 ? (size_t)len : 0;
+        turns();
+        len = host_recv(to, to_id, read + count, sizeof read - count);
+        count += len > 0 ? (size_t)len : 0;
+    }
+    return count == sizeof read && memcmp(sent, read, sizeof read) == 0;
 }
 
 /* The line of the first step that failed; 0 where all held. */
@@ -291,12 +295,24 @@ static int datagram(void)
     return memcmp(sent, read, sizeof read) == 0 ? 0 : __LINE__;
 }
 
-static int both_made(void)
+static const struct host_route link = {HOST_ADDR(10, 0, 0, 0), 0, 24};
+
+/* What both hosts want that meet a real network, and how large they are beside. */
+#define REPAIRS \
+    .routes = &link, .count = 1, .recovery = HOST_RECOVERY_SELECTIVE, .first_segments = 10, .least_timeout = 200, \
+    .first_threshold = UINT32_C(1) << 30, .guards = 1
+
+/* Hosts that put fragments together. */
+static const struct host_config larger = {.size = sizeof larger, REPAIRS, .no_window_scale = 1, .replies = 4, .reassemblies = 1, .entries = 8,
+                                          .buffer = 16384, .neighbours = 8, .reassembly_octets = 2960};
+
+/* The smallest ones that are of use, and the memory that two of them have with a connection: a host takes some 12 kB, a socket twice its buffer. */
+static const struct host_config small = {.size = sizeof small, REPAIRS, .no_window_scale = 1, .replies = 1, .no_reassembly = 1, .entries = 4,
+                                         .buffer = 4096, .neighbours = 8};
+#define SMALL_ROOM (48 << 10)
+
+static int both_made(struct host_config config)
 {
-    const struct host_route link = {HOST_ADDR(10, 0, 0, 0), 0, 24};
-    struct host_config config = {.size = sizeof config, .routes = &link, .count = 1, .no_window_scale = 1, .recovery = HOST_RECOVERY_SELECTIVE,
-                                 .first_segments = 10, .least_timeout = 200, .first_threshold = UINT32_C(1) << 30, .guards = 1,
-                                 .replies = 4, .reassemblies = 1, .entries = 8, .buffer = 16384, .neighbours = 8, .reassembly_octets = 2960};
     const uint8_t mac[6] = {2, 0, 0, 0, 0, 1};
 
     memcpy(config.mac, mac, sizeof mac);
@@ -308,14 +324,38 @@ static int both_made(void)
     return host_new_with(&b, &config) == 0;
 }
 
+/* The same conversation of small hosts, which leaves the heap as it was. Answers how much memory a host took; 0 where it failed. */
+static size_t of_small_ones(void)
+{
+    size_t memory = 0;
+
+    room = SMALL_ROOM;
+    if (both_made(small)) {
+        memory = top / 2;
+        if (conversation() != 0)
+            memory = 0;
+    }
+    host_free(&a);
+    host_free(&b);
+    top = 0;
+    room = sizeof heap;
+    return memory;
+}
+
 /* Answers the program's status. */
 int64_t run(void)
 {
-    size_t making, calls, ending, memory;
+    size_t making, calls, ending, memory, least;
     int failed;
 
     mark();
-    if (!both_made()) {
+    least = of_small_ones();
+    if (least == 0 || depth() == 0) {
+        say("bare: small hosts can't be made, or don't converse\n");
+        return 1;
+    }
+    mark();
+    if (!both_made(larger)) {
         say("bare: the hosts can't be made\n");
         return 1;
     }
@@ -338,7 +378,9 @@ int64_t run(void)
     }
     say("bare: two hosts, a connection and octets both ways, a datagram; a host took ");
     say_number(memory);
-    say(" octets of memory, its making ");
+    say(" octets of memory, a small one ");
+    say_number(least);
+    say(", its making ");
     say_number(making);
     say(" of the stack, its end ");
     say_number(ending);
