@@ -4,3 +4,4 @@ pub mod Joining
 pub mod Exchanging
 pub mod Halves
 pub mod Parts
+pub mod Carries

@@ -6,6 +6,9 @@ use Rattle.inet_sum.specs.Sum.{word_sum, ones_complement}
 pub ones_complement-add : (a b c : ℕ) → ones_complement a ≡ ones_complement b → ones_complement (a + c) ≡ ones_complement (b + c)
 ones_complement-add a b c same = grind arith
 
+pub ones_complement-behind : (c a b : ℕ) → ones_complement a ≡ ones_complement b → ones_complement (c + a) ≡ ones_complement (c + b)
+ones_complement-behind c a b same = grind arith
+
 -- what is read as one number stays it when read again
 pub ones_complement-ones_complement : (a : ℕ) → ones_complement (ones_complement a) ≡ ones_complement a
 ones_complement-ones_complement a = grind arith

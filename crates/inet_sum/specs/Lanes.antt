@@ -1,6 +1,7 @@
 -- How the words are summed: as numbers of 32 bits whose first octet stands low. The public contracts do not rest on this page.
-use Rattle.std.specs.Prelude.{◌≡◌, ℕ, zero, suc, ◌+◌, ◌*◌, ◌%◌, ◌^◌, List, [], ◌∷◌, length, take, drop}
-use Rattle.std.specs.Simd.Lanes.{number_l, sum_l}
+use Rattle.std.specs.Prelude.{◌≡◌, ℕ, zero, suc, ◌+◌, ◌*◌, List, [], ◌∷◌, length, take, drop}
+use Rattle.std.specs.Simd.Lanes.{number_l}
+use Rattle.inet_sum.specs.Sum.{ones_complement}
 use Rattle.inet_sum.specs.declared.lanes.Totals.{Totals}
 
 -- the whole-number sum of the 32-bit words whose first octet stands low, the last one padded with zeros
@@ -21,9 +22,11 @@ abbrev pub uppers_sum : ℕ → List ℕ → ℕ
 uppers_sum zero octets = 0
 uppers_sum (suc count) octets = number_l 256 (take 4 (drop 4 octets)) + uppers_sum count (drop 8 octets)
 
--- the totals are those of these octets, which are so many words
-pub record AreTotals (totals : Totals) (count : ℕ) (octets : List ℕ) : Type 0 where
+-- what totals come to
+abbrev pub total_of : Totals → ℕ
+total_of totals = totals.first + totals.second + totals.third + totals.fourth + totals.carries
+
+-- a number is in one's complement what these octets come to, which are so many words
+pub record AreTotals (total count : ℕ) (octets : List ℕ) : Type 0 where
   pub whole : length octets ≡ 8 * count
-  pub lanes : (length totals.words ≡ 4) × (length totals.uppers ≡ 4)
-  pub words : sum_l totals.words % 2 ^ 64 ≡ words_sum count octets % 2 ^ 64
-  pub uppers : sum_l totals.uppers % 2 ^ 64 ≡ uppers_sum count octets % 2 ^ 64
+  pub sum : ones_complement total ≡ ones_complement (words_sum count octets)

@@ -1,7 +1,9 @@
-//! Words summed in lanes, four words of 64 bits at a time.
+//! Words summed with their carries, four words of 64 bits at a time.
 
 ghost use Rattle.std.specs.Prelude.{◌≡◌, ℕ, ◌+◌, ◌*◌, ◌/◌, ◌%◌, ◌<◌, ◌≤◌, ◌^◌, List, [], ◌++◌, All, length};
-ghost use Rattle.inet_sum.specs.Lanes.{AreTotals, wide_sum};
+ghost use Rattle.std.specs.Int.{from_bool};
+ghost use Rattle.inet_sum.specs.Sum.{ones_complement};
+ghost use Rattle.inet_sum.specs.Lanes.{AreTotals, total_of, wide_sum};
 
 use crate::PART;
 use std::simd::Simd;
@@ -13,82 +15,108 @@ pub(crate) const BLOCK: usize = 32;
 /// The octets of a stretch, whose blocks are summed with no look at how many are left.
 const STRETCH: usize = 128;
 
-/// What 64-bit words sum to so far, each in one of four lanes: whole, but for the carries out of 64 bits, and the upper half of each
-/// alone. So the lower halves are had at the end, with fewer instructions for a word than halves of both kinds take.
+/// The octets of most headers of a datagram, and of most segments without octets, whose words are added with no look at how many are left.
+const HEADER: usize = 20;
+
+/// Where the upper half of a word stands in it.
+const UPPER: u64 = 1 << 32;
+
+/// What 64-bit words sum to so far, each in one of four lanes, and the carries out of the last lane. A carry out of another goes into the
+/// next, and one out of a block's last lane into the first of the next block: so a processor takes one instruction for a word.
 #[derive(Clone, Copy)]
-pub(crate) struct Totals {
-    words: Simd<u64, 4>,
-    uppers: Simd<u64, 4>,
+struct Totals {
+    first: u64,
+    second: u64,
+    third: u64,
+    fourth: u64,
+    carries: u64,
 }
 
 impl Totals {
     /// The totals of no octets.
-    pub(crate) fn none() -> Totals
-        ensures { AreTotals result 0 [] }
+    fn none() -> Totals
+        ensures totals { AreTotals (total_of result) 0 [] }
+        ensures carries { result.carries ≡ 0 }
     {
         Totals {
-            words: Simd::splat(0),
-            uppers: Simd::splat(0),
+            first: 0,
+            second: 0,
+            third: 0,
+            fourth: 0,
+            carries: 0,
         }
     }
 
-    /// The totals with these octets behind the others.
-    pub(crate) fn with(self, octets: Simd<u8, 32>) -> Totals
-        ensures { (count : ℕ) (before : List ℕ) → AreTotals self count before → AreTotals result (count + 4) (before ++ octets) }
+    /// The totals with these octets behind the others and with a carry, and whether there is one out of the last lane.
+    fn with(self, octets: Simd<u8, 32>, carry: bool) -> (Totals, bool)
+        ensures totals { (count : ℕ) (before : List ℕ) → AreTotals (total_of self + from_bool carry) count before
+            → AreTotals (total_of result.0 + from_bool result.1) (count + 4) (before ++ octets) }
+        ensures carries { result.0.carries ≡ self.carries }
     {
-        let words = Simd::<u64, 4>::from_le_bytes(octets);
-        Totals {
-            words: self.words + words,
-            uppers: self.uppers + (words >> Simd::splat(32)),
-        }
+        let [a, b, c, d] = Simd::<u64, 4>::from_le_bytes(octets).to_array();
+        let (first, carry) = add(self.first, a, carry);
+        let (second, carry) = add(self.second, b, carry);
+        let (third, carry) = add(self.third, c, carry);
+        let (fourth, carry) = add(self.fourth, d, carry);
+        let totals = Totals {
+            first,
+            second,
+            third,
+            fourth,
+            carries: self.carries,
+        };
+        (totals, carry)
     }
 
     /// The totals with these blocks behind the others.
     fn with_all(self, blocks: &[u8]) -> Totals
-        requires { length blocks.now % BLOCK ≡ 0 }
-        ensures { (count : ℕ) (before : List ℕ) → AreTotals self count before → AreTotals result (count + length blocks.now / 8) (before ++ blocks.now) }
-    {
-        let mut totals = self;
-        for i in 0..blocks.len() / BLOCK {
-            totals = totals.with(Simd::from_slice(&blocks[BLOCK * i..]));
-        }
-        totals
-    }
-
-    /// The same, while the blocks are copied.
-    fn with_copied(self, blocks: &[u8], to: &mut [u8]) -> Totals
         requires whole { length blocks.now % BLOCK ≡ 0 }
-        requires room { length to.old ≡ length blocks.now }
-        ensures copied { to.new ≡ blocks.now }
-        ensures totals { (count : ℕ) (before : List ℕ) → AreTotals self count before → AreTotals result (count + length blocks.now / 8) (before ++ blocks.now) }
+        requires carries { self.carries < 2 ^ 62 }
+        ensures totals { (count : ℕ) (before : List ℕ) → AreTotals (total_of self) count before
+            → AreTotals (total_of result) (count + length blocks.now / 8) (before ++ blocks.now) }
+        ensures carries { result.carries ≤ self.carries + 1 }
     {
         let mut totals = self;
+        let mut carry = false;
         for i in 0..blocks.len() / BLOCK {
-            let octets = Simd::<u8, 32>::from_slice(&blocks[BLOCK * i..]);
-            octets.copy_to_slice(&mut to[BLOCK * i..]);
-            totals = totals.with(octets);
+            (totals, carry) = totals.with(Simd::from_slice(&blocks[BLOCK * i..]), carry);
         }
+        totals.carries += u64::from(carry);
         totals
     }
 
-    /// The whole-number sum of the halves of all words.
-    pub(crate) fn sum(self) -> u64
-        ensures { (count : ℕ) (octets : List ℕ) → AreTotals self count octets → All (λ octet. octet < 256) octets → count < 2 ^ 31
-            → result ≡ wide_sum octets }
+    /// What all words come to in one's complement, as a number of little more than 32 bits.
+    fn sum(self) -> u64
+        requires { self.carries < 2 ^ 62 }
+        ensures sum { (count : ℕ) (octets : List ℕ) → AreTotals (total_of self) count octets → All (λ octet. octet < 256) octets
+            → ones_complement result ≡ ones_complement (wide_sum octets) }
+        ensures bound { result ≤ 2 ^ 33 + self.carries }
     {
-        let uppers = self.uppers.reduce_sum();
-        let lowers = self.words.reduce_sum().wrapping_sub(uppers << 32);
-        lowers.wrapping_add(uppers)
+        let (sum, carry) = add(self.first, self.second, false);
+        let (sum, carry) = add(sum, self.third, carry);
+        let (sum, carry) = add(sum, self.fourth, carry);
+        sum / UPPER + sum % UPPER + self.carries + u64::from(carry)
     }
 }
 
-/// The whole-number sum of the 32-bit words of one part.
+/// The sum of two words and of a carry into them, and whether there is one out of them.
+fn add(left: u64, right: u64, carry: bool) -> (u64, bool)
+    ensures { result.0 + 2 ^ 64 * from_bool result.1 ≡ left + right + from_bool carry }
+{
+    let sum = left.wrapping_add(right);
+    let carried = sum.wrapping_add(u64::from(carry));
+    (carried, (sum < left) | (carried < sum))
+}
+
+/// What the 32-bit words of one part come to in one's complement.
 pub(crate) fn words_of(part: &[u8]) -> u64
     requires { length part.now ≤ PART }
-    ensures sum { result ≡ wide_sum part.now }
-    ensures bound { result ≤ 2 ^ 32 * length part.now }
+    ensures sum { ones_complement result ≡ ones_complement (wide_sum part.now) }
+    ensures bound { result < 2 ^ 62 }
 {
-    // So short are the header of a datagram and a segment without octets, which need no lanes.
+    if part.len() == HEADER {
+        return word_by_word(part);
+    }
     if part.len() < BLOCK {
         return rest_of(part);
     }
@@ -102,33 +130,7 @@ pub(crate) fn words_of(part: &[u8]) -> u64
     totals.sum() + rest_of(&part[whole..])
 }
 
-/// The same, while the octets are copied.
-pub(crate) fn words_copied(from: &[u8], to: &mut [u8]) -> u64
-    requires bound { length from.now ≤ PART }
-    requires room { length to.old ≡ length from.now }
-    ensures copied { to.new ≡ from.now }
-    ensures sum { result ≡ wide_sum from.now }
-    ensures bound { result ≤ 2 ^ 32 * length from.now }
-{
-    if from.len() < BLOCK {
-        to.copy_from_slice(from);
-        return rest_of(from);
-    }
-    let stretches = from.len() / STRETCH;
-    let mut totals = Totals::none();
-    for i in 0..stretches {
-        let (start, end) = (STRETCH * i, STRETCH * i + STRETCH);
-        totals = totals.with_copied(&from[start..end], &mut to[start..end]);
-    }
-    let (start, whole) = (STRETCH * stretches, from.len() / BLOCK * BLOCK);
-    totals = totals.with_copied(&from[start..whole], &mut to[start..whole]);
-    // The last 32 octets are copied as one block, some of them once more, since a copy of a fixed length takes no call of `memcpy`.
-    let last = from.len() - BLOCK;
-    to[last..].copy_from_slice(&from[last..last + BLOCK]);
-    totals.sum() + rest_of(&from[whole..])
-}
-
-/// The same of the octets that are fewer than a block.
+/// The whole-number sum of the 32-bit words of octets that are fewer than a block.
 fn rest_of(octets: &[u8]) -> u64
     requires { length octets.now < BLOCK }
     ensures sum { result ≡ wide_sum octets.now }

@@ -8,7 +8,7 @@ ghost use Rattle.inet_sum.specs.Sum.{ones_complement, sum_of, sum_behind, checks
 mod lanes;
 pub mod laws;
 
-use lanes::{words_copied, words_of};
+use lanes::words_of;
 
 /// The pseudo header that TCP and UDP sum before their own octets (RFC 9293 section 3.1, RFC 768).
 #[derive(Clone, Copy, Debug, PartialEq, Eq)]
@@ -40,20 +40,14 @@ pub fn sum(octets: &[u8]) -> u16
     in_network_order(fold(total + words_of(rest)))
 }
 
-/// Copies `from` to `to`, which has as many octets, and answers the sum of what was copied, in one pass over the octets.
+/// Copies `from` to `to`, which has as many octets, and answers the sum of what was copied.
 pub fn copy_sum(from: &[u8], to: &mut [u8]) -> u16
     requires { length from.now ≡ length to.old }
     ensures copied { to.new ≡ from.now }
     ensures sum { result ≡ sum_of from.now }
 {
-    let mut total = 0;
-    let mut at = 0;
-    while from.len() - at > PART {
-        let words = words_copied(&from[at..at + PART], &mut to[at..at + PART]);
-        total = u64::from(fold(total + words));
-        at += PART;
-    }
-    in_network_order(fold(total + words_copied(&from[at..], &mut to[at..])))
+    to.copy_from_slice(from);
+    sum(to)
 }
 
 /// The checksum of `octets`: the complement of their sum.

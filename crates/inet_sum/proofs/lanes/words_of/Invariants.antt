@@ -1,6 +1,9 @@
-use Rattle.std.proofs.Common.{◌*◌, take}
-use Rattle.inet_sum.specs.Lanes.{AreTotals}
+use Rattle.std.proofs.Common.{◌*◌, ◌≤◌, take}
+use Rattle.inet_sum.specs.Lanes.{AreTotals, total_of}
 use Rattle.inet_sum.proofs.lanes.words_of.Given as goal
 
 abbrev pub invariant-loop-i : goal.invariant-loop-i
-invariant-loop-i l = AreTotals l.totals (16 * l.i) (take (128 * l.i) l.part)
+invariant-loop-i l = record {
+  totals : AreTotals (total_of l.totals) (16 * l.i) (take (128 * l.i) l.part);
+  carries : l.totals.carries ≤ l.i;
+}
