@@ -1,6 +1,6 @@
 //! Octets in a ring, by their places from the front.
 
-ghost use Rattle.std.specs.Prelude.{◌≡◌, ◌+◌, ◌≤◌, ◌==◌, ◌-◌, ◌++◌, [], min, length, take, drop, slice_range, IfOk};
+ghost use Rattle.std.specs.Prelude.{◌≡◌, ◌+◌, ◌<◌, ◌≤◌, ◌==◌, ◌-◌, ◌++◌, [], min, length, take, drop, slice_range, IfOk};
 ghost use Rattle.std.specs.Vec.{vec_capacity};
 ghost use Rattle.inet_sum.specs.Sum.{sum_of};
 ghost use Rattle.stream_buf.specs.Ring.{buffer, turned, overlaid};
@@ -120,6 +120,23 @@ impl Ring {
     {
         let to_end = self.capacity - self.start;
         let end = at + octets.len();
+        if self.block.len() < self.start + end.min(to_end) {
+            return self.overlay_beyond(at, octets);
+        }
+        self.len = self.len.max(end);
+        put(self.block.as_mut_slice(), self.start, at, octets);
+    }
+
+    /// The same where some of the places were not written. Each is so but once.
+    #[cold]
+    #[inline(never)]
+    fn overlay_beyond(&mut self, at: usize, octets: &[u8])
+        requires there { at ≤ length self.old.items }
+        requires within { at + length octets.now ≤ self.old.capacity }
+        ensures { self.new ≡ buffer (overlaid at octets.now self.old.items) self.old.capacity }
+    {
+        let to_end = self.capacity - self.start;
+        let end = at + octets.len();
         write_before(&mut self.block, self.start + end.min(to_end));
         put(self.block.as_mut_slice(), self.start, at, octets);
         self.len = self.len.max(end);
@@ -212,13 +229,27 @@ fn put_in_parts(front: &mut [u8], back: &mut [u8], at: usize, octets: &[u8])
     } else if octets.len() <= front.len() - at {
         copy_to(front, at, octets);
     } else {
-        let (first, second) = octets.split_at(front.len() - at);
-        copy_to(front, at, first);
-        copy_to(back, 0, second);
+        put_across(front, back, at, octets);
     }
 }
 
-/// Copies octets to a place.
+/// Puts octets in the place of those from the place `at` of the first part on, and of the first ones of the second.
+#[inline(never)]
+fn put_across(front: &mut [u8], back: &mut [u8], at: usize, octets: &[u8])
+    requires at { at < length front.old }
+    requires across { length front.old < at + length octets.now }
+    requires within { at + length octets.now ≤ length (front.old ++ back.old) }
+    ensures octets { front.new ++ back.new ≡ overlaid at octets.now (front.old ++ back.old) }
+    ensures front { length front.new ≡ length front.old }
+    ensures back { length back.new ≡ length back.old }
+{
+    let (first, second) = octets.split_at(front.len() - at);
+    copy_to(front, at, first);
+    copy_to(back, 0, second);
+}
+
+/// Copies octets to a place. It is apart, so that what calls it last saves no registers.
+#[inline(never)]
 fn copy_to(octets: &mut [u8], at: usize, new: &[u8])
     requires { at + length new.now ≤ length octets.old }
     ensures octets { octets.new ≡ overlaid at new.now octets.old }

@@ -47,8 +47,8 @@ impl SendBuf {
         self.held.drop_front(count);
     }
 
-    /// Fills `out` with the octets that are held from the place `offset` on, and answers their one's complement sum (RFC 1071), which
-    /// is taken while they are copied. They stay.
+    /// Fills `out` with the octets that are held from the place `offset` on, and answers their one's complement sum (RFC 1071). They
+    /// stay.
     pub fn copy_at(&self, offset: usize, out: &mut [u8]) -> u16
         requires { offset + length out.old ≤ length self.now.held }
         ensures octets { out.new ≡ copied self.now offset (length out.old) }

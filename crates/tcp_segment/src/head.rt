@@ -94,7 +94,56 @@ impl Head {
     /// Writes the header before the payload, which stands at `out[self.len()..]` already and whose
     /// one's complement sum is `payload_sum`, and answers the length of the segment, in octets. The
     /// payload isn't read again. What stands behind it in `out` stays.
+    #[inline(always)]
     pub fn emit(
+        &self,
+        src: Addr,
+        dst: Addr,
+        payload_len: usize,
+        payload_sum: u16,
+        out: &mut [u8],
+    ) -> usize
+        requires room { 4 * sent_offset self.now + payload_len ≤ length out.old }
+        requires len { 4 * sent_offset self.now + payload_len < 2 ^ 16 }
+        requires sum { payload_sum ≡ sum_of (slice_range out.old (4 * sent_offset self.now) (4 * sent_offset self.now + payload_len)) }
+        ensures len { result ≡ 4 * sent_offset self.now + payload_len }
+        ensures sendable { CanBeSent src dst self.now (slice_range out.old (4 * sent_offset self.now) result) }
+        ensures octets { let payload = slice_range out.old (4 * sent_offset self.now) result in
+            out.new ≡ sent_octets src dst self.now payload ++ drop result out.old }
+    {
+        if self.has_options() {
+            let head = *self;
+            head.emit_long(src, dst, payload_len, payload_sum, out)
+        } else {
+            self.put(src, dst, payload_len, payload_sum, out)
+        }
+    }
+
+    /// The same of a header with options, which few have. It is apart from that of the others, so that the caller of these lays out no header.
+    #[cold]
+    #[inline(never)]
+    fn emit_long(
+        &self,
+        src: Addr,
+        dst: Addr,
+        payload_len: usize,
+        payload_sum: u16,
+        out: &mut [u8],
+    ) -> usize
+        requires room { 4 * sent_offset self.now + payload_len ≤ length out.old }
+        requires len { 4 * sent_offset self.now + payload_len < 2 ^ 16 }
+        requires sum { payload_sum ≡ sum_of (slice_range out.old (4 * sent_offset self.now) (4 * sent_offset self.now + payload_len)) }
+        ensures len { result ≡ 4 * sent_offset self.now + payload_len }
+        ensures sendable { CanBeSent src dst self.now (slice_range out.old (4 * sent_offset self.now) result) }
+        ensures octets { let payload = slice_range out.old (4 * sent_offset self.now) result in
+            out.new ≡ sent_octets src dst self.now payload ++ drop result out.old }
+    {
+        self.put(src, dst, payload_len, payload_sum, out)
+    }
+
+    /// The same of any header.
+    #[inline(always)]
+    fn put(
         &self,
         src: Addr,
         dst: Addr,
@@ -117,6 +166,11 @@ impl Head {
         len
     }
 
+    /// Whether there are options in the header.
+    fn has_options(&self) -> bool {
+        self.has_mss_option() || !self.blocks.is_empty()
+    }
+
     /// Whether the header carries the MSS option.
     fn has_mss_option(&self) -> bool
         ensures { result ≡ self.now.flags.syn }
@@ -125,6 +179,7 @@ impl Head {
     }
 
     /// What the words of the header come to where the checksum is 0, in one's complement: a number of 32 bits counts as its two words.
+    #[inline(always)]
     fn words(&self) -> u64
         ensures value { (more : ℕ) → ones_complement (result + more) ≡ ones_complement (word_sum (sent_with self.now [] 0) + more) }
         ensures bound { result < 2 ^ 62 }
@@ -138,6 +193,7 @@ impl Head {
     }
 
     /// What the words of the options come to.
+    #[inline(always)]
     fn option_words(&self) -> u64
         ensures value { (more : ℕ) → ones_complement (result + more) ≡ ones_complement (word_sum (joined (sent_options self.now)) + more) }
         ensures bound { result < 2 ^ 40 }
@@ -183,6 +239,7 @@ impl Head {
     }
 
     /// The word of the data offset and the control bits.
+    #[inline(always)]
     fn control(&self) -> u16
         ensures { result ≡ 4096 * sent_offset self.now + control_bits self.now.flags }
     {
@@ -190,6 +247,7 @@ impl Head {
     }
 
     /// Writes the header with this checksum.
+    #[inline(always)]
     fn write(&self, checksum: u16, out: &mut [u8])
         requires { 4 * sent_offset self.now ≤ length out.old }
         ensures octets { out.new ≡ sent_with self.now [] checksum ++ drop (4 * sent_offset self.now) out.old }
@@ -234,6 +292,7 @@ impl Head {
     }
 
     /// The fields of the header before its options, with this checksum.
+    #[inline(always)]
     fn fixed(&self, checksum: u16) -> [u8; FIXED_LEN]
         ensures octets { result ≡ fixed_fields (sent_segment self.now []) (sent_offset self.now) 0 checksum }
         ensures fit { FieldsFit (sent_segment self.now []) }

@@ -68,6 +68,9 @@ impl Connection {
         if self.owes_reset {
             return Some(Due::Rst);
         }
+        if self.is_idle() {
+            return self.ack_due();
+        }
         if self.state.is_opening() {
             return self.opening_due();
         }

@@ -1,7 +1,9 @@
 //! What guards a connection against segments that aren't used (RFC 5961).
 
-ghost use Rattle.std.specs.Prelude.{◌≡◌};
+ghost use Rattle.std.specs.Prelude.{◌≡◌, ◌&&◌, ◌||◌, not, false, if◌then◌else◌};
+ghost use Rattle.tcp_halves.specs.Stream.{outstanding};
 ghost use Rattle.tcp_state.specs.Arrival.{is_too_old, is_off, is_unused, draws_one, is_opening_syn, guarded};
+ghost use Rattle.tcp_state.specs.Resend.{mark_past};
 ghost use Rattle.tcp_state.specs.Guard.{first_guard, counting_at, is_spent, guard_after};
 
 use crate::arrival::Before;
@@ -126,7 +128,7 @@ impl Connection {
         ensures { self.new ≡ guarded before.now self.old now }
     {
         if before.draws_one || before.asks_again {
-            self.answer_unused(before, now);
+            self.answer_unused(before.draws_one, before.asks_again, now);
         }
         self.guard.note(before.draws_one, now);
     }
@@ -134,14 +136,17 @@ impl Connection {
     /// What such a segment draws is held back, or it draws the SYN-ACK again, or an acknowledgement as it is.
     #[cold]
     #[inline(never)]
-    fn answer_unused(&mut self, before: &Before, now: Moment)
-        ensures { self.new ≡ record (guarded before.now self.old now) { guard = self.old.guard } }
+    fn answer_unused(&mut self, draws_one: bool, asks_again: bool, now: Moment)
+        ensures { self.new ≡ (let held_back = draws_one && is_spent self.old.guard now in record self.old {
+          owes_ack = if held_back || asks_again then false else self.old.owes_ack;
+          resend = record self.old.resend { mark = if asks_again && not held_back then mark_past 0 (outstanding self.old.sending) else self.old.resend.mark };
+        }) }
     {
-        let is_held_back = before.draws_one && self.guard.is_spent(now);
-        if before.asks_again && !is_held_back {
+        let is_held_back = draws_one && self.guard.is_spent(now);
+        if asks_again && !is_held_back {
             self.resend.mark_all(self.sender.outstanding());
         }
-        if is_held_back || before.asks_again {
+        if is_held_back || asks_again {
             self.owes_ack = false;
         }
     }

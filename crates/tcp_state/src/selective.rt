@@ -1,10 +1,11 @@
 //! What the peer reports that it keeps ahead of a gap, and what that tells of what is in the network (RFC 2018, RFC 6675).
 
-ghost use Rattle.std.specs.Prelude.{◌≡◌, ◌≤◌, ◌<◌, ◌+◌, ◌*◌, ◌^◌, ◌==◌, ◌&&◌, not, length, true};
+ghost use Rattle.std.specs.Prelude.{◌≡◌, ◌≤◌, ◌<◌, ◌+◌, ◌*◌, ◌^◌, ◌==◌, ◌&&◌, not, nat_lt, length, true};
+ghost use Rattle.stream_buf.specs.Ranges.{covered};
 ghost use Rattle.stream_buf.specs.Scoreboard.{with_report};
 ghost use Rattle.congestion.specs.Window.{is_recovering};
 ghost use Rattle.tcp_halves.specs.Stream.{outstanding};
-ghost use Rattle.tcp_state.specs.Selective.{selects, repairs_gaps, counts_pipe, place_of, is_usual, tolerance, loss_end, repaired_end, pipe, allowance};
+ghost use Rattle.tcp_state.specs.Selective.{with_blocks, selects, repairs_gaps, counts_pipe, place_of, is_usual, tolerance, loss_end, repaired_end, pipe, allowance};
 ghost use Rattle.tcp_state.specs.Arrival.{blocks_told, counts_reports, told, reports_more, is_partial, tells_loss};
 
 use crate::arrival::Before;
@@ -152,16 +153,25 @@ impl Connection {
         if before.blocks.is_empty() {
             return false;
         }
+        let blocks = before.blocks;
+        self.note_blocks(before.counts_reports, &blocks)
+    }
+
+    /// Blocks join what was reported. The answer is whether they count, and tell of what nothing reported before.
+    #[cold]
+    #[inline(never)]
+    fn note_blocks(&mut self, counts: bool, blocks: &Blocks) -> bool
+        ensures more { result ≡ (counts && nat_lt (covered self.old.resend.reported) (covered (with_blocks self.old.resend.reported self.old.sending blocks.now))) }
+        ensures after { self.new ≡ record self.old { resend = record self.old.resend { reported = with_blocks self.old.resend.reported self.old.sending blocks.now } } }
+    {
         let known = self.resend.reported().covered();
-        for block in before.blocks.as_slice() {
+        for block in blocks.as_slice() {
             self.note_block(*block);
         }
-        before.counts_reports && known < self.resend.reported().covered()
+        counts && known < self.resend.reported().covered()
     }
 
     /// A block joins what was reported.
-    #[cold]
-    #[inline(never)]
     fn note_block(&mut self, block: Block)
         ensures { self.new ≡ record self.old { resend = record self.old.resend { reported = with_report self.old.resend.reported (outstanding self.old.sending) (place_of self.old.sending block) } } }
     {

@@ -2,6 +2,9 @@
 
 ghost use Rattle.std.specs.Prelude.{◌≡◌, ◌&&◌, ◌||◌, not, false, None, if◌then◌else◌};
 ghost use Rattle.clock.specs.Moments.{has_come};
+ghost use Rattle.tcp_halves.specs.Windows.{waits_for_more};
+ghost use Rattle.tcp_state.specs.New.{waits_no_longer};
+ghost use Rattle.tcp_state.specs.Selective.{allowance};
 ghost use Rattle.retransmit.specs.Deadlines.{next_of};
 ghost use Rattle.tcp_state.specs.View.{IsSound, is_opening};
 ghost use Rattle.tcp_state.specs.Alive.{after_silence};
@@ -43,12 +46,22 @@ impl Connection {
             return false;
         }
         let allowed = self.allowance();
+        let sendable = self.sender.sendable(allowed);
+        sendable > 0 && sendable < self.sender.smss() && self.awaits_full(allowed)
+    }
+
+    /// Whether new octets that are fewer than a segment has wait for more.
+    #[inline(never)]
+    fn awaits_full(&self, allowed: u32) -> bool
+        requires { allowed ≡ allowance self.now }
+        ensures { result ≡ waits_for_more self.now.sending (allowance self.now) (waits_no_longer self.now) }
+    {
         self.sender
             .waits_for_more(allowed, self.waits_no_longer(allowed))
     }
 
     /// Whether nothing of ours waits to go out or to be acknowledged: the connection is open, and no octet is held and no FIN unacknowledged.
-    fn is_idle(&self) -> bool
+    pub(crate) fn is_idle(&self) -> bool
         ensures value { result ≡ not (is_opening self.now.state || has_unacknowledged self.now) }
         ensures sound { IsSound self.now }
     {
@@ -61,13 +74,13 @@ impl Connection {
         ensures { self.new ≡ clocked moved self.old now }
     {
         let awaits_second = self.delays_ack && !self.owes_ack;
-        self.update_sending_timers(moved, now);
         run_while(
             awaits_second,
             &mut self.timers.delayed_ack,
             now,
             DELAYED_ACK_WAIT,
         );
+        self.update_sending_timers(moved, now);
     }
 
     /// The timers for what is sent run, stop or begin. Most connections have nothing to send at most events.
@@ -92,6 +105,7 @@ impl Connection {
     }
 
     /// The timers for what is sent run where it waits for something.
+    #[inline(never)]
     fn run_sending_timers(&mut self, moved: bool, now: Moment)
         ensures { self.new ≡ record self.old { resend = record self.old.resend { interval = interval_of self.old; owes_probe = self.old.resend.owes_probe && probes self.old }; timers = record self.old.timers { retransmission = retransmission_timer self.old moved now; probe = probe_timer self.old now; overriding = override_timer self.old now }; unheard = unheard_since self.old now } }
     {

@@ -2,7 +2,7 @@ use Rattle.std.proofs.Common.{◌≡◌, ◌+◌, ◌*◌, ℕ, List, length, sl
 use Rattle.inet_sum.specs.Sum.{ones_complement, sum_of}
 use Rattle.tcp_segment.specs.Sent.{sent_offset, sent_with}
 use Rattle.tcp_segment.proofs.Sending.{emitted, payload_len, whole_len, words_with_payload}
-use Rattle.tcp_segment.proofs.head.Head.emit.Goals as goal
+use Rattle.tcp_segment.proofs.head.Head.put.Goals as goal
 
 pub returns-clause-octets : goal.returns-clause-octets
 returns-clause-octets c =

@@ -4,12 +4,10 @@ use Rattle.stream_buf.specs.Ranges.{covered}
 use Rattle.stream_buf.specs.Scoreboard.{with_report}
 use Rattle.tcp_segment.specs.declared.blocks.Block.{Block}
 use Rattle.tcp_halves.specs.Stream.{outstanding}
-use Rattle.tcp_state.specs.declared.arrival.Before.{Before}
 use Rattle.tcp_state.specs.View.{View}
 use Rattle.tcp_state.specs.Selective.{place_of, with_blocks}
-use Rattle.tcp_state.specs.Arrival.{told, reported_by}
-use Rattle.tcp_state.proofs.connection.Connection.note_reports.Goals as goal
-use Rattle.tcp_state.proofs.connection.Connection.note_reports.Goals.{then-before, else-before}
+use Rattle.tcp_state.proofs.connection.Connection.note_blocks.Goals as goal
+use Rattle.tcp_state.proofs.connection.Connection.note_blocks.Goals.{then-counts, else-counts}
 
 -- so many blocks have joined what was reported
 abbrev Joined : View → List Block → ℕ → View → Type 0
@@ -38,23 +36,26 @@ pub loop-block-preserved : goal.loop-block-preserved
 loop-block-preserved c = joins c.args.self.now c.loop-block.self c.note_block.new.self c.as_slice-block-items.result.now c.loop-block.block-index _ c.loop-block-test.true c.loop-block.invariant c.note_block.ensures
 
 -- once all have
-all_join : (v w : View) (b : Before) (items : List Block) (i : ℕ) → items ≡ b.blocks → length items ≤ i → Joined v items i w → w ≡ told b v
-all_join v w b items i is all joined =
+abbrev with_all : View → List Block → View
+with_all v blocks = record v { resend = record v.resend { reported = with_blocks v.resend.reported v.sending blocks } }
+
+all_join : (v w : View) (blocks items : List Block) (i : ℕ) → items ≡ blocks → length items ≤ i → Joined v items i w → w ≡ with_all v blocks
+all_join v w blocks items i is all joined =
     let done : with_blocks w.resend.reported v.sending (drop i items) ≡ w.resend.reported = ap (with_blocks w.resend.reported v.sending) (drop_all i items all) in
     joined.0 ∙ ap (λ r. let x : View = record v { resend = record v.resend { reported = r } } in x) (sym done ∙ joined.1 ∙ ap (with_blocks v.resend.reported v.sending) is)
 
 pub returns-clause-after : goal.returns-clause-after
-returns-clause-after c = all_join c.args.self.now c.loop-block.self c.args.before.now c.as_slice-block-items.result.now c.loop-block.block-index c.as_slice-block-items.ensures.value c.loop-block-test.false c.loop-block.invariant
+returns-clause-after c = all_join c.args.self.now c.loop-block.self c.args.blocks.now c.as_slice-block-items.result.now c.loop-block.block-index c.as_slice-block-items.ensures.value c.loop-block-test.false c.loop-block.invariant
 
 pub returns-clause-more : goal.returns-clause-more
 returns-clause-more c =
-    let after : c.loop-block.self ≡ told c.args.before.now c.args.self.now =
-    all_join c.args.self.now c.loop-block.self c.args.before.now c.as_slice-block-items.result.now c.loop-block.block-index c.as_slice-block-items.ensures.value c.loop-block-test.false c.loop-block.invariant in
-    let grows = nat_lt (covered c.args.self.now.resend.reported) (covered (reported_by c.args.before.now c.args.self.now)) in
-    elim c.if-before.branch [
-      | then-before w ↦ w.result-is
+    let after : c.loop-block.self ≡ with_all c.args.self.now c.args.blocks.now =
+    all_join c.args.self.now c.loop-block.self c.args.blocks.now c.as_slice-block-items.result.now c.loop-block.block-index c.as_slice-block-items.ensures.value c.loop-block-test.false c.loop-block.invariant in
+    let grows = nat_lt (covered c.args.self.now.resend.reported) (covered (with_blocks c.args.self.now.resend.reported c.args.self.now.sending c.args.blocks.now)) in
+    elim c.if-counts.branch [
+      | then-counts w ↦ w.result-is
           ∙ ap₂ nat_lt (c.covered-known.ensures.value ∙ ap covered (c.reported.ensures ∙ ap (λ (v : View). v.resend.reported) c.self.view_is))
-          (w.covered.ensures.value ∙ ap covered (w.reported-then-before.ensures ∙ ap (λ (v : View). v.resend.reported) (c.self-2.view_is ∙ after)))
-          ∙ ap (λ t. t && grows) (sym w.if-before.true)
-      | else-before w ↦ w.result-is ∙ w.if-before.false ∙ ap (λ t. t && grows) (sym w.if-before.false)
+          (w.covered.ensures.value ∙ ap covered (w.reported-then-counts.ensures ∙ ap (λ (v : View). v.resend.reported) (c.self-2.view_is ∙ after)))
+          ∙ ap (λ t. t && grows) (sym w.if-counts.true)
+      | else-counts w ↦ w.result-is ∙ w.if-counts.false ∙ ap (λ t. t && grows) (sym w.if-counts.false)
     ]

@@ -1,7 +1,7 @@
 use Rattle.std.proofs.Common.{◌≡◌, drop}
 use Rattle.tcp_state.specs.View.{View}
 use Rattle.tcp_state.specs.Selective.{with_blocks}
-use Rattle.tcp_state.proofs.connection.Connection.note_reports.Given as goal
+use Rattle.tcp_state.proofs.connection.Connection.note_blocks.Given as goal
 
 -- nothing but what is reported has changed, and with the blocks that are left it is what it is with all of them
 abbrev pub invariant-loop-block : goal.invariant-loop-block
