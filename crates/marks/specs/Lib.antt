@@ -1,0 +1,5 @@
+pub mod Bits
+pub mod First
+pub mod Marked
+pub mod Tree
+pub mod Walk
