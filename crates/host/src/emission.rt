@@ -107,17 +107,20 @@ impl Layers {
         }
     }
 
-    /// What can go out for the table: for the first of what its entries have due, in order of id, for which a frame can.
+    /// What can go out for the table: for the first of what its entries have due, in order of id, for which a frame can. Entries that aren't busy have
+    /// nothing due.
     fn plan(&self, now: Moment) -> Option<Plan>
         ensures what { table_emission self.now now ≡ planned_or_nothing result }
         ensures first { IfSome result (λ plan. IsFirst self.now now plan) }
     {
         let entries = self.sockets.entries();
-        for place in 0..entries.len() {
+        let mut from = 0;
+        while let Some(place) = self.sockets.next_busy(from) {
             let plan = self.plan_for(now, place, &entries[place]);
             if plan.is_some() {
                 return plan;
             }
+            from = place + 1;
         }
         None
     }

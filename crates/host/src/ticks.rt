@@ -1,6 +1,7 @@
 //! What time does to a host.
 
-ghost use Rattle.std.specs.Prelude.{◌≡◌};
+ghost use Rattle.std.specs.Prelude.{◌≡◌, fold};
+ghost use Rattle.clock.specs.Moments.{sooner};
 ghost use Rattle.sockets.specs.Entries.{dues_of};
 ghost use Rattle.host.specs.Ticks.{all_reported};
 
@@ -35,9 +36,21 @@ impl Layers {
         let now = self.sockets.kept();
         let first = sooner(self.sockets.next_deadline(), self.interface.deadline(now));
         let first = sooner(first, self.pool.next_deadline());
-        self.sockets.entries().iter().fold(first, |least, entry| {
-            sooner(least, self.hop_deadline(entry))
-        })
+        self.sooner_at_hops(first)
+    }
+
+    /// The sooner of a deadline and of what the entries wait for at the hops of what they have due. Those that aren't busy wait for nothing.
+    fn sooner_at_hops(&self, first: Option<Moment>) -> Option<Moment>
+        ensures { result ≡ fold (λ least e. sooner least (hop_deadline self.now e)) first self.now.sockets.entries }
+    {
+        let entries = self.sockets.entries();
+        let mut least = first;
+        let mut from = 0;
+        while let Some(place) = self.sockets.next_busy(from) {
+            least = sooner(least, self.hop_deadline(&entries[place]));
+            from = place + 1;
+        }
+        least
     }
 
     /// What an entry waits for at the hops of what it has due.

@@ -71,16 +71,16 @@ ascends_settled last fate xs ys i ascends is = let P : List Entry → Type 0 = �
     by_kept true = ascends
     by_kept false = ascends_followed KeepsId (λ x y same. same) 0 last xs (remove xs i) (place_removed KeepsId IsNothing refl (λ x. refl) (λ x. tt) xs i) ascends
 
+-- the same of one that stays or not
+pub ascends_stays : (last : ℕ) (stays : Bool) (xs ys : List Entry) (i : ℕ) → AreAscending 0 last xs → ys ≡ (if stays then xs else remove xs i) → AreAscending 0 last ys
+ascends_stays last true xs ys i ascends is = let P : List Entry → Type 0 = λ ws. AreAscending 0 last ws in subst P (sym is) ascends
+ascends_stays last false xs ys i ascends is = let P : List Entry → Type 0 = λ ws. AreAscending 0 last ws in subst P (sym is) (ascends_followed KeepsId (λ x y same. same) 0 last xs (remove xs i) (place_removed KeepsId IsNothing refl (λ x. refl) (λ x. tt) xs i) ascends)
+
 -- each entry takes a step and keeps its id, or is taken out
 pub ascends_stepped : (last : ℕ) (test : Entry → Bool) (change : Entry → Entry) (xs ys : List Entry) → ((x : Entry) → (change x).id ≡ x.id) → AreAscending 0 last xs → ys ≡ retain_mut test change xs → AreAscending 0 last ys
 ascends_stepped last test change xs ys keeps ascends is =
     let P : List Entry → Type 0 = λ ws. AreAscending 0 last ws in
     subst P (sym is) (ascends_followed KeepsId (λ x y same. same) 0 last xs (retain_mut test change xs) (each_followed KeepsId IsNothing refl test change xs (λ x kept. keeps x) (λ x gone. tt)) ascends)
-
--- the same where each call answers and changes as it will, and changes no capture
-pub ascends_in_turn : {F : Type 0} (R : F → Entry → Bool → F → Entry → Type 0) (f : F) → ((x : Entry) (b : Bool) (f' : F) (y : Entry) → R f x b f' y → (f' ≡ f) × (y.id ≡ x.id))
-    → (a last : ℕ) (xs ys : List Entry) → RetainsInTurn R f xs ys → AreAscending a last xs → AreAscending a last ys
-ascends_in_turn R f says a last xs ys h ascends = ascends_followed KeepsId (λ x y same. same) a last xs ys (followed_in_turn KeepsId IsNothing R f refl says (λ x. tt) xs ys h) ascends
 
 -- an entry of the next id joins
 pub ascends_pushed : (last n : ℕ) (xs ys : List Entry) (x : Entry) → n ≡ last + 1 → x.id.0 ≡ n → ys ≡ xs ++ x ∷ [] → AreAscending 0 last xs → AreAscending 0 n ys

@@ -113,7 +113,7 @@ kept_at v now e =
     let gives : gives_up v now ≡ false = rw (own.0, own.1, quiet.0) in
     rw (parts.1, gives)
 
-role_waits : (role : Role) (now : Moment) → has_come (deadline_of role) now ≡ false → (is_kept (tick_fate_of now role) ≡ true) × (role_after_tick now role ≡ role)
+pub role_waits : (role : Role) (now : Moment) → has_come (deadline_of role) now ≡ false → (is_kept (tick_fate_of now role) ≡ true) × (role_after_tick now role ≡ role)
 role_waits (Connected c l) now e = (kept_at c now e, ap (λ (v : View). Connected v l) (waits c now e))
 role_waits _ now e = (refl, refl)
 

@@ -100,14 +100,6 @@ module _ (P : Filed → Type 0) where
   all_weaker Q follows [] all = tt
   all_weaker Q follows (x ∷ xs) all = (follows x all.0, all_weaker Q follows xs all.1)
 
-  all_filtered : (k : Filed → Bool) (l : List Filed) → AllByRecursion P l → AllByRecursion P (filter k l)
-  all_filtered k [] all = tt
-  all_filtered k (x ∷ xs) all = by_answer (k x) (all_filtered k xs all.1)
-    where
-      by_answer : (b : Bool) → AllByRecursion P (filter k xs) → AllByRecursion P (cond b (x ∷ filter k xs) (filter k xs))
-      by_answer true rest = (all.0, rest)
-      by_answer false rest = rest
-
   -- and so of each that the entries name
   all_beside : (o : Option Filed) (l : List Filed) → AllByRecursion P (with_filed o l) → AllByRecursion P l
   all_beside None l all = all
@@ -198,112 +190,12 @@ index_connected old index xs zs i y d x was is lent within none now =
     is ∙ ap (λ (l : List Filed). inserted x l) was ∙ ap (λ (o : Option Filed). with_filed o (index_of xs)) (sym now)
     ∙ sym (index_set_new xs i y d within (ap (λ (ws : List Entry). filed (get_or ws i d)) (sym lent) ∙ none)) ∙ ap index_of (sym (refill_set xs zs i y lent))
 
--- Entries that leave.
-
-kept-inserted : (k : Filed → Bool) (x : Filed) (l : List Filed) → k x ≡ true → AreSorted l → filter k (inserted x l) ≡ inserted x (filter k l)
-kept-inserted k x [] kept sorted = rw kept refl
-kept-inserted k x (y ∷ ys) kept sorted =
-    by_test (is_before y x)
-    (λ below. by_test (k y)
-    (λ stays. rw (below, stays, below) (ap (λ ws. y ∷ ws) (kept-inserted k x ys kept sorted.1)))
-    (λ leaves. rw (below, leaves) (kept-inserted k x ys kept sorted.1)))
-    (λ above. rw (above, kept) (sym (in_front (filter k (y ∷ ys)) (all_filtered (λ z. is_before z x ≡ false) k (y ∷ ys) (above, all_weaker (λ z. is_before z y ≡ false) (λ z. is_before z x ≡ false) (λ z later. not_before_then x y z above later) ys sorted.0)))))
-  where
-    in_front : (l : List Filed) → AllByRecursion (λ z. is_before z x ≡ false) l → inserted x l ≡ x ∷ l
-    in_front [] all = refl
-    in_front (z ∷ zs) all = rw all.0 refl
-
-gone-inserted : (k : Filed → Bool) (x : Filed) (l : List Filed) → k x ≡ false → filter k (inserted x l) ≡ filter k l
-gone-inserted k x [] gone = rw gone refl
-gone-inserted k x (y ∷ ys) gone =
-    by_test (is_before y x)
-    (λ below. by_test (k y)
-    (λ stays. rw (below, stays) (ap (λ ws. y ∷ ws) (gone-inserted k x ys gone)))
-    (λ leaves. rw (below, leaves) (gone-inserted k x ys gone)))
-    (λ above. rw (above, gone) refl)
-
-kept-with : (k : Filed → Bool) (o : Option Filed) (l : List Filed) → ((x : Filed) → o ≡ Some x → k x ≡ true) → AreSorted l → filter k (with_filed o l) ≡ with_filed o (filter k l)
-kept-with k None l keeps sorted = refl
-kept-with k (Some x) l keeps sorted = kept-inserted k x l (keeps x refl) sorted
-
-gone-with : (k : Filed → Bool) (o : Option Filed) (l : List Filed) → ((x : Filed) → o ≡ Some x → k x ≡ false) → filter k (with_filed o l) ≡ filter k l
-gone-with k None l leaves = refl
-gone-with k (Some x) l leaves = gone-inserted k x l (leaves x refl)
-
--- a connection is filed by its own id
-filed-id : (id : SocketId) (role : Role) (x : Filed) → filed_as id role ≡ Some x → x.id ≡ id
-filed-id id (Connected c listener) x is = let same : filed_at id c.local c.peer ≡ x = cc in ap (λ (z : Filed). z.id) (sym same)
-filed-id id _ x is = cc
-
--- an entry that stays keeps its id, and is filed as before
-abbrev pub StaysFiled : Entry → Option Entry → Type 0
-StaysFiled x None = Unit {0}
-StaysFiled x (Some y) = (y.id ≡ x.id) × (filed y ≡ filed x)
-
 -- no entry has an id below the first
 none_below : (a last : ℕ) (ys : List Entry) (id : SocketId) → id.0 ≤ a → AreAscending a last ys → list_any (has_id id) ys ≡ false
 none_below a last [] id low ascends = refl
 none_below a last (y ∷ ys) id low ascends =
     let first : a < y.id.0 = ascends.0 in
     rw (ne_eqb y.id.0 id.0 (λ same. omega arith)) (none_below y.id.0 last ys id (omega arith) ascends.1)
-
--- where a test of what is filed passes exactly those whose id is left, it leaves what is filed of the entries that are left
-index_kept : (k : Filed → Bool) (a last : ℕ) (xs ys : List Entry) → ((x : Filed) → a < x.id.0 → k x ≡ list_any (has_id x.id) ys) → Follows StaysFiled IsNothing xs ys → AreAscending a last xs → filter k (index_of xs) ≡ index_of ys
-index_kept k a last [] ys says f ascends = ap index_of (sym f)
-index_kept k a last (x ∷ xs) [] says f ascends =
-    let above : a < x.id.0 = ascends.0 in
-    gone-with k (filed x) (index_of xs) (λ z is. says z (subst (λ (i : SocketId). a < i.0) (sym (filed-id x.id x.role z is)) above))
-    ∙ index_kept k x.id.0 last xs [] (λ z later. says z (omega arith)) f.1 ascends.1
-index_kept k a last (x ∷ xs) (y ∷ ys) says (inl f) ascends =
-    let above : a < x.id.0 = ascends.0 in
-    let here : (z : Filed) → filed x ≡ Some z → k z ≡ true =
-    λ z is. let id : z.id ≡ x.id = filed-id x.id x.role z is in
-    says z (subst (λ (i : SocketId). a < i.0) (sym id) above) ∙ rw (eq-eqb y.id.0 z.id.0 (ap (λ (i : SocketId). i.0) (f.0.0 ∙ sym id))) refl
-    in
-    let later : (z : Filed) → x.id.0 < z.id.0 → k z ≡ list_any (has_id z.id) ys =
-    λ z after. let id : y.id.0 ≡ x.id.0 = ap (λ (i : SocketId). i.0) f.0.0 in
-    says z (omega arith) ∙ rw (ne_eqb y.id.0 z.id.0 (λ same. omega arith)) refl
-    in
-    kept-with k (filed x) (index_of xs) here (sorted_index xs)
-    ∙ ap (λ (l : List Filed). with_filed (filed x) l) (index_kept k x.id.0 last xs ys later f.1 ascends.1)
-    ∙ ap (λ (o : Option Filed). with_filed o (index_of ys)) (sym f.0.1)
-index_kept k a last (x ∷ xs) (y ∷ ys) says (inr f) ascends =
-    let above : a < x.id.0 = ascends.0 in
-    let left : AreAscending x.id.0 last (y ∷ ys) = ascends_followed StaysFiled (λ v w stays. stays.0) x.id.0 last xs (y ∷ ys) f.1 ascends.1 in
-    gone-with k (filed x) (index_of xs)
-    (λ z is. let id : z.id ≡ x.id = filed-id x.id x.role z is in
-    says z (subst (λ (i : SocketId). a < i.0) (sym id) above)
-    ∙ none_below x.id.0 last (y ∷ ys) z.id (subst (λ (i : SocketId). i.0 ≤ x.id.0) (sym id) (omega arith)) left)
-    ∙ index_kept k x.id.0 last xs (y ∷ ys) (λ z after. says z (omega arith)) f.1 ascends.1
-
--- what is filed of the entries that are left
-pub index_left : (last : ℕ) (index : List Filed) (xs ys : List Entry) → index ≡ index_of xs → AreAscending 0 last xs → Follows StaysFiled IsNothing xs ys → filter (λ (x : Filed). list_any (has_id x.id) ys) index ≡ index_of ys
-index_left last index xs ys is ascends f =
-    ap (λ (l : List Filed). filter (λ (x : Filed). list_any (has_id x.id) ys) l) is
-    ∙ index_kept (λ (x : Filed). list_any (has_id x.id) ys) 0 last xs ys (λ x above. refl) f ascends
-
--- no more entries are left than there were
-length_left : (xs ys : List Entry) → Follows StaysFiled IsNothing xs ys → length ys ≤ length xs
-length_left [] ys f = subst (λ (ws : List Entry). length ws ≤ 0) (sym f) (omega arith)
-length_left (x ∷ xs) [] f = omega arith
-length_left (x ∷ xs) (y ∷ ys) (inl f) = let less : length ys ≤ length xs = length_left xs ys f.1 in omega arith
-length_left (x ∷ xs) (y ∷ ys) (inr f) = let less : length (y ∷ ys) ≤ length xs = length_left xs (y ∷ ys) f.1 in omega arith
-
--- and where as many are, the same is filed
-index_unless_left : (xs ys : List Entry) → Follows StaysFiled IsNothing xs ys → length xs ≤ length ys → index_of ys ≡ index_of xs
-index_unless_left [] ys f all = ap index_of f
-index_unless_left (x ∷ xs) [] f all = absurd (omega arith)
-index_unless_left (x ∷ xs) (y ∷ ys) (inl f) all = ap (λ (o : Option Filed). with_filed o (index_of ys)) f.0.1 ∙ ap (λ (l : List Filed). with_filed (filed x) l) (index_unless_left xs ys f.1 (omega arith))
-index_unless_left (x ∷ xs) (y ∷ ys) (inr f) all = let less : length (y ∷ ys) ≤ length xs = length_left xs (y ∷ ys) f.1 in absurd (omega arith)
-
--- an entry is taken out
-pub left_by_removal : (xs : List Entry) (i : ℕ) → Follows StaysFiled IsNothing xs (remove xs i)
-left_by_removal xs i = place_removed StaysFiled IsNothing refl (λ x. (refl, refl)) (λ x. tt) xs i
-
--- each entry keeps its id and its ends, or is taken out, where no call changes a capture
-pub left_in_turn : {F : Type 0} (R : F → Entry → Bool → F → Entry → Type 0) (f : F) → ((x : Entry) (b : Bool) (f' : F) (y : Entry) → R f x b f' y → (f' ≡ f) × (y.id ≡ x.id) × (filed y ≡ filed x))
-    → (xs ys : List Entry) → RetainsInTurn R f xs ys → Follows StaysFiled IsNothing xs ys
-left_in_turn R f says xs ys h = followed_in_turn StaysFiled IsNothing R f refl (λ x b f' y called. let said = says x b f' y called in (said.0, (said.1, said.2))) (λ x. tt) xs ys h
 
 -- What a search by the ends finds.
 
@@ -388,6 +280,9 @@ parted_by_key key l sorted i j d low within first = front (get_or l i d) (get_or
     front : (a b : Filed) → is_before b a ≡ false → nat_lt b.key key ≡ true → nat_lt a.key key ≡ true
     front a b behind below = grind (arith, nat_tests)
 
+itself : (x : Filed) → is_before x x ≡ true → ⊥
+itself x first = grind (arith, nat_tests)
+
 -- the place behind what stands before x is that of x
 pub inserted_there : (x : Filed) (l : List Filed) (i : ℕ) → i ≤ length l → IsPartitionPoint (λ y. is_before y x ≡ true) (λ y. is_before y x ≡ false) l i → insert l i x ≡ inserted x l
 inserted_there x [] zero within parts = refl
@@ -396,6 +291,28 @@ inserted_there x (y ∷ ys) zero within parts = rw (parts.1 0 y (omega arith) (o
 inserted_there x (y ∷ ys) (suc i) within parts =
     rw (parts.0 0 y (omega arith) (omega arith))
     (ap (λ ws. y ∷ ws) (inserted_there x ys i (omega arith) ((λ k d low below. parts.0 (suc k) d (omega arith) (omega arith)), (λ k d low below. parts.1 (suc k) d (omega arith) (omega arith)))))
+
+-- and that of x where it stands: taken out, the others are left
+removed_there : (x : Filed) (l : List Filed) (i : ℕ) → i ≤ length (inserted x l) → IsPartitionPoint (λ y. is_before y x ≡ true) (λ y. is_before y x ≡ false) (inserted x l) i → (i < length (inserted x l)) × (remove (inserted x l) i ≡ l)
+removed_there x [] zero within parts = (omega arith, refl)
+removed_there x [] (suc i) within parts = absurd (itself x (parts.0 0 x (omega arith) (omega arith)))
+removed_there x (y ∷ ys) i within parts = by_place (is_before y x) refl i within parts (λ j. removed_there x ys j)
+  where
+    by_place : (b : Bool) → is_before y x ≡ b → (i : ℕ) → i ≤ length (cond b (y ∷ inserted x ys) (x ∷ y ∷ ys)) → IsPartitionPoint (λ z. is_before z x ≡ true) (λ z. is_before z x ≡ false) (cond b (y ∷ inserted x ys) (x ∷ y ∷ ys)) i
+        → ((j : ℕ) → j ≤ length (inserted x ys) → IsPartitionPoint (λ z. is_before z x ≡ true) (λ z. is_before z x ≡ false) (inserted x ys) j → (j < length (inserted x ys)) × (remove (inserted x ys) j ≡ ys))
+        → (i < length (cond b (y ∷ inserted x ys) (x ∷ y ∷ ys))) × (remove (cond b (y ∷ inserted x ys) (x ∷ y ∷ ys)) i ≡ y ∷ ys)
+    by_place true below zero within parts rest = absurd (let no : is_before y x ≡ false = parts.1 0 y (omega arith) (omega arith) in let bad : true ≡ false = sym below ∙ no in cc)
+    by_place true below (suc i) within parts rest =
+        let behind = rest i (omega arith) ((λ k d low high. parts.0 (suc k) d (omega arith) (omega arith)), (λ k d low high. parts.1 (suc k) d (omega arith) (omega arith))) in
+        (omega (arith, behind.0), ap (λ ws. y ∷ ws) behind.1)
+    by_place false above zero within parts rest = (omega arith, refl)
+    by_place false above (suc i) within parts rest = absurd (itself x (parts.0 0 x (omega arith) (omega arith)))
+
+-- an entry leaves
+pub index_without : (xs : List Entry) (i : ℕ) (d : Entry) → i < length xs → index_of xs ≡ with_filed (filed (get_or xs i d)) (index_of (remove xs i))
+index_without [] i d within = absurd (omega arith)
+index_without (e ∷ rest) zero d within = refl
+index_without (e ∷ rest) (suc i) d within = ap (λ (l : List Filed). with_filed (filed e) l) (index_without rest i d (omega arith)) ∙ twice-filed (filed e) (filed (get_or rest i d)) (index_of (remove rest i))
 
 -- what stands in front of the first of a key is passed
 pub passed_below : (xs : List Entry) (local peer : Endpoint) (key : ℕ) (l : List Filed) (i : ℕ) → key ≡ key_of local peer → AllWithin (λ y. nat_lt y.key key ≡ true) l 0 i → AllWithin (IsPassed xs local peer) l 0 i
@@ -426,19 +343,6 @@ module _ (xs : List Entry) (local peer : Endpoint) (l : List Filed) (sorted : Ar
 
 -- What a function of the table leaves filed.
 
-pub order_settled : (xs ys zs : List Entry) → (last : ℕ) × AreAscending 0 last xs → Follows StaysFiled IsNothing xs ys → zs ≡ ys → AreInOrder zs
-order_settled xs ys zs order f lent = lent_in_order order.0 ys zs lent (ascends_followed StaysFiled (λ x y stays. stays.0) 0 order.0 xs ys f order.1)
-
-pub index_settled : (index new : List Filed) (xs ys zs : List Entry) (held : ℕ) → (last : ℕ) × AreAscending 0 last xs → index ≡ index_of xs → Follows StaysFiled IsNothing xs ys → zs ≡ ys → held ≡ length xs
-    → new ≡ (if nat_lt (length zs) held then filter (λ (x : Filed). list_any (has_id x.id) zs) index else index) → new ≡ index_of ys
-index_settled index new xs ys zs held order is f lent all left =
-    by_test (nat_lt (length zs) held)
-    (λ fewer. left ∙ rw fewer (ap (λ (ws : List Entry). filter (λ (x : Filed). list_any (has_id x.id) ws) index) lent ∙ index_left order.0 index xs ys is order.1 f))
-    (λ as_many.
-    let same : length zs ≡ length ys = ap length lent in
-    let most : length xs ≤ length ys = grind (arith, nat_tests) in
-    left ∙ rw as_many (is ∙ sym (index_unless_left xs ys f most)))
-
 -- what was looked for in a slice that was lent
 pub filed_there : (x : Filed) (l ws : List Filed) (i : ℕ) → AreSorted l → ws ≡ l → i ≤ length ws
     → (IsPartitionedBy (λ y. is_before y x) ws → IsPartitionPoint (λ y. is_before y x ≡ true) (λ y. is_before y x ≡ false) ws i) → insert l i x ≡ inserted x l
@@ -457,3 +361,11 @@ index_pushed old index xs ys e x was joined now is =
 pub index_pushed_none : (index : List Filed) (xs ys : List Entry) (e : Entry) → index ≡ index_of xs → ys ≡ xs ++ e ∷ [] → filed e ≡ None → index ≡ index_of ys
 index_pushed_none index xs ys e was joined none =
     was ∙ ap (λ (o : Option Filed). with_filed o (index_of xs)) (sym none) ∙ sym (index_joined xs e) ∙ ap index_of (sym joined)
+
+-- .. and of one that is taken out
+pub unfiled_there : (x : Filed) (l rest ws : List Filed) (i : ℕ) → AreSorted rest → l ≡ inserted x rest → ws ≡ l → i ≤ length ws
+    → (IsPartitionedBy (λ y. is_before y x) ws → IsPartitionPoint (λ y. is_before y x ≡ true) (λ y. is_before y x ≡ false) ws i) → (i < length l) × (remove l i ≡ rest)
+unfiled_there x l rest ws i sorted is lent within parts =
+    subst (λ (us : List Filed). (i < length us) × (remove us i ≡ rest)) (sym is)
+    (removed_there x rest i (subst (λ (us : List Filed). i ≤ length us) (lent ∙ is) within)
+    (subst (λ (us : List Filed). (IsPartitionedBy (λ y. is_before y x) us → IsPartitionPoint (λ y. is_before y x ≡ true) (λ y. is_before y x ≡ false) us i)) (lent ∙ is) parts (parted_by_place x (inserted x rest) (sorted-inserted x rest sorted))))

@@ -47,6 +47,12 @@ pub mod OfferTurns
 pub mod OfferAccepted
 pub mod Foretold
 pub mod Filed
+pub mod FirstFrom
+mod AtHand
+pub mod Visits
+mod Outlooks
+mod Walks
+pub mod Resting
 pub mod KeptFiled
 pub mod ResetWaits
 pub mod Places

@@ -18,6 +18,10 @@ key_of local peer = (number peer.addr * 65536 + peer.port) * 65536 + local.port
 abbrev pub filed_at : SocketId → Endpoint → Endpoint → Filed
 filed_at id local peer = record { key = key_of local peer; id = id }
 
+-- the two ends of a connection, in any state
+abbrev pub ends_of : Role → Option (Endpoint × Endpoint)
+ends_of role = in_connection None (λ c. Some (c.local, c.peer)) role
+
 -- what a role is filed as: a connection by its ends, in any state, and no other
 abbrev pub filed_as : SocketId → Role → Option Filed
 filed_as id role = in_connection None (λ c. Some (filed_at id c.local c.peer)) role

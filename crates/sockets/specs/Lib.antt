@@ -3,6 +3,7 @@ pub mod Replies
 pub mod Entries
 pub mod Ids
 pub mod Index
+pub mod Outlook
 pub mod SocketsView
 pub mod Ticks
 pub mod Lost

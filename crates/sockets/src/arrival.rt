@@ -42,13 +42,20 @@ impl Sockets {
         ensures { (isn : ℕ) → Meets (arrival self.old now isn source segment.now) self.old result self.new }
     {
         let now = self.later_moment(now);
+        self.outlook.turn_to(&self.entries, place);
         let entry = &mut self.entries[place];
         let id = entry.id;
         let (fate, is_offered) = entry.segment(now, segment);
         match fate {
             Fate::Rejected => Taken::Answer(replies::reset_at_ack(segment)),
             fate => {
-                table::settle(&mut self.entries, &mut self.ends, place, fate);
+                table::settle(
+                    &mut self.entries,
+                    &mut self.ends,
+                    &mut self.outlook,
+                    place,
+                    fate,
+                );
                 table::offer(&mut self.offered, id, is_offered);
                 Taken::Done
             }
@@ -113,7 +120,9 @@ impl Sockets {
         self.last_id += 1;
         let id = SocketId(self.last_id);
         index::file(&mut self.ends, id, local, peer);
-        self.entries.push(Entry::passive(id, listener, connection));
+        let entry = Entry::passive(id, listener, connection);
+        self.outlook.push(&entry);
+        self.entries.push(entry);
         Taken::Done
     }
 

@@ -109,6 +109,7 @@ impl Sockets {
         ensures { self.new ≡ record self.old { last_id = entry.id.0; entries = self.old.entries ++ entry ∷ [] } }
     {
         self.last_id = entry.id.0;
+        self.outlook.push(&entry);
         self.entries.push(entry);
     }
 
@@ -125,6 +126,7 @@ impl Sockets {
         let (place, port) = self.may_bind(id, local)?;
         let addr = local.addr;
         self.last_port = self.last_port_bound(local, port);
+        self.outlook.turn_to(&self.entries, place);
         self.entries[place].role.bind(Endpoint { addr, port });
         Ok(())
     }
@@ -207,6 +209,7 @@ impl Sockets {
         ensures err { OnErr result (self.new ≡ self.old) }
     {
         let place = self.may_listen(id, backlog)?;
+        self.outlook.turn_to(&self.entries, place);
         self.entries[place].role.listen(backlog);
         Ok(())
     }
@@ -243,6 +246,7 @@ impl Sockets {
         let Some((turn, place)) = self.next_accepted(id) else {
             return Err(Refusal::EAGAIN);
         };
+        self.outlook.turn_to(&self.entries, place);
         let entry = &mut self.entries[place];
         let accepted = entry.id;
         let Some(peer) = entry.role.peer() else {
@@ -297,6 +301,7 @@ impl Sockets {
         self.last_port = self.last_port_after(bound, port);
         let local = Endpoint { addr, port };
         index::file(&mut self.ends, id, local, peer);
+        self.outlook.turn_to(&self.entries, place);
         self.entries[place].role.connect(now, local, peer, isn);
         Ok(())
     }
@@ -369,6 +374,7 @@ impl Sockets {
     {
         let place = self.socket_place(id)?;
         let kept = self.kept;
+        self.outlook.turn_to(&self.entries, place);
         self.entries[place].role.send(kept, octets)
     }
 
@@ -385,6 +391,7 @@ impl Sockets {
         ensures err { OnErr result (self.new ≡ self.old) }
     {
         let place = self.socket_place(id)?;
+        self.outlook.turn_to(&self.entries, place);
         self.entries[place].role.recv(buffer)
     }
 
@@ -399,6 +406,7 @@ impl Sockets {
     {
         let place = self.socket_place(id)?;
         let kept = self.kept;
+        self.outlook.turn_to(&self.entries, place);
         self.entries[place].role.shutdown(kept)
     }
 
@@ -413,6 +421,7 @@ impl Sockets {
     {
         let place = self.socket_place(id)?;
         let kept = self.kept;
+        self.outlook.turn_to(&self.entries, place);
         self.entries[place].role.set_nodelay(kept, on)
     }
 
@@ -433,6 +442,7 @@ impl Sockets {
             return Err(Refusal::EINVAL);
         }
         let kept = self.kept;
+        self.outlook.turn_to(&self.entries, place);
         self.entries[place].role.set_keepalive(kept, every)
     }
 

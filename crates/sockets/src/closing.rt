@@ -45,7 +45,13 @@ impl Sockets {
     {
         self.leave_socket(how, id)?;
         table::offer_no_more(&mut self.offered, &self.entries, id);
-        table::forsake(&mut self.entries, &mut self.ends, self.kept, id);
+        table::forsake(
+            &mut self.entries,
+            &mut self.ends,
+            &mut self.outlook,
+            self.kept,
+            id,
+        );
         Ok(())
     }
 
@@ -57,8 +63,15 @@ impl Sockets {
     {
         let place = self.socket_place(id)?;
         let kept = self.kept;
+        self.outlook.turn_to(&self.entries, place);
         let fate = self.entries[place].role.leave(how, kept);
-        table::settle(&mut self.entries, &mut self.ends, place, fate);
+        table::settle(
+            &mut self.entries,
+            &mut self.ends,
+            &mut self.outlook,
+            place,
+            fate,
+        );
         Ok(())
     }
 }

@@ -55,6 +55,7 @@ impl Sockets {
         let last_port = self.last_port_after(bound, local.port);
         let now = self.kept;
         let identification = self.identification;
+        self.outlook.turn_to(&self.entries, place);
         if !self.entries[place]
             .role
             .send_to(now, local, peer, identification, octets)
@@ -96,6 +97,7 @@ impl Sockets {
         ensures err { OnErr result (self.new ≡ self.old) }
     {
         let place = self.socket_place(id)?;
+        self.outlook.turn_to(&self.entries, place);
         self.entries[place].role.recv_from(buffer)
     }
 
@@ -112,6 +114,7 @@ impl Sockets {
             addr: source,
             port: datagram.source(),
         };
+        self.outlook.turn_to(&self.entries, place);
         if self.entries[place].role.receive(from, datagram.payload()) {
             Reception::Queued
         } else {

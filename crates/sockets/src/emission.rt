@@ -52,10 +52,17 @@ impl Sockets {
     {
         let now = self.later_moment(now);
         let own = self.addr;
+        self.outlook.turn_to(&self.entries, place);
         let entry = &mut self.entries[place];
         let emitted = entry.role.emit(outgoing, own, now, out);
         let fate = entry.role.emission_fate_of();
-        table::settle(&mut self.entries, &mut self.ends, place, fate);
+        table::settle(
+            &mut self.entries,
+            &mut self.ends,
+            &mut self.outlook,
+            place,
+            fate,
+        );
         emitted
     }
 }

@@ -1,16 +1,19 @@
 //! How much is given up. Nothing changes.
 
-ghost use Rattle.std.specs.Prelude.{◌≡◌, ◌≤◌, ◌+◌, ◌-◌, ◌^◌, min, Bool, if◌then◌else◌, length, count_by, sum_by};
+ghost use Rattle.std.specs.Prelude.{ℕ, ◌≡◌, ◌≤◌, ◌+◌, ◌-◌, ◌^◌, min, Bool, if◌then◌else◌, length, count_by, sum_by};
 ghost use Rattle.ipv4.specs.declared.addr.Addr.{Addr};
 ghost use Rattle.udp_socket.specs.Waits.{is_given_up as is_datagram_given_up};
 ghost use Rattle.sockets.specs.Lost.{is_given_up};
 ghost use Rattle.sockets.specs.GivenUp.{outbox_of};
+ghost use Rattle.sockets.specs.Outlook.{IsOutlook};
 
 use crate::entry::Entry;
+use crate::outlook::Outlook;
 use crate::role::Role;
 use crate::sizes::MOST_ENTRIES;
 use crate::sockets::Sockets;
 use clock::Moment;
+use fixed_vec::FixedVec;
 use ipv4::Addr;
 
 /// How much of a table is given up at a moment.
@@ -33,24 +36,34 @@ impl Sockets {
             → (result.resets ≡ resets_given_up self.now test now) × (result.datagrams ≡ datagrams_given_up self.now test now) }
     {
         let now = self.later_moment(now);
-        given_up_in(&self.entries, now, lost)
+        let _held = self.entries.len();
+        given_up_in(&self.entries, &self.outlook, now, lost)
     }
 }
 
-/// How much the entries give up.
-fn given_up_in<F: Fn(Addr) -> bool>(entries: &[Entry], now: Moment, lost: &F) -> Losses
+/// How much the entries give up: those that aren't busy nothing.
+fn given_up_in<F: Fn(Addr) -> bool>(
+    entries: &FixedVec<Entry>,
+    outlook: &Outlook,
+    now: Moment,
+    lost: &F,
+) -> Losses
     requires lost { F.IsAlwaysCallable lost.now }
-    requires few { length entries.now ≤ MOST_ENTRIES }
+    requires few { length entries.now.items ≤ MOST_ENTRIES }
+    requires known { (most : ℕ) × IsOutlook outlook.now most entries.now.items }
     ensures { (test : Addr → Bool) → ((addr : Addr) (answer : Bool) → F.post lost.now addr answer → answer ≡ test addr)
-        → (result.resets ≡ count_by (λ e. is_given_up test now e.role) entries.now) × (result.datagrams ≡ sum_by (λ e. count_by (is_datagram_given_up test now) (outbox_of e.role)) entries.now) }
+        → (result.resets ≡ count_by (λ e. is_given_up test now e.role) entries.now.items) × (result.datagrams ≡ sum_by (λ e. count_by (is_datagram_given_up test now) (outbox_of e.role)) entries.now.items) }
 {
-    let none = Losses {
+    let mut sum = Losses {
         resets: 0,
         datagrams: 0,
     };
-    entries
-        .iter()
-        .fold(none, |sum, entry| sum.with(&entry.role, now, lost))
+    let mut from = 0;
+    while let Some(place) = outlook.next_busy(entries, from) {
+        sum = sum.with(&entries[place].role, now, lost);
+        from = place + 1;
+    }
+    sum
 }
 
 impl Losses {

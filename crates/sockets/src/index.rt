@@ -1,13 +1,13 @@
 //! The connections of the table by their two ends, so that a segment finds its own by binary search.
 
-ghost use Rattle.std.specs.Prelude.{◌≡◌, ◌<◌, nat_lt, if◌then◌else◌, length, position, filter};
-ghost use Rattle.std.specs.List.{list_any};
+ghost use Rattle.std.specs.Prelude.{◌≡◌, ◌<◌, List, length, position};
 ghost use Rattle.sockets.specs.Entries.{is_between};
-ghost use Rattle.sockets.specs.Ids.{AreInOrder, has_id};
-ghost use Rattle.sockets.specs.Index.{key_of, filed_at, is_before, AreSorted, inserted, index_of, is_live_as};
+ghost use Rattle.sockets.specs.Ids.{AreInOrder};
+ghost use Rattle.sockets.specs.Index.{key_of, filed, filed_at, is_before, AreSorted, inserted, index_of, is_live_as};
+ghost use Rattle.sockets.specs.declared.index.Filed.{Filed};
 
 use crate::entry::{Entry, SocketId};
-use crate::table::{is_there, place_of};
+use crate::table::place_of;
 use fixed_vec::FixedVec;
 use ipv4::Endpoint;
 
@@ -51,15 +51,23 @@ pub(crate) fn file(index: &mut FixedVec<Filed>, id: SocketId, local: Endpoint, p
     index.insert(place, filed);
 }
 
-/// Takes out the connections that left the table, which held so many entries before.
-pub(crate) fn forget(index: &mut FixedVec<Filed>, entries: &[Entry], held: usize)
-    requires { AreInOrder entries.now }
-    ensures most { index.new.most ≡ index.old.most }
-    ensures items { index.new.items ≡ (if nat_lt (length entries.now) held then filter (λ filed. list_any (has_id filed.id) entries.now) index.old.items else index.old.items) }
+/// What an entry is filed as: a connection, in any state, and no other.
+pub(crate) fn filing(entry: &Entry) -> Option<Filed>
+    ensures { result ≡ filed entry.now }
 {
-    if entries.len() < held {
-        index.retain(|filed| is_there(entries, filed.id));
-    }
+    let (local, peer) = entry.role.ends()?;
+    let key = key_of(local, peer);
+    Some(Filed { key, id: entry.id })
+}
+
+/// Takes out a connection that is filed.
+pub(crate) fn unfile(index: &mut FixedVec<Filed>, filed: Filed)
+    requires { (rest : List Filed) × AreSorted rest × (index.old.items ≡ inserted filed rest) }
+    ensures most { index.new.most ≡ index.old.most }
+    ensures items { (rest : List Filed) → AreSorted rest → index.old.items ≡ inserted filed rest → index.new.items ≡ rest }
+{
+    let place = index.partition_point(|other| other.is_before(filed));
+    index.remove(place);
 }
 
 /// The place of the connection from `local` to `peer`, in any state but CLOSED: a binary search finds the first that is filed by the two ends, and of those

@@ -18,6 +18,7 @@ pub mod laws;
 pub mod memory;
 mod needs;
 pub mod offered_laws;
+mod outlook;
 mod ports;
 mod ready;
 pub mod ready_laws;

@@ -124,6 +124,9 @@ impl Role {
     ghost use Rattle.sockets.specs.GiveWay.{left_since, is_left_since};
     ghost use Rattle.sockets.specs.Lost.{is_given_up, give_up_at};
     ghost use Rattle.sockets.specs.Sound.{IsSoundRole};
+    ghost use Rattle.clock.specs.Moments.{has_come};
+    ghost use Rattle.sockets.specs.Outlook.{is_busy};
+    ghost use Rattle.sockets.specs.Index.{ends_of};
 
     /// Whether this is a socket: a connection is none while it is not accepted, and once its caller closed it.
     pub(crate) fn has_socket(&self) -> bool
@@ -262,6 +265,16 @@ impl Role {
         }
     }
 
+    /// The local and the foreign end of a connection, in any state.
+    pub(crate) fn ends(&self) -> Option<(Endpoint, Endpoint)>
+        ensures { result ≡ ends_of self.now }
+    {
+        match self {
+            Role::Connected { connection, .. } => Some((connection.local(), connection.peer())),
+            _ => None,
+        }
+    }
+
     /// Whether this is the local port of a bound TCP socket, a listener or a connection.
     pub(crate) fn uses_port(&self, port: u16) -> bool
         ensures { result ≡ uses_port port self.now }
@@ -364,6 +377,29 @@ impl Role {
         match self {
             Role::Connected { connection, .. } => connection.deadline(),
             _ => None,
+        }
+    }
+
+    /// Whether that moment has come.
+    pub(crate) fn has_come(&self, now: Moment) -> bool
+        ensures { result ≡ has_come (deadline_of self.now) now }
+    {
+        match self.deadline() {
+            Some(deadline) => deadline <= now,
+            None => false,
+        }
+    }
+
+    /// Whether it has something to send, or waits for the hop to its peer.
+    pub(crate) fn is_busy(&self) -> bool
+        ensures { result ≡ is_busy self.now }
+    {
+        match self {
+            Role::Connected { connection, .. } => {
+                connection.due().is_some() || waits_until(connection).is_some()
+            }
+            Role::Datagrams { socket, .. } => socket.waiting() > 0,
+            _ => false,
         }
     }
 

@@ -4,6 +4,7 @@ ghost use Rattle.std.specs.Prelude.{◌≡◌, ◌≤◌, Some, None, Bool, IfOk
 
 use crate::entry::{Entry, SocketId};
 use crate::index::Filed;
+use crate::outlook::Outlook;
 use crate::sizes::Sizes;
 use crate::{ports, table};
 use clock::Moment;
@@ -26,6 +27,7 @@ pub struct Sockets {
     pub(crate) sizes: Sizes,
     pub(crate) entries: FixedVec<Entry>,
     pub(crate) ends: FixedVec<Filed>,
+    pub(crate) outlook: Outlook,
     pub(crate) offered: FixedVec<SocketId>,
 }
 
@@ -49,10 +51,12 @@ impl Model for Sockets {
 
     ghost use Rattle.sockets.specs.Ids.{AreAscending};
     ghost use Rattle.sockets.specs.Index.{index_of};
+    ghost use Rattle.sockets.specs.Outlook.{IsOutlook};
     ghost use Rattle.sockets.specs.SocketsView.{HasPlaces};
 
     ghost invariant = { λ h. ((49152 ≤ h.last_port) × HasPlaces h.sizes h.entries.most h.ends.most h.offered.most)
-        × AreAscending 0 h.last_id h.entries.items × (h.ends.items ≡ index_of h.entries.items) };
+        × AreAscending 0 h.last_id h.entries.items × (h.ends.items ≡ index_of h.entries.items)
+        × IsOutlook h.outlook h.sizes.entries h.entries.items };
 }
 
 #[tactic(auto, using(crate::proofs::Firsts::firsts))]
@@ -63,6 +67,8 @@ impl Sockets {
     ghost use Rattle.ipv4.specs.declared.addr.Addr.{Addr};
     ghost use Rattle.sockets.specs.Pairs.{socket_pair};
     ghost use Rattle.sockets.specs.Sound.{IsSoundTable};
+    ghost use Rattle.marks.specs.First.{first_from};
+    ghost use Rattle.sockets.specs.Outlook.{is_busy_entry};
 
     /// A table of this size with no sockets, whose kept moment is 0, and whose connections behave so. Fails only where memory is refused.
     pub fn new(
@@ -85,6 +91,7 @@ impl Sockets {
             sizes,
             entries: FixedVec::new(alloc, sizes.entries)?,
             ends: FixedVec::new(alloc, sizes.entries)?,
+            outlook: Outlook::new(alloc, sizes.entries)?,
             offered: FixedVec::new(alloc, sizes.entries)?,
         })
     }
@@ -124,14 +131,21 @@ impl Sockets {
     {
         let now = self.later_moment(now);
         self.kept = now;
-        table::tick(&mut self.entries, &mut self.ends, now);
+        table::tick(&mut self.entries, &mut self.ends, &mut self.outlook, now);
     }
 
     /// The least moment at which a tick does something.
     pub fn next_deadline(&self) -> Option<Moment>
         ensures { result ≡ least_deadline self.now }
     {
-        table::least_deadline(&self.entries)
+        self.outlook.least_deadline(&self.entries)
+    }
+
+    /// The place of the first entry from the place `from` on that is busy: it has something to send, or waits for the hop to its peer.
+    pub fn next_busy(&self, from: usize) -> Option<usize>
+        ensures { result ≡ first_from is_busy_entry from self.now.entries }
+    {
+        self.outlook.next_busy(&self.entries, from)
     }
 
     /// The entry with a connection of this pair in any state but CLOSED.
@@ -160,7 +174,13 @@ impl Sockets {
         ensures { (test : Addr → Bool) → ((addr : Addr) (answer : Bool) → F.post lost addr answer → answer ≡ test addr) → self.new ≡ after_giving_up self.old test now }
     {
         let now = self.later_moment(now);
-        table::give_up(&mut self.entries, &mut self.ends, now, &lost);
+        table::give_up(
+            &mut self.entries,
+            &mut self.ends,
+            &mut self.outlook,
+            now,
+            &lost,
+        );
     }
 
     /// What each connection keeps of itself, for the contracts above; it changes nothing.

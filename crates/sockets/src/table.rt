@@ -1,6 +1,6 @@
 //! What is looked up in the table, which stands in order of id.
 
-ghost use Rattle.std.specs.Prelude.{◌≡◌, ◌<◌, ℕ, Bool, not, if◌then◌else◌, length, filter, remove, position, count_by, fold, None};
+ghost use Rattle.std.specs.Prelude.{◌≡◌, ◌<◌, ◌+◌, ℕ, Bool, not, if◌then◌else◌, length, filter, remove, position, count_by, IfSome};
 ghost use Rattle.std.specs.List.{list_any, AllByRecursion};
 ghost use Rattle.sockets.specs.Entries.{is_kept, entries_after_steps, tick_fate_of, role_after_listener_close, listener_close_fate_of, is_socket, is_between, is_of_pair, has_port, is_bound_at, is_datagrams_at, is_waiting_at, is_waiting_as, is_waiting_id, is_listening_at, deadline_of, role_after_tick, with_role};
 ghost use Rattle.sockets.specs.Arrival.{offered_with};
@@ -11,9 +11,12 @@ ghost use Rattle.sockets.specs.GiveWay.{is_unanswered_at, is_left_since, longest
 ghost use Rattle.sockets.specs.Sound.{IsSoundRole};
 ghost use Rattle.sockets.specs.Ids.{AreAscending, AreInOrder, has_id};
 ghost use Rattle.sockets.specs.Index.{index_of};
+ghost use Rattle.sockets.specs.Outlook.{IsOutlook};
+ghost use Rattle.marks.specs.First.{first_from};
 
 use crate::entry::{Entry, SocketId};
 use crate::index::{self, Filed};
+use crate::outlook::Outlook;
 use crate::role::is_kept;
 use clock::{Moment, sooner};
 use fixed_vec::FixedVec;
@@ -26,14 +29,6 @@ pub(crate) fn place_of(entries: &[Entry], id: SocketId) -> Option<usize>
     ensures { result ≡ position (has_id id) entries.now }
 {
     entries.binary_search_by_key(&id.0, |entry| entry.id.0).ok()
-}
-
-/// Whether an entry has this id.
-pub(crate) fn is_there(entries: &[Entry], id: SocketId) -> bool
-    requires { AreInOrder entries.now }
-    ensures { result ≡ list_any (has_id id) entries.now }
-{
-    place_of(entries, id).is_some()
 }
 
 /// The place of the socket `id`.
@@ -207,64 +202,119 @@ pub(crate) fn offer_no_more(offered: &mut FixedVec<SocketId>, entries: &[Entry],
 }
 
 /// Lets the timers of every entry act whose moment has come, and takes out those whose connection is gone then.
-pub(crate) fn tick(entries: &mut FixedVec<Entry>, ends: &mut FixedVec<Filed>, now: Moment)
-    requires order { (last : ℕ) × AreAscending 0 last entries.old.items }
+pub(crate) fn tick(
+    entries: &mut FixedVec<Entry>,
+    ends: &mut FixedVec<Filed>,
+    outlook: &mut Outlook,
+    now: Moment,
+)
     requires index { ends.old.items ≡ index_of entries.old.items }
+    requires known { (most : ℕ) × IsOutlook outlook.old most entries.old.items }
     ensures entries { entries.new.items ≡ entries_after_steps (tick_fate_of now) (role_after_tick now) entries.old.items }
     ensures index { ends.new.items ≡ index_of entries.new.items }
+    ensures known { (most : ℕ) → IsOutlook outlook.old most entries.old.items → IsOutlook outlook.new most entries.new.items }
     ensures most { (entries.new.most ≡ entries.old.most) × (ends.new.most ≡ ends.old.most) }
 {
-    let held = entries.len();
-    entries.retain(|entry| entry.tick(now));
-    index::forget(ends, entries, held);
+    let mut from = 0;
+    while let Some(place) = outlook.next_come(entries, from, now) {
+        outlook.turn_to(entries, place);
+        let stays = entries[place].tick(now);
+        from = beyond(entries, ends, outlook, place, stays);
+    }
 }
 
 /// Aborts the connections that wait at the listener `id`, which is closed, and takes out those that are CLOSED already.
 pub(crate) fn forsake(
     entries: &mut FixedVec<Entry>,
     ends: &mut FixedVec<Filed>,
+    outlook: &mut Outlook,
     now: Moment,
     id: SocketId,
 )
-    requires order { (last : ℕ) × AreAscending 0 last entries.old.items }
     requires index { ends.old.items ≡ index_of entries.old.items }
+    requires known { (most : ℕ) × IsOutlook outlook.old most entries.old.items }
     ensures entries { entries.new.items ≡ entries_after_steps (listener_close_fate_of id) (role_after_listener_close now id) entries.old.items }
     ensures index { ends.new.items ≡ index_of entries.new.items }
+    ensures known { (most : ℕ) → IsOutlook outlook.old most entries.old.items → IsOutlook outlook.new most entries.new.items }
     ensures most { (entries.new.most ≡ entries.old.most) × (ends.new.most ≡ ends.old.most) }
 {
-    let held = entries.len();
-    entries.retain(|entry| entry.forsake(now, id));
-    index::forget(ends, entries, held);
+    let mut from = 0;
+    while let Some(place) = next_waiting(entries, from, id) {
+        outlook.turn_to(entries, place);
+        let stays = entries[place].forsake(now, id);
+        from = beyond(entries, ends, outlook, place, stays);
+    }
+}
+
+/// The place of the first connection from the place `from` on that waits at `listener`.
+fn next_waiting(entries: &[Entry], from: usize, listener: SocketId) -> Option<usize>
+    ensures { result ≡ first_from (is_waiting_at listener) from entries.now }
+{
+    if from > entries.len() {
+        return None;
+    }
+    first_waiting(&entries[from..], listener).map(|ahead| from + ahead)
+}
+
+/// The place of the first connection of these that waits at `listener`.
+fn first_waiting(entries: &[Entry], listener: SocketId) -> Option<usize>
+    ensures value { result ≡ position (is_waiting_at listener) entries.now }
+    ensures within { IfSome result (λ place. place < length entries.now) }
+{
+    entries
+        .iter()
+        .position(|entry| entry.role.waits_at(listener))
 }
 
 /// Lets every entry give up what has waited too long for a lost address, and takes out the connections whose reset is given up, and those
-/// that are given up themselves and that no caller has.
+/// that are given up themselves and that no caller has. An entry that isn't busy has nothing that waits.
 pub(crate) fn give_up<F: Fn(Addr) -> bool>(
     entries: &mut FixedVec<Entry>,
     ends: &mut FixedVec<Filed>,
+    outlook: &mut Outlook,
     now: Moment,
     lost: &F,
 )
     requires lost { F.IsAlwaysCallable lost.now }
-    requires order { (last : ℕ) × AreAscending 0 last entries.old.items }
     requires index { ends.old.items ≡ index_of entries.old.items }
+    requires known { (most : ℕ) × IsOutlook outlook.old most entries.old.items }
     ensures index { ends.new.items ≡ index_of entries.new.items }
+    ensures known { (most : ℕ) → IsOutlook outlook.old most entries.old.items → IsOutlook outlook.new most entries.new.items }
     ensures most { (entries.new.most ≡ entries.old.most) × (ends.new.most ≡ ends.old.most) }
     ensures ids { (last : ℕ) → AreAscending 0 last entries.old.items → AreAscending 0 last entries.new.items }
     ensures left { (test : Addr → Bool) → ((addr : Addr) (answer : Bool) → F.post lost.now addr answer → answer ≡ test addr) → entries.new.items ≡ entries_after_steps (give_up_fate_of test now) (role_after_giving_up test now) entries.old.items }
 {
-    let held = entries.len();
-    entries.retain(|entry| entry.give_up(now, lost));
-    index::forget(ends, entries, held);
+    let mut from = 0;
+    while let Some(place) = outlook.next_busy(entries, from) {
+        outlook.turn_to(entries, place);
+        let stays = entries[place].give_up(now, lost);
+        from = beyond(entries, ends, outlook, place, stays);
+    }
 }
 
-/// The least deadline of the entries.
-pub(crate) fn least_deadline(entries: &[Entry]) -> Option<Moment>
-    ensures { result ≡ fold (λ least e. sooner least (deadline_of e.role)) None entries.now }
+/// The place behind the entry in this place, which stays, or else is taken out.
+fn beyond(
+    entries: &mut FixedVec<Entry>,
+    ends: &mut FixedVec<Filed>,
+    outlook: &mut Outlook,
+    place: usize,
+    stays: bool,
+) -> usize
+    requires place { place < length entries.old.items }
+    requires index { ends.old.items ≡ index_of entries.old.items }
+    requires known { (most : ℕ) × IsOutlook outlook.old most entries.old.items }
+    ensures result { result ≡ (if stays then place + 1 else place) }
+    ensures entries { entries.new.items ≡ (if stays then entries.old.items else remove entries.old.items place) }
+    ensures index { ends.new.items ≡ index_of entries.new.items }
+    ensures known { (most : ℕ) → IsOutlook outlook.old most entries.old.items → IsOutlook outlook.new most entries.new.items }
+    ensures most { (entries.new.most ≡ entries.old.most) × (ends.new.most ≡ ends.old.most) }
 {
-    entries
-        .iter()
-        .fold(None, |least, entry| sooner(least, entry.role.deadline()))
+    let _held = entries.len();
+    if stays {
+        return place + 1;
+    }
+    take_out(entries, ends, outlook, place);
+    place
 }
 
 /// What each connection keeps of itself, for the contracts above; it changes nothing.
@@ -280,19 +330,41 @@ pub(crate) fn sound(entries: &[Entry])
 pub(crate) fn settle(
     entries: &mut FixedVec<Entry>,
     ends: &mut FixedVec<Filed>,
+    outlook: &mut Outlook,
     place: usize,
     fate: Fate,
 )
     requires place { place < length entries.old.items }
-    requires order { (last : ℕ) × AreAscending 0 last entries.old.items }
     requires index { ends.old.items ≡ index_of entries.old.items }
+    requires known { (most : ℕ) × IsOutlook outlook.old most entries.old.items }
     ensures entries { entries.new.items ≡ (if is_kept fate then entries.old.items else remove entries.old.items place) }
     ensures index { ends.new.items ≡ index_of entries.new.items }
+    ensures known { (most : ℕ) → IsOutlook outlook.old most entries.old.items → IsOutlook outlook.new most entries.new.items }
     ensures most { (entries.new.most ≡ entries.old.most) × (ends.new.most ≡ ends.old.most) }
 {
     if !is_kept(fate) {
-        let held = entries.len();
-        entries.remove(place);
-        index::forget(ends, entries, held);
+        take_out(entries, ends, outlook, place);
     }
+}
+
+/// Takes out the entry in this place.
+fn take_out(
+    entries: &mut FixedVec<Entry>,
+    ends: &mut FixedVec<Filed>,
+    outlook: &mut Outlook,
+    place: usize,
+)
+    requires place { place < length entries.old.items }
+    requires index { ends.old.items ≡ index_of entries.old.items }
+    requires known { (most : ℕ) × IsOutlook outlook.old most entries.old.items }
+    ensures entries { entries.new.items ≡ remove entries.old.items place }
+    ensures index { ends.new.items ≡ index_of entries.new.items }
+    ensures known { (most : ℕ) → IsOutlook outlook.old most entries.old.items → IsOutlook outlook.new most entries.new.items }
+    ensures most { (entries.new.most ≡ entries.old.most) × (ends.new.most ≡ ends.old.most) }
+{
+    if let Some(filed) = index::filing(&entries[place]) {
+        index::unfile(ends, filed);
+    }
+    entries.remove(place);
+    outlook.remove(place);
 }

@@ -17,8 +17,15 @@ impl Sockets {
         ensures { self.new ≡ after_unreachable self.old local peer number.0 }
     {
         if let Some(place) = index::connection_between(&self.entries, &self.ends, local, peer) {
+            self.outlook.turn_to(&self.entries, place);
             let fate = self.entries[place].role.unreachable(number);
-            table::settle(&mut self.entries, &mut self.ends, place, fate);
+            table::settle(
+                &mut self.entries,
+                &mut self.ends,
+                &mut self.outlook,
+                place,
+                fate,
+            );
         }
     }
 }

@@ -51,7 +51,13 @@ impl Sockets {
     {
         match table::giving_way(&self.entries, id) {
             Some(place) => {
-                table::settle(&mut self.entries, &mut self.ends, place, Fate::Removed);
+                table::settle(
+                    &mut self.entries,
+                    &mut self.ends,
+                    &mut self.outlook,
+                    place,
+                    Fate::Removed,
+                );
             }
             None => {}
         }

@@ -1,43 +1,65 @@
--- No sum of so few numbers of at most 64 is cut.
-use Rattle.std.proofs.Common.{◌≡◌, ◌≤◌, ◌+◌, ◌*◌, ◌-◌, ◌^◌, ℕ, min, Bool, true, false, cond, List, [], ◌∷◌, ◌++◌, length, rules, refl, sym, ◌∙◌, ap, arith, length-append}
-use Rattle.std.proofs.lemmas.Fn.{fold_over}
-use Rattle.std.proofs.lemmas.Iterator.{YieldsList-from_slice}
-use Rattle.std.proofs.lemmas.List.Sums.{count_by-le-length, sum_by_push}
-use Rattle.std.proofs.iter.Yields.{fronts}
+-- Each entry that is busy is counted; the others have nothing.
+use Rattle.std.proofs.Common.{◌≡◌, ◌≤◌, ◌+◌, ◌-◌, ◌^◌, ℕ, suc, min, Bool, true, false, cond, List, drop, get_or, sym, ◌∙◌, ap, arith}
 use Rattle.std.specs.List.{count_by, sum_by}
 use Rattle.udp_socket.specs.Waits as datagrams
 use Rattle.sockets.specs.declared.entry.Entry.{Entry}
-use Rattle.sockets.specs.declared.given_up.Losses.{Losses}
 use Rattle.sockets.specs.GivenUp.{outbox_of}
 use Rattle.sockets.specs.Lost.{is_given_up}
+use Rattle.sockets.specs.Outlook.{is_busy_entry}
+use Rattle.sockets.proofs.FirstFrom.{first_from-found}
+use Rattle.sockets.proofs.Resting.{rests-resets, rests-datagrams}
+use Rattle.sockets.proofs.Visits.{sums_on, sums_out}
 use Rattle.sockets.proofs.given_up.given_up_in.Goals as goal
 
 one_at_most : (b : Bool) → cond b 1 0 ≤ 1
 one_at_most true = omega arith
 one_at_most false = omega arith
 
+on : (f : Entry → ℕ) (xs : List Entry) (p from was now : ℕ) (x : Entry) → sum_by f xs ≡ was + sum_by f (drop from xs) → sum_by f (drop from xs) ≡ f (get_or xs p x) + sum_by f (drop (suc p) xs) → now ≡ was + f (get_or xs p x)
+    → sum_by f xs ≡ now + sum_by f (drop (p + 1) xs)
+on f xs p from was now x all here next =
+    let after : p + 1 ≡ suc p = omega arith in
+    let left : sum_by f xs ≡ now + sum_by f (drop (suc p) xs) = omega (arith, all, here, next) in
+    left ∙ ap (λ k. now + sum_by f (drop k xs)) (sym after)
+
+pub loop-place-init : goal.loop-place-init
+loop-place-init g c = (omega arith, λ test computes. (omega arith, omega arith, omega arith, omega arith))
+
+pub loop-place-preserved : goal.loop-place-preserved
+loop-place-preserved g c =
+    let xs : List Entry = c.args.entries.now.items in
+    let x : Entry = c.index-deref-place.result in
+    let p : ℕ = c.in-Some.place in
+    let found = sym c.next_busy.ensures ∙ c.in-Some.is in
+    let there = first_from-found is_busy_entry c.loop-place.from xs p found in (
+      omega (arith, there.within),
+      λ test computes.
+          let one : Entry → ℕ = λ e. cond (is_given_up test c.args.now e.role) 1 0 in
+          let of : Entry → ℕ = λ e. count_by (datagrams.is_given_up test c.args.now) (outbox_of e.role) in
+          let was = c.loop-place.invariant.1 test computes in
+          let at : get_or c.deref.result.now p x ≡ get_or xs p x = ap (λ (l : List Entry). get_or l p x) c.deref.ensures.0 in
+          let ones = sums_on is_busy_entry one (λ e quiet. rests-resets test c.args.now e.role quiet) c.loop-place.from xs p x found in
+          let ofs = sums_on is_busy_entry of (λ e quiet. rests-datagrams test c.args.now e.role quiet) c.loop-place.from xs p x found in
+          let owed : c.with-sum.result.resets ≡ min (c.loop-place.sum.resets + one (get_or xs p x)) (2 ^ 64 - 1) = c.with-sum.ensures.resets test computes ∙ ap (λ (e : Entry). min (c.loop-place.sum.resets + one e) (2 ^ 64 - 1)) at in
+          let sum : c.with-sum.result.datagrams ≡ min (c.loop-place.sum.datagrams + of (get_or xs p x)) (2 ^ 64 - 1) = c.with-sum.ensures.datagrams test computes ∙ ap (λ (e : Entry). min (c.loop-place.sum.datagrams + of e) (2 ^ 64 - 1)) at in
+          let most : of (get_or c.deref.result.now p x) ≤ 64 = c.with-sum.ensures.most test computes in
+          let few : of (get_or xs p x) ≤ 64 = omega (arith, most, ap of at) in
+          let resets : c.with-sum.result.resets ≡ c.loop-place.sum.resets + one (get_or xs p x) = omega (arith, owed, was.2, there.behind, there.within, c.requires.few, one_at_most (is_given_up test c.args.now (get_or xs p x).role)) in
+          let whole : c.with-sum.result.datagrams ≡ c.loop-place.sum.datagrams + of (get_or xs p x) = omega (arith, sum, was.3, few, there.behind, there.within, c.requires.few) in (
+            on one xs p c.loop-place.from c.loop-place.sum.resets c.with-sum.result.resets x was.0 ones resets,
+            on of xs p c.loop-place.from c.loop-place.sum.datagrams c.with-sum.result.datagrams x was.1 ofs whole,
+            omega (arith, resets, was.2, there.behind, one_at_most (is_given_up test c.args.now (get_or xs p x).role)),
+            omega (arith, whole, was.3, there.behind, few),
+          ),
+    )
+
 pub returns : goal.returns
 returns g c = λ test computes.
-    let gone : Entry → Bool = λ e. is_given_up test c.args.now e.role in
-    let one : Entry → ℕ = λ e. cond (gone e) 1 0 in
+    let xs : List Entry = c.args.entries.now.items in
+    let one : Entry → ℕ = λ e. cond (is_given_up test c.args.now e.role) 1 0 in
     let of : Entry → ℕ = λ e. count_by (datagrams.is_given_up test c.args.now) (outbox_of e.role) in
-    let J : List Entry → Losses → Type 0 = λ ys a. length ys ≤ 16384 → (a.resets ≡ sum_by one ys) × (a.datagrams ≡ sum_by of ys) × (a.datagrams ≤ 64 * length ys) in
-    let all = fold_over fronts (λ y. y.now) _ J _
-    (λ ys a x b f' so called.
-    let owed : b.resets ≡ min (a.resets + one x.now) (2 ^ 64 - 1) = search rules in
-    let sum : b.datagrams ≡ min (a.datagrams + of x.now) (2 ^ 64 - 1) = search rules in
-    let most : of x.now ≤ 64 = search rules in (
-      λ few.
-          let longer : length (ys ++ x.now ∷ []) ≡ length ys + 1 = length-append ys (x.now ∷ []) in
-          let before = so (omega (arith, few, longer)) in
-          let count : sum_by one ys ≤ length ys = count_by-le-length gone ys in
-          let resets : b.resets ≡ a.resets + one x.now = omega (arith, owed, before.0, count, few, longer, one_at_most (gone x.now)) in
-          let whole : b.datagrams ≡ a.datagrams + of x.now = omega (arith, sum, most, before.2, few, longer) in (
-            resets ∙ ap (λ n. n + one x.now) before.0 ∙ sym (sum_by_push one ys x.now),
-            whole ∙ ap (λ n. n + of x.now) before.1 ∙ sym (sum_by_push of ys x.now),
-            omega (arith, whole, most, before.2, longer),
-          ),
-      search rules,
-    ))
-    c.iter.result c.args.entries.now _ _ (YieldsList-from_slice {s = c.iter.result} c.args.entries.now cc).runs (λ few. (refl, refl, omega arith)) c.fold.ensures.ran c.requires.few in
-    (all.0, all.1)
+    let was = c.loop-place.invariant.1 test computes in
+    let none = sym c.next_busy.ensures ∙ c.in_default.is in
+    let ones = sums_out is_busy_entry one (λ e quiet. rests-resets test c.args.now e.role quiet) c.loop-place.from xs none in
+    let ofs = sums_out is_busy_entry of (λ e quiet. rests-datagrams test c.args.now e.role quiet) c.loop-place.from xs none in
+    (omega (arith, was.0, ones), omega (arith, was.1, ofs))

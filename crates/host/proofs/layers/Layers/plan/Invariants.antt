@@ -1,5 +1,5 @@
 -- None of the entries that the loop has passed sends.
-use Rattle.std.proofs.Common.{◌≡◌, false}
+use Rattle.std.proofs.Common.{◌≡◌, ◌-◌, false, length}
 use Rattle.std.specs.List.{AllWithin}
 use Rattle.sockets.specs.declared.entry.Entry.{Entry}
 use Rattle.sockets.specs.Entries.{sends}
@@ -7,4 +7,7 @@ use Rattle.host.specs.Emission.{goes_out_from}
 use Rattle.host.proofs.layers.Layers.plan.Given as goal
 
 abbrev pub invariant-loop-place : goal.invariant-loop-place
-invariant-loop-place l = AllWithin (λ (e : Entry). sends (goes_out_from l.self l.now) e ≡ false) l.entries 0 l.place
+invariant-loop-place l = AllWithin (λ (e : Entry). sends (goes_out_from l.self l.now) e ≡ false) l.entries 0 l.from
+
+abbrev pub decreases-loop-place : goal.decreases-loop-place
+decreases-loop-place l = length l.entries - l.from

@@ -12,6 +12,7 @@ use Rattle.sockets.proofs.Written.{role_written}
 use Rattle.sockets.proofs.Ascending.{ascends_written}
 use Rattle.sockets.proofs.Filed.{index_written}
 use Rattle.sockets.proofs.KeptFiled.{filed_role, filed-accept}
+use Rattle.sockets.proofs.Outlooks.{outlook_written}
 use Rattle.sockets.proofs.sockets.Sockets.accept.Goals as goal
 
 pub returns-clause-ok : goal.returns-clause-ok
@@ -32,4 +33,17 @@ invariant_of-self-2 c = (
   (c.self.invariant.0.0, places_stay refl refl c.remove.ensures.most c.self.invariant.0.1),
   ascends_written _ _ _ _ _ c.index-deref_mut-place.result c.self.invariant.1 c.deref_mut.ensures.value refl,
   index_written _ _ _ _ _ c.index-deref_mut-place.result c.self.invariant.2 c.deref_mut.ensures.value (filed_role role_after_accept _ _ (filed-accept _) c.accept.ensures),
+  outlook_written _ _ _ _ _ _ (c.turn_to.ensures.known _ c.self.invariant.3) c.turn_to.ensures.at_hand c.deref_mut.ensures.value,
+)
+
+pub turn_to-requires-clause-known : goal.turn_to-requires-clause-known
+turn_to-requires-clause-known c = (c.self.inside.sizes.entries, c.self.invariant.3)
+
+-- or it stays as it is
+pub invariant_of-self : goal.invariant_of-self
+invariant_of-self c = (
+  c.self.invariant.0,
+  ascends_written _ _ _ _ _ c.index-deref_mut-place.result c.self.invariant.1 c.deref_mut.ensures.value refl,
+  index_written _ _ _ _ _ c.index-deref_mut-place.result c.self.invariant.2 c.deref_mut.ensures.value refl,
+  outlook_written _ _ _ _ _ _ (c.turn_to.ensures.known _ c.self.invariant.3) c.turn_to.ensures.at_hand c.deref_mut.ensures.value,
 )

@@ -15,6 +15,7 @@ use Rattle.sockets.proofs.KeptFiled.{room_connected, index_after_connect}
 use Rattle.sockets.proofs.Connected.{after_connect-accepted, some_from_ok}
 use Rattle.sockets.proofs.Written.{found_lent, role_changed, role_written}
 use Rattle.sockets.proofs.Ascending.{ascends_written}
+use Rattle.sockets.proofs.Outlooks.{outlook_written}
 use Rattle.sockets.proofs.sockets.Sockets.connect.Goals as goal
 
 pub returns-clause-ok : goal.returns-clause-ok
@@ -46,6 +47,7 @@ invariant_of-self c =
       ascends_written _ _ _ _ _ c.index-deref_mut-place.result c.self.invariant.1 c.deref_mut.ensures.value refl,
       index_after_connect c.self.inside.entries.items c.deref.result.now c.in_ok-place.place c.index-deref-place.result c.args.id c.in_ok-bound.bound (ap (λ (es : List Entry). position (is_socket c.args.id) es) entries ∙ c.in_ok-place.ensures.place) c.deref.ensures.0 (sym c.in_ok-bound.ensures)
           _ _ _ c.index-deref_mut-place.result _ local c.args.peer c.args.isn.0 c.later_moment-now.result c.self.invariant.2 c.file.ensures.items c.deref_mut.ensures.value (role_changed (role_after_connect local c.args.peer c.args.isn.0 c.later_moment-now.result) _ _ c.connect.ensures),
+      outlook_written _ _ _ _ _ _ (c.turn_to.ensures.known _ c.self.invariant.3) c.turn_to.ensures.at_hand c.deref_mut.ensures.value,
     )
 
 pub file-requires-clause-sorted : goal.file-requires-clause-sorted
@@ -60,3 +62,6 @@ file-requires-clause-room c =
     let filed : length c.self.inside.ends.items ≡ length (index_of c.self.inside.entries.items) = ap length c.self.invariant.2 in
     let lent : length c.deref.result.now ≡ length c.self.inside.entries.items = ap length c.deref.ensures.0 in
     omega (arith, c.deref.ensures.1, c.self.invariant.0.1.entries, c.self.invariant.0.1.ends)
+
+pub turn_to-requires-clause-known : goal.turn_to-requires-clause-known
+turn_to-requires-clause-known c = (c.self.inside.sizes.entries, c.self.invariant.3)

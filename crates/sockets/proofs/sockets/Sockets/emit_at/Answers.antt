@@ -13,6 +13,7 @@ use Rattle.sockets.proofs.Written.{role_changed}
 use Rattle.sockets.proofs.Ascending.{ascends_written, ascends_settled}
 use Rattle.sockets.proofs.Filed.{index_written}
 use Rattle.sockets.proofs.KeptFiled.{filed_role, filed-emission}
+use Rattle.sockets.proofs.Outlooks.{outlook_written}
 use Rattle.sockets.proofs.sockets.Sockets.emit_at.Goals as goal
 
 pub returns-clause-what : goal.returns-clause-what
@@ -66,11 +67,15 @@ returns-clause-after c = λ goes next.
 
 -- the entry keeps its id, or is taken out
 pub invariant_of-self : goal.invariant_of-self
-invariant_of-self c = ((c.self.invariant.0.0, places_stay c.settle.ensures.most.0 c.settle.ensures.most.1 refl c.self.invariant.0.1), ascends_settled _ c.emission_fate_of-fate.result _ _ _ (ascends_written _ _ _ _ _ c.index-deref_mut-place.result c.self.invariant.1 c.deref_mut.ensures.value refl) c.settle.ensures.entries, c.settle.ensures.index)
+invariant_of-self c = ((c.self.invariant.0.0, places_stay c.settle.ensures.most.0 c.settle.ensures.most.1 refl c.self.invariant.0.1), ascends_settled _ c.emission_fate_of-fate.result _ _ _ (ascends_written _ _ _ _ _ c.index-deref_mut-place.result c.self.invariant.1 c.deref_mut.ensures.value refl) c.settle.ensures.entries, c.settle.ensures.index, c.settle.ensures.known _ (outlook_written _ _ _ _ _ _ (c.turn_to.ensures.known _ c.self.invariant.3) c.turn_to.ensures.at_hand c.deref_mut.ensures.value))
 
 -- its connection stays filed by its ends
-pub settle-requires-clause-order : goal.settle-requires-clause-order
-settle-requires-clause-order c = (c.self.inside.last_id, ascends_written _ _ _ _ _ c.index-deref_mut-place.result c.self.invariant.1 c.deref_mut.ensures.value refl)
 
 pub settle-requires-clause-index : goal.settle-requires-clause-index
 settle-requires-clause-index c = index_written _ _ _ _ _ c.index-deref_mut-place.result c.self.invariant.2 c.deref_mut.ensures.value (filed_role (role_after_emission c.later_moment-now.result c.args.outgoing) _ _ (filed-emission _ c.args.outgoing _) c.emit-emitted.ensures.after)
+
+pub settle-requires-clause-known : goal.settle-requires-clause-known
+settle-requires-clause-known c = (c.self.inside.sizes.entries, outlook_written _ _ _ _ _ _ (c.turn_to.ensures.known _ c.self.invariant.3) c.turn_to.ensures.at_hand c.deref_mut.ensures.value)
+
+pub turn_to-requires-clause-known : goal.turn_to-requires-clause-known
+turn_to-requires-clause-known c = (c.self.inside.sizes.entries, c.self.invariant.3)

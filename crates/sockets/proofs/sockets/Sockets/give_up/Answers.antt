@@ -18,7 +18,7 @@ returns g c = λ test computes.
 
 -- each entry keeps its id, or is taken out
 pub invariant_of-self : goal.invariant_of-self
-invariant_of-self g c = ((c.self.invariant.0.0, places_stay c.give_up.ensures.most.0 c.give_up.ensures.most.1 refl c.self.invariant.0.1), c.give_up.ensures.ids _ c.self.invariant.1, c.give_up.ensures.index)
+invariant_of-self g c = ((c.self.invariant.0.0, places_stay c.give_up.ensures.most.0 c.give_up.ensures.most.1 refl c.self.invariant.0.1), c.give_up.ensures.ids _ c.self.invariant.1, c.give_up.ensures.index, c.give_up.ensures.known _ c.self.invariant.3)
 
-pub give_up-requires-clause-order : goal.give_up-requires-clause-order
-give_up-requires-clause-order g c = (c.self.inside.last_id, c.self.invariant.1)
+pub give_up-requires-clause-known : goal.give_up-requires-clause-known
+give_up-requires-clause-known g c = (c.self.inside.sizes.entries, c.self.invariant.3)

@@ -20,7 +20,7 @@ giving_way-requires c = lent_in_order _ _ _ c.deref.ensures.0 c.self.invariant.1
 
 -- the others stay in order
 pub invariant_of-self : goal.invariant_of-self
-invariant_of-self c = ((c.self.invariant.0.0, places_stay c.settle.ensures.most.0 c.settle.ensures.most.1 refl c.self.invariant.0.1), ascends_settled _ Removed _ _ _ c.self.invariant.1 c.settle.ensures.entries, c.settle.ensures.index)
+invariant_of-self c = ((c.self.invariant.0.0, places_stay c.settle.ensures.most.0 c.settle.ensures.most.1 refl c.self.invariant.0.1), ascends_settled _ Removed _ _ _ c.self.invariant.1 c.settle.ensures.entries, c.settle.ensures.index, c.settle.ensures.known _ c.self.invariant.3)
 
 pub returns-in-Some : goal.returns-in-Some
 returns-in-Some c =
@@ -37,3 +37,6 @@ returns-in-None c =
     let none : position Q xs ≡ None = ap (position Q) (sym c.deref.ensures.0) ∙ sym c.giving_way.ensures ∙ c.in-None.is in
     let stays : remove_first Q xs ≡ xs = unremoved Q xs (find-position_none Q xs none) in
     sym c.self.view_is ∙ ap (λ (es : List Entry). let w : SocketsView = record (the_view c.self.inside) { entries = es } in w) (sym stays) ∙ ap (λ (h : SocketsView). after_giving_way h (has_id c.args.id)) c.self.view_is
+
+pub settle-requires-clause-known : goal.settle-requires-clause-known
+settle-requires-clause-known c = (c.self.inside.sizes.entries, c.self.invariant.3)

@@ -1,4 +1,4 @@
-use Rattle.std.proofs.Common.{◌≡◌, ◌∙◌, ◌≤◌, ◌+◌, Some, length, refl, ap, sym, subst, arith}
+use Rattle.std.proofs.Common.{◌≡◌, ◌∙◌, ◌≤◌, ◌+◌, Some, length, refl, ap, sym, subst, arith, List}
 use Rattle.tcp_state.specs.View.{View}
 use Rattle.sockets.specs.declared.entry.Entry.{Entry}
 use Rattle.sockets.specs.declared.entry.SocketId.{SocketId}
@@ -7,16 +7,18 @@ use Rattle.sockets.specs.Index.{filed_at, filed, AreSorted, index_of}
 use Rattle.sockets.proofs.Roomy.{places_stay}
 use Rattle.sockets.proofs.Ascending.{ascends_pushed}
 use Rattle.sockets.proofs.Filed.{index_pushed, sorted_index, length_index}
+use Rattle.sockets.specs.Outlook.{IsOutlook}
 use Rattle.sockets.proofs.sockets.Sockets.open_with.Goals as goal
 
 -- the next id joins the others, and its connection is filed
 pub invariant_of-self : goal.invariant_of-self
 invariant_of-self c =
     let id : SocketId = record { 0 = c.self.inside.last_id + 1 } in (
-      (c.self.invariant.0.0, places_stay c.push.ensures.most c.file.ensures.most refl c.self.invariant.0.1),
-      ascends_pushed _ _ _ _ c.passive.result refl (ap (λ (e : Entry). e.id.0) c.passive.ensures) c.push.ensures.items c.self.invariant.1,
-      index_pushed _ _ _ _ c.passive.result _ c.self.invariant.2 c.push.ensures.items
-          (ap (λ (e : Entry). filed e) c.passive.ensures ∙ ap (λ (v : View). Some (filed_at id v.local v.peer)) c.passive-connection.ensures) c.file.ensures.items,
+      (c.self.invariant.0.0, places_stay c.push-2.ensures.most c.file.ensures.most refl c.self.invariant.0.1),
+      ascends_pushed _ _ _ _ c.passive-entry.result refl (ap (λ (e : Entry). e.id.0) c.passive-entry.ensures) c.push-2.ensures.items c.self.invariant.1,
+      index_pushed _ _ _ _ c.passive-entry.result _ c.self.invariant.2 c.push-2.ensures.items
+          (ap (λ (e : Entry). filed e) c.passive-entry.ensures ∙ ap (λ (v : View). Some (filed_at id v.local v.peer)) c.passive-connection.ensures) c.file.ensures.items,
+      subst (λ (ws : List Entry). IsOutlook c.push.new.self c.self.inside.sizes.entries ws) (sym c.push-2.ensures.items) (c.push.ensures _ _ c.self.invariant.3),
     )
 
 -- there is room to file it

@@ -11,6 +11,7 @@ use Rattle.sockets.proofs.Written.{role_changed_if}
 use Rattle.sockets.proofs.Ascending.{ascends_written}
 use Rattle.sockets.proofs.Filed.{index_written}
 use Rattle.sockets.proofs.KeptFiled.{filed_or_not, filed-reception}
+use Rattle.sockets.proofs.Outlooks.{outlook_written}
 use Rattle.sockets.proofs.sockets.Sockets.receive.Goals as goal
 
 pub returns-clause-after : goal.returns-clause-after
@@ -36,4 +37,8 @@ invariant_of-self c =
       c.self.invariant.0,
       ascends_written _ _ _ _ _ x c.self.invariant.1 c.deref_mut.ensures.value refl,
       index_written _ _ _ _ _ x c.self.invariant.2 c.deref_mut.ensures.value (filed_or_not c.receive.result (role_after_reception from c.payload.result.now) (get_or c.deref_mut.result.now c.in-Some.place x) _ (filed-reception _ _ _) c.receive.ensures.after),
+      outlook_written _ _ _ _ _ _ (c.turn_to.ensures.known _ c.self.invariant.3) c.turn_to.ensures.at_hand c.deref_mut.ensures.value,
     )
+
+pub turn_to-requires-clause-known : goal.turn_to-requires-clause-known
+turn_to-requires-clause-known c = (c.self.inside.sizes.entries, c.self.invariant.3)

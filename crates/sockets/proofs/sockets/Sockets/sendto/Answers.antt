@@ -17,6 +17,7 @@ use Rattle.sockets.proofs.Written.{found_lent, role_written}
 use Rattle.sockets.proofs.Ascending.{ascends_written}
 use Rattle.sockets.proofs.Filed.{index_written}
 use Rattle.sockets.proofs.KeptFiled.{filed_or_not, filed-sendto}
+use Rattle.sockets.proofs.Outlooks.{outlook_written}
 use Rattle.sockets.proofs.sockets.Sockets.sendto.Goals as goal
 
 pub returns-clause-ok : goal.returns-clause-ok
@@ -58,4 +59,19 @@ invariant_of-self-2 c =
       (c.last_port_after-last_port.ensures.dynamic, c.self.invariant.0.1),
       ascends_written _ _ _ _ _ x c.self.invariant.1 c.deref_mut.ensures.value refl,
       index_written _ _ _ _ _ x c.self.invariant.2 c.deref_mut.ensures.value (filed_or_not c.send_to.result change (get_or c.deref_mut.result.now c.in_ok-place.place x) _ (filed-sendto _ _ _ _ _ _) c.send_to.ensures.after),
+      outlook_written _ _ _ _ _ _ (c.turn_to.ensures.known _ c.self.invariant.3) c.turn_to.ensures.at_hand c.deref_mut.ensures.value,
     )
+
+-- and where it is refused
+pub invariant_of-self : goal.invariant_of-self
+invariant_of-self c =
+    let change : Role → Role = role_after_sendto c.in_ok-local.local c.self.inside.kept c.args.peer c.self.inside.identification c.args.octets.now in
+    let x : Entry = c.index-deref_mut-place.result in (
+      c.self.invariant.0,
+      ascends_written _ _ _ _ _ x c.self.invariant.1 c.deref_mut.ensures.value refl,
+      index_written _ _ _ _ _ x c.self.invariant.2 c.deref_mut.ensures.value (filed_or_not c.send_to.result change (get_or c.deref_mut.result.now c.in_ok-place.place x) _ (filed-sendto _ _ _ _ _ _) c.send_to.ensures.after),
+      outlook_written _ _ _ _ _ _ (c.turn_to.ensures.known _ c.self.invariant.3) c.turn_to.ensures.at_hand c.deref_mut.ensures.value,
+    )
+
+pub turn_to-requires-clause-known : goal.turn_to-requires-clause-known
+turn_to-requires-clause-known c = (c.self.inside.sizes.entries, c.self.invariant.3)

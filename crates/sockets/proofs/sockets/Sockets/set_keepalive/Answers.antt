@@ -13,6 +13,7 @@ use Rattle.sockets.proofs.Refused.{keepalive-refused}
 use Rattle.sockets.proofs.Ascending.{ascends_written}
 use Rattle.sockets.proofs.Filed.{index_written}
 use Rattle.sockets.proofs.KeptFiled.{filed_role, filed-keepalive}
+use Rattle.sockets.proofs.Outlooks.{outlook_written}
 use Rattle.sockets.proofs.sockets.Sockets.set_keepalive.Goals as goal
 
 pub returns-then-not-may_ask_after-clause-refused : goal.returns-then-not-may_ask_after-clause-refused
@@ -40,4 +41,8 @@ invariant_of-self c = (
   c.self.invariant.0,
   ascends_written _ _ _ _ _ c.index-deref_mut-place.result c.self.invariant.1 c.deref_mut.ensures.value refl,
   index_written _ _ _ _ _ c.index-deref_mut-place.result c.self.invariant.2 c.deref_mut.ensures.value (filed_role (role_after_keepalive c.args.every c.self.inside.kept) _ _ (filed-keepalive _ _ _) c.set_keepalive.ensures.after),
+  outlook_written _ _ _ _ _ _ (c.turn_to.ensures.known _ c.self.invariant.3) c.turn_to.ensures.at_hand c.deref_mut.ensures.value,
 )
+
+pub turn_to-requires-clause-known : goal.turn_to-requires-clause-known
+turn_to-requires-clause-known c = (c.self.inside.sizes.entries, c.self.invariant.3)

@@ -18,6 +18,7 @@ use Rattle.sockets.proofs.Written.{found_lent, entry_kept}
 use Rattle.sockets.proofs.Ascending.{ascends_written, ascends_settled}
 use Rattle.sockets.proofs.Filed.{index_written}
 use Rattle.sockets.proofs.KeptFiled.{filed_after, filed-segment}
+use Rattle.sockets.proofs.Outlooks.{outlook_written}
 use Rattle.sockets.proofs.sockets.Sockets.take_at.Goals as goal
 
 pub returns-in-Rejected : goal.returns-in-Rejected
@@ -62,7 +63,7 @@ returns-in_default c isn =
 
 -- the entry keeps its id, or is taken out
 pub invariant_of-self-in_default : goal.invariant_of-self-in_default
-invariant_of-self-in_default c = ((c.self.invariant.0.0, places_stay c.settle.ensures.most.0 c.settle.ensures.most.1 c.offer.ensures.most c.self.invariant.0.1), ascends_settled _ c.segment-fate.result.0 _ _ _ (ascends_written _ _ _ _ _ c.index-deref_mut-place.result c.self.invariant.1 c.deref_mut.ensures.value (ap (λ (e : Entry). e.id) c.segment-fate.ensures.after)) c.settle.ensures.entries, c.settle.ensures.index)
+invariant_of-self-in_default c = ((c.self.invariant.0.0, places_stay c.settle.ensures.most.0 c.settle.ensures.most.1 c.offer.ensures.most c.self.invariant.0.1), ascends_settled _ c.segment-fate.result.0 _ _ _ (ascends_written _ _ _ _ _ c.index-deref_mut-place.result c.self.invariant.1 c.deref_mut.ensures.value (ap (λ (e : Entry). e.id) c.segment-fate.ensures.after)) c.settle.ensures.entries, c.settle.ensures.index, c.settle.ensures.known _ (outlook_written _ _ _ _ _ _ (c.turn_to.ensures.known _ c.self.invariant.3) c.turn_to.ensures.at_hand c.deref_mut.ensures.value))
 
 -- or it stays
 pub invariant_of-self : goal.invariant_of-self
@@ -70,11 +71,16 @@ invariant_of-self c = (
   c.self.invariant.0,
   ascends_written _ _ _ _ _ c.index-deref_mut-place.result c.self.invariant.1 c.deref_mut.ensures.value (ap (λ (e : Entry). e.id) c.segment-fate.ensures.after),
   index_written _ _ _ _ _ c.index-deref_mut-place.result c.self.invariant.2 c.deref_mut.ensures.value (filed_after (role_after_segment c.later_moment-now.result c.args.segment.now) _ _ (filed-segment c.later_moment-now.result c.args.segment.now _) c.segment-fate.ensures.after),
+  outlook_written _ _ _ _ _ _ (c.turn_to.ensures.known _ c.self.invariant.3) c.turn_to.ensures.at_hand c.deref_mut.ensures.value,
 )
 
 -- its connection stays filed by its ends
-pub settle-requires-clause-order : goal.settle-requires-clause-order
-settle-requires-clause-order c = (c.self.inside.last_id, ascends_written _ _ _ _ _ c.index-deref_mut-place.result c.self.invariant.1 c.deref_mut.ensures.value (ap (λ (e : Entry). e.id) c.segment-fate.ensures.after))
 
 pub settle-requires-clause-index : goal.settle-requires-clause-index
 settle-requires-clause-index c = index_written _ _ _ _ _ c.index-deref_mut-place.result c.self.invariant.2 c.deref_mut.ensures.value (filed_after (role_after_segment c.later_moment-now.result c.args.segment.now) _ _ (filed-segment c.later_moment-now.result c.args.segment.now _) c.segment-fate.ensures.after)
+
+pub settle-requires-clause-known : goal.settle-requires-clause-known
+settle-requires-clause-known c = (c.self.inside.sizes.entries, outlook_written _ _ _ _ _ _ (c.turn_to.ensures.known _ c.self.invariant.3) c.turn_to.ensures.at_hand c.deref_mut.ensures.value)
+
+pub turn_to-requires-clause-known : goal.turn_to-requires-clause-known
+turn_to-requires-clause-known c = (c.self.inside.sizes.entries, c.self.invariant.3)

@@ -12,6 +12,7 @@ use Rattle.sockets.proofs.Told.{told-found}
 use Rattle.sockets.proofs.Ascending.{ascends_written, ascends_settled, lent_in_order}
 use Rattle.sockets.proofs.Filed.{index_written}
 use Rattle.sockets.proofs.KeptFiled.{filed_role, filed-unreachable}
+use Rattle.sockets.proofs.Outlooks.{outlook_written}
 use Rattle.sockets.proofs.sockets.Sockets.unreachable.Goals as goal
 
 pub returns-in-Some : goal.returns-in-Some
@@ -31,11 +32,9 @@ returns-in-Some c =
 
 -- the entry keeps its id, or is taken out
 pub invariant_of-self : goal.invariant_of-self
-invariant_of-self c = ((c.self.invariant.0.0, places_stay c.settle.ensures.most.0 c.settle.ensures.most.1 refl c.self.invariant.0.1), ascends_settled _ c.unreachable-fate.result _ _ _ (ascends_written _ _ _ _ _ c.index-deref_mut-place.result c.self.invariant.1 c.deref_mut.ensures.value refl) c.settle.ensures.entries, c.settle.ensures.index)
+invariant_of-self c = ((c.self.invariant.0.0, places_stay c.settle.ensures.most.0 c.settle.ensures.most.1 refl c.self.invariant.0.1), ascends_settled _ c.unreachable-fate.result _ _ _ (ascends_written _ _ _ _ _ c.index-deref_mut-place.result c.self.invariant.1 c.deref_mut.ensures.value refl) c.settle.ensures.entries, c.settle.ensures.index, c.settle.ensures.known _ (outlook_written _ _ _ _ _ _ (c.turn_to.ensures.known _ c.self.invariant.3) c.turn_to.ensures.at_hand c.deref_mut.ensures.value))
 
 -- its connection stays filed by its ends
-pub settle-requires-clause-order : goal.settle-requires-clause-order
-settle-requires-clause-order c = (c.self.inside.last_id, ascends_written _ _ _ _ _ c.index-deref_mut-place.result c.self.invariant.1 c.deref_mut.ensures.value refl)
 
 pub settle-requires-clause-index : goal.settle-requires-clause-index
 settle-requires-clause-index c = index_written _ _ _ _ _ c.index-deref_mut-place.result c.self.invariant.2 c.deref_mut.ensures.value (filed_role (role_after_unreachable c.args.number.0) _ _ (filed-unreachable _ _) c.unreachable-fate.ensures.after)
@@ -43,3 +42,9 @@ settle-requires-clause-index c = index_written _ _ _ _ _ c.index-deref_mut-place
 -- the entries that are lent stand in order
 pub connection_between-requires-clause-order : goal.connection_between-requires-clause-order
 connection_between-requires-clause-order c = lent_in_order _ _ _ c.deref.ensures.0 c.self.invariant.1
+
+pub settle-requires-clause-known : goal.settle-requires-clause-known
+settle-requires-clause-known c = (c.self.inside.sizes.entries, outlook_written _ _ _ _ _ _ (c.turn_to.ensures.known _ c.self.invariant.3) c.turn_to.ensures.at_hand c.deref_mut.ensures.value)
+
+pub turn_to-requires-clause-known : goal.turn_to-requires-clause-known
+turn_to-requires-clause-known c = (c.self.inside.sizes.entries, c.self.invariant.3)

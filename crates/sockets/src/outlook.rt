@@ -1,0 +1,154 @@
+//! What the table knows of its entries without a walk over them: which are busy, and the least of their deadlines.
+
+ghost use Rattle.std.specs.Prelude.{◌≡◌, ◌<◌, ◌≤◌, ◌++◌, [], ◌∷◌, ℕ, List, length, remove, fold, None, Some, IfOk};
+ghost use Rattle.clock.specs.Moments.{has_come, sooner};
+ghost use Rattle.marks.specs.First.{first_from};
+ghost use Rattle.marks.specs.declared.TheConstants.{MOST};
+ghost use Rattle.sockets.specs.Entries.{deadline_of};
+ghost use Rattle.sockets.specs.Outlook.{is_busy_entry, first_of, at_without, IsOutlook};
+ghost use Rattle.sockets.specs.declared.entry.Entry.{Entry};
+
+use crate::entry::Entry;
+use clock::{Moment, sooner};
+use fixed_vec::FixedVec;
+use marks::{Deadlines, Marks};
+use std::alloc::{AllocError, Global};
+
+/// Which of the entries are busy, and their deadlines, by place. Of the entry at hand nothing is noted, and it is asked itself: so what happens to one entry
+/// again and again costs nothing here.
+#[derive(Drop)]
+pub(crate) struct Outlook {
+    at_hand: Option<usize>,
+    busy: Marks,
+    deadlines: Deadlines,
+}
+
+impl Outlook {
+    /// That of no entries, with room for `most`. Fails only where memory is refused.
+    pub(crate) fn new(alloc: Global, most: usize) -> Result<Outlook, AllocError>
+        requires { most ≤ MOST }
+        ensures { IfOk result (λ outlook. IsOutlook outlook most []) }
+    {
+        Ok(Outlook {
+            at_hand: None,
+            busy: Marks::new(alloc, most)?,
+            deadlines: Deadlines::new(alloc, most)?,
+        })
+    }
+
+    /// Something is about to happen to the entry in this place, and to no other.
+    pub(crate) fn turn_to(&mut self, entries: &FixedVec<Entry>, place: usize)
+        requires known { (most : ℕ) × IsOutlook self.old most entries.now.items }
+        requires within { place < length entries.now.items }
+        ensures at_hand { self.new.at_hand ≡ Some place }
+        ensures known { (most : ℕ) → IsOutlook self.old most entries.now.items → IsOutlook self.new most entries.now.items }
+    {
+        if self.at_hand != Some(place) {
+            self.turn_away(entries);
+            self.busy.set(place, false);
+            self.deadlines.set(place, None);
+            self.at_hand = Some(place);
+        }
+    }
+
+    /// Notes what is true of the entry at hand, and no entry is at hand.
+    fn turn_away(&mut self, entries: &FixedVec<Entry>)
+        requires known { (most : ℕ) × IsOutlook self.old most entries.now.items }
+        ensures at_hand { self.new.at_hand ≡ None }
+        ensures known { (most : ℕ) → IsOutlook self.old most entries.now.items → IsOutlook self.new most entries.now.items }
+    {
+        if let Some(place) = self.at_hand {
+            let role = &entries[place].role;
+            self.busy.set(place, role.is_busy());
+            self.deadlines.set(place, role.deadline());
+            self.at_hand = None;
+        }
+    }
+
+    /// This entry is to stand behind the others. There must be room.
+    pub(crate) fn push(&mut self, entry: &Entry)
+        requires known { (most : ℕ) × (entries : List Entry) × (length entries < most) × IsOutlook self.old most entries }
+        ensures { (most : ℕ) (entries : List Entry) → IsOutlook self.old most entries → IsOutlook self.new most (entries ++ entry.now ∷ []) }
+    {
+        self.busy.push(entry.role.is_busy());
+        self.deadlines.push(entry.role.deadline());
+    }
+
+    /// The entry in this place is taken out.
+    pub(crate) fn remove(&mut self, place: usize)
+        requires known { (most : ℕ) × (entries : List Entry) × (place < length entries) × IsOutlook self.old most entries }
+        ensures { (most : ℕ) (entries : List Entry) → place < length entries → IsOutlook self.old most entries → IsOutlook self.new most (remove entries place) }
+    {
+        self.busy.remove(place);
+        self.deadlines.remove(place);
+        self.at_hand = at_without(self.at_hand, place);
+    }
+
+    /// The place of the first entry from the place `from` on that is busy.
+    pub(crate) fn next_busy(&self, entries: &FixedVec<Entry>, from: usize) -> Option<usize>
+        requires known { (most : ℕ) × IsOutlook self.now most entries.now.items }
+        ensures { result ≡ first_from is_busy_entry from entries.now.items }
+    {
+        let noted = self.busy.first_from(from);
+        match self.at_hand {
+            Some(place) => {
+                let is_next = from <= place && entries[place].role.is_busy();
+                first_of(is_next.then_some(place), noted)
+            }
+            None => noted,
+        }
+    }
+
+    /// The place of the first entry from the place `from` on whose deadline has come at this moment.
+    pub(crate) fn next_come(
+        &self,
+        entries: &FixedVec<Entry>,
+        from: usize,
+        now: Moment,
+    ) -> Option<usize>
+        requires known { (most : ℕ) × IsOutlook self.now most entries.now.items }
+        ensures { result ≡ first_from (λ e. has_come (deadline_of e.role) now) from entries.now.items }
+    {
+        let noted = self.deadlines.first_come(from, now);
+        match self.at_hand {
+            Some(place) => {
+                let is_next = from <= place && entries[place].role.has_come(now);
+                first_of(is_next.then_some(place), noted)
+            }
+            None => noted,
+        }
+    }
+
+    /// The least deadline of the entries.
+    pub(crate) fn least_deadline(&self, entries: &FixedVec<Entry>) -> Option<Moment>
+        requires known { (most : ℕ) × IsOutlook self.now most entries.now.items }
+        ensures { result ≡ fold (λ least e. sooner least (deadline_of e.role)) None entries.now.items }
+    {
+        let noted = self.deadlines.least();
+        match self.at_hand {
+            Some(place) => sooner(noted, entries[place].role.deadline()),
+            None => noted,
+        }
+    }
+}
+
+/// The first of two places, as far as there are any.
+fn first_of(a: Option<usize>, b: Option<usize>) -> Option<usize>
+    ensures { result ≡ first_of a b }
+{
+    match (a, b) {
+        (None, place) | (place, None) => place,
+        (Some(a), Some(b)) => Some(a.min(b)),
+    }
+}
+
+/// Which place is at hand once the entry in this place is taken out, and those behind it moved down.
+fn at_without(at_hand: Option<usize>, place: usize) -> Option<usize>
+    ensures { result ≡ at_without at_hand place }
+{
+    match at_hand {
+        Some(at) if at == place => None,
+        Some(at) if at > place => Some(at - 1),
+        other => other,
+    }
+}
