@@ -1,117 +1,179 @@
-/* Many connections at once between two hosts in memory: how long opening one takes, and 10,000 octets both ways on each in turn, while all others
-   are idle. `bench/flows` runs it. */
-#include "host.h"
+/* Many connections at once between two hosts in memory, of this stack or of lwIP: how long opening one takes, 10,000 octets one way and 10,000 back
+   on each in turn, while all others are idle, and closing one; and the memory of one. `bench/flows` runs it. */
+#define _POSIX_C_SOURCE 200809L
 
+#include "flows.h"
+
+#include <malloc.h>
 #include <stdio.h>
 #include <stdlib.h>
+#include <string.h>
 #include <time.h>
 
-enum { PORT = 80, OCTETS = 10000, BUFFER = 16384, ACK_WAITS = 200 /* milliseconds */ };
+enum {
+    OCTETS = 10000,
+    ACK_WAITS = 200,                  /* milliseconds */
+    TURNS = 100,                      /* that they take at most, a pass of all frames each */
+    LINE_SIZE = FLOWS_MOST + 1024     /* frames: an acknowledgement of each connection, and what is due beside them */
+};
 
-static struct host near_one, far_one;
-static uint64_t now = 1;
-static uint32_t isn = 7;
-static uint64_t frames;
-static uint8_t frame[HOST_FRAME_SIZE];
+static struct {
+    size_t count, lens[LINE_SIZE];
+    uint8_t frames[LINE_SIZE][FRAME_SIZE];
+} lines[ENDS];
 
-static uint64_t done(int64_t answer, const char *what)
+static const struct stack *stack;
+static size_t frames;
+
+void fail(const char *what)
 {
-    if (answer < 0) {
-        fprintf(stderr, "flows: %s\n", what);
-        exit(1);
-    }
-    return (uint64_t)answer;
+    fprintf(stderr, "flows: %s\n", what);
+    exit(1);
 }
 
-static double seconds(void)
+uint8_t *line_place(enum end end)
 {
-    struct timespec at;
-    clock_gettime(CLOCK_MONOTONIC, &at);
-    return (double)at.tv_sec + (double)at.tv_nsec / 1e9;
+    if (lines[end].count == LINE_SIZE) {
+        fail("the line is full");
+    }
+    return lines[end].frames[lines[end].count];
 }
 
-/* All frames that are due go from one host to the other. Answers how many. */
-static int pass(struct host *from, struct host *to)
+void line_push(enum end end, size_t len)
 {
-    int count = 0;
-    for (int64_t len; (len = host_next_frame(from, now, frame)) > 0; count++) {
-        done(host_deliver(to, now, isn++, frame, (size_t)len), "a frame is dropped");
+    lines[end].lens[lines[end].count++] = len;
+}
+
+static enum end other(enum end end)
+{
+    return end == NEAR ? FAR : NEAR;
+}
+
+/* The other host hears what is due of this one: how many frames there were. */
+static size_t pass(enum end from)
+{
+    stack->emit(from);
+    const size_t count = lines[from].count;
+    for (size_t i = 0; i < count; i++) {
+        stack->deliver(other(from), lines[from].frames[i], lines[from].lens[i]);
     }
+    lines[from].count = 0;
     return count;
 }
 
+/* All frames that are due go over, and what answers them. */
 static void pass_all(void)
 {
-    for (int count = 1; count > 0; frames += (uint64_t)count) {
-        count = pass(&near_one, &far_one) + pass(&far_one, &near_one);
+    for (size_t count = 1; count > 0; frames += count) {
+        count = pass(NEAR);
+        count += pass(FAR);
     }
 }
 
-static void open_host(struct host *host, uint8_t last, uint32_t entries)
+static void open_one(size_t flow)
 {
-    const struct host_route link = {HOST_ADDR(10, 0, 0, 0), 0, 24};
-    struct host_config config = {.size = sizeof config, .routes = &link, .count = 1, .mac = {2, 0, 0, 0, 0, last}};
-    config.addr = HOST_ADDR(10, 0, 0, last);
-    config.entries = entries;
-    config.buffer = BUFFER;
-    done(host_new_with(host, &config), "a host can't be made");
+    stack->connect(flow);
+    pass_all();
+    stack->accept(flow);
 }
 
-/* What can be read of a connection is. Answers how much. */
-static size_t read_of(struct host *host, uint64_t id)
-{
-    static uint8_t octets[OCTETS];
-    const int64_t len = host_recv(host, id, octets, sizeof octets);
-    return len > 0 ? (size_t)len : 0;
-}
-
-/* Octets go both ways on a connection. */
-static void exchange(uint64_t here, uint64_t there)
+/* Octets go from one end of a connection to the other. */
+static void move(enum end from, size_t flow)
 {
     static const uint8_t octets[OCTETS];
+    static uint8_t buffer[OCTETS];
     size_t count = 0;
-    done(host_send(&near_one, here, octets, OCTETS), "octets can't be sent");
-    done(host_send(&far_one, there, octets, OCTETS), "octets can't be sent");
-    for (int turn = 0; count < 2 * OCTETS; turn++) {
-        done(turn < 100 ? 0 : -1, "octets don't come");
+    stack->send(from, flow, octets, OCTETS);
+    for (int turn = 0; count < OCTETS; turn++) {
+        if (turn == TURNS) {
+            fail("octets don't come");
+        }
+        stack->pass_time(turn == 0 ? 0 : ACK_WAITS);
         pass_all();
-        count += read_of(&near_one, here) + read_of(&far_one, there);
-        now += turn == 0 ? 0 : ACK_WAITS;
-        host_tick(&near_one, now);
-        host_tick(&far_one, now);
+        count += stack->recv(other(from), flow, buffer, OCTETS);
     }
 }
 
-int main(int count, char **words)
+static void exchange(size_t flow)
 {
-    const size_t flows = count > 1 ? strtoul(words[1], NULL, 10) : 1;
-    uint64_t(*ids)[2] = calloc(flows, sizeof *ids);
-    struct host_endpoint peer;
+    move(NEAR, flow);
+    move(FAR, flow);
+}
 
-    done(ids == NULL ? -1 : 0, "there is no memory");
-    open_host(&near_one, 1, (uint32_t)flows + 1);
-    open_host(&far_one, 2, (uint32_t)flows + 1);
-    const uint64_t listener = done(host_socket(&far_one, HOST_KIND_TCP), "a socket can't be made");
-    done(host_bind(&far_one, listener, HOST_ADDR_ANY, PORT), "bind");
-    done(host_listen(&far_one, listener, 1), "listen");
-
-    const double begun = seconds();
-    for (size_t i = 0; i < flows; i++) {
-        ids[i][0] = done(host_socket(&near_one, HOST_KIND_TCP), "a socket can't be made");
-        done(host_connect(&near_one, now, isn++, ids[i][0], HOST_ADDR(10, 0, 0, 2), PORT), "connect");
+/* The near end closes its side, then the far one, and each reads to the end. */
+static void close_one(size_t flow)
+{
+    for (int end = NEAR; end < ENDS; end++) {
+        stack->shut((enum end)end, flow);
         pass_all();
-        ids[i][1] = done(host_accept(&far_one, listener, &peer), "accept");
+        if (!stack->is_over(other((enum end)end), flow)) {
+            fail("the end of a stream doesn't come");
+        }
     }
-    const double opened = seconds();
+    stack->close(NEAR, flow);
+    stack->close(FAR, flow);
+}
+
+/* What is taken of the heap. */
+static size_t taken(void)
+{
+    const struct mallinfo2 info = mallinfo2();
+    return info.uordblks + info.hblkhd;
+}
+
+static double microseconds(void)
+{
+    struct timespec at;
+    clock_gettime(CLOCK_PROCESS_CPUTIME_ID, &at);
+    return (double)at.tv_sec * 1e6 + (double)at.tv_nsec / 1e3;
+}
+
+/* How long one takes of so many. */
+static double each(size_t flows, void (*act)(size_t flow))
+{
+    const double begun = microseconds();
+    for (size_t flow = 0; flow < flows; flow++) {
+        act(flow);
+    }
+    return (microseconds() - begun) / (double)flows;
+}
+
+static const struct stack *const stacks[] = {
+    &ours,
+#ifdef WITH_LWIP
+    &lwip,
+#endif
+};
+
+static const struct stack *stack_of(const char *name)
+{
+    for (size_t i = 0; i < sizeof stacks / sizeof stacks[0]; i++) {
+        if (strcmp(stacks[i]->name, name) == 0) {
+            return stacks[i];
+        }
+    }
+    fail("there is no such stack");
+    return NULL;
+}
+
+int main(int argc, char **argv)
+{
+    const size_t flows = argc == 3 ? strtoul(argv[2], NULL, 10) : 0;
+    if (flows == 0 || flows > FLOWS_MOST) {
+        fail("STACK CONNECTIONS");
+    }
+    stack = stack_of(argv[1]);
+    const size_t before = taken();
+    stack->begin(flows);
+    const double opening = each(flows, open_one);
+    const size_t memory = (taken() - before) / flows;
     frames = 0;
-    for (size_t i = 0; i < flows; i++) {
-        exchange(ids[i][0], ids[i][1]);
-    }
-    const double ended = seconds();
-    printf("%zu connections: %.1f us to open one, %.1f us for %d octets both ways, %.0f ns a frame\n", flows, (opened - begun) * 1e6 / (double)flows,
-           (ended - opened) * 1e6 / (double)flows, OCTETS, (ended - opened) * 1e9 / (double)frames);
-    host_free(&near_one);
-    host_free(&far_one);
-    free(ids);
+    const double moving = each(flows, exchange);
+    const double a_frame = moving * (double)flows / (double)frames * 1e3;
+    const double closing = each(flows, close_one);
+    printf("%s, %zu connections: %.1f us to open one, %.1f us for %d octets there and back (%.0f ns a frame), %.1f us to close one, "
+           "%zu octets of heap each\n",
+           stack->name, flows, opening, moving, OCTETS, a_frame, closing, memory);
+    stack->end();
     return 0;
 }

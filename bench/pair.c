@@ -11,6 +11,7 @@
 #include <time.h>
 
 enum {
+    LINE_SIZE = 1024,                              /* frames: more than the largest window of them, and all that acknowledge one */
     PERIOD = 251,                                  /* of the pattern: no power of two, nor a divisor of a segment's length */
     TOTAL = 27400 * SEGMENT,                       /* octets of a run that is timed */
     ONE_IN = 100,                                  /* frames of data that are lost, where some are */
@@ -36,7 +37,13 @@ struct run {
     uint64_t nanoseconds;
 };
 
-struct line lines[ENDS];
+/* The frames on a line. */
+struct line {
+    size_t count, lens[LINE_SIZE];
+    uint8_t frames[LINE_SIZE][FRAME_SIZE];
+};
+
+static struct line lines[ENDS];
 static uint8_t pattern[LARGE + PERIOD], buffer[SMALL];
 
 static uint64_t octets, loss;                  /* of a run: how many, and one in how many frames of data is lost (0: none) */

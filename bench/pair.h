@@ -1,36 +1,14 @@
-/* What the parts of the benchmark `pair` share: frames on their way, and what a stack is to the driver. */
+/* What the parts of the benchmark `pair` share: what a stack is to the driver. */
 #ifndef PAIR_H
 #define PAIR_H
 
-#include <stdbool.h>
-#include <stddef.h>
-#include <stdint.h>
+#include "ends.h"
 
 enum {
-    FRAME_SIZE = 1514,
-    LINE_SIZE = 1024,    /* frames: more than the largest window of them, and all that acknowledge one */
     SEGMENT = 1460,      /* octets of a full one */
     SMALL = 65535,       /* octets of a send buffer, a receive buffer and a window, where windows aren't scaled */
-    LARGE = 1048576,     /* and where they are */
-    PORT = 80
+    LARGE = 1048576      /* and where they are */
 };
-
-/* The hosts. The near one opens the connection and writes, the far one reads. */
-enum end { NEAR, FAR, ENDS };
-
-/* Frames that one host has emitted and the other hasn't heard yet, in order. */
-struct line {
-    size_t count, lens[LINE_SIZE];
-    uint8_t frames[LINE_SIZE][FRAME_SIZE];
-};
-
-/* Those of each host. */
-extern struct line lines[ENDS];
-
-/* Where the next frame of a host goes; the program ends where there is no room. */
-uint8_t *line_place(enum end end);
-/* It is there, and has so many octets. */
-void line_push(enum end end, size_t len);
 
 /* Two hosts of one kind, with a connection that is open between them. */
 struct stack {
@@ -59,8 +37,5 @@ extern const struct stack ours, ours_scaled;
 #ifdef WITH_LWIP
 extern const struct stack lwip;
 #endif
-
-/* Ends the program, with status 1. */
-void fail(const char *what);
 
 #endif
