@@ -25,6 +25,7 @@ import time
 
 import linux_guards
 import linux_law
+import linux_many
 import linux_pair
 from host import Host, Kind, Ready, Recovery, State
 from linux_logged import LoggedHost
@@ -570,6 +571,15 @@ def clients_at_once(count, *words):
         for turn, client in enumerate(clients):
             want(read_to_end(client) == octets(1000 + turn), "other octets come back")
     return f"{count}, echoed"
+
+
+def open_at_once(count, size, *words):
+    """So many connections, all open at the same time before the first is closed, and an echo of so many octets on each."""
+    with Tap(*words):
+        course = linux_many.echoes((OURS, 7), count, size)
+    want((course.open, course.equal, course.ended) == (count,) * 3, f"{course.open} are open at once, {course.equal} echoes are equal, {course.ended} end")
+    opening, echoing, ending = course.seconds
+    return f"{count:,}, echoed; {opening:.1f} s to open, {echoing:.1f} for the echoes, {ending:.1f} to close"
 
 
 def bounded_openings():
@@ -1197,6 +1207,7 @@ CHECKS = [
     ("TCP: 3,000 requests in turn, the host closes first", host_closes_first, (3000,), ""),
     ("TCP: four openings a second", bounded_openings, (), ""),
     ("TCP: 250 clients at once, of a host of 300 entries", clients_at_once, (250, "--entries", 300), ""),
+    ("TCP: 2,000 connections at once, of a host of 4,096 entries", open_at_once, (2000, 1000, "--entries", 4096, "--buffer", 4096), ""),
     ("TCP: forged segments with an old acknowledgement, 1 MB to the host", forged_octets, (), ""),
     ("TCP: two hosts that are out of step", out_of_step, (), ""),
     ("TCP: 60 connections at once, by readiness alone", by_readiness, (60, 20000), ""),
