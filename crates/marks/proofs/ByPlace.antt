@@ -15,10 +15,13 @@ has_at words k = refl
 pub same_word : (xs ys : List ℕ) (k : ℕ) → get_or xs (k / 64) 0 ≡ get_or ys (k / 64) 0 → has xs k ≡ has ys k
 same_word xs ys k e = has_at xs k ∙ ap (λ w. has_bit w (k % 64)) e ∙ sym (has_at ys k)
 
--- no bit is set behind the last word
+-- no bit is set in a word that is 0
+pub none_in_zero : (words : List ℕ) (k : ℕ) → get_or words (k / 64) 0 ≡ 0 → has words k ≡ false
+none_in_zero words k none = has_at words k ∙ ap (λ w. has_bit w (k % 64)) none ∙ bit_is_clear 0 (k % 64) (bit_at-zero (k % 64))
+
+-- nor behind the last word
 pub none_past : (words : List ℕ) (k : ℕ) → length words ≤ k / 64 → has words k ≡ false
-none_past words k past =
-    has_at words k ∙ ap (λ w. has_bit w (k % 64)) (get_or_past words (k / 64) 0 past) ∙ bit_is_clear 0 (k % 64) (bit_at-zero (k % 64))
+none_past words k past = none_in_zero words k (get_or_past words (k / 64) 0 past)
 
 -- another word in place of one
 module _ (words : List ℕ) (at word : ℕ) (within : at < length words) where

@@ -2,11 +2,11 @@
 use Rattle.std.proofs.Common.{◌≡◌, ℕ, ◌+◌, ◌*◌, ◌/◌, ◌%◌, ◌^◌, ◌<◌, ◌≤◌, inl, inr, true, false, List, get_or, sym, ◌∙◌, ap, w64, arith, Option, Some, None, MatchOption}
 use Rattle.std.specs.Int.{trailing_zeros}
 use Rattle.std.proofs.lemmas.Nat.{div-mul-add, mod-mul-add}
-use Rattle.std.proofs.lemmas.Nat.Bits.{bit_at-zero, bit_at-trailing_zeros}
+use Rattle.std.proofs.lemmas.Nat.Bits.{bit_at-trailing_zeros}
 use Rattle.std.proofs.lemmas.Bool.{cases_lt, ltb-true, ltb-false, true≢false}
 use Rattle.marks.specs.Bits.{has_bit, has, IsFirst, Summarizes}
-use Rattle.marks.proofs.OneWord.{bit_is_set, bit_is_clear}
-use Rattle.marks.proofs.ByPlace.{has_at}
+use Rattle.marks.proofs.OneWord.{bit_is_set}
+use Rattle.marks.proofs.ByPlace.{has_at, none_in_zero}
 
 -- a word that isn't 0 has a bit that is set
 some_bit : (word : ℕ) → 0 < word → word < 2 ^ 64 → (at : ℕ) × (at < 64) × (has_bit word at ≡ true)
@@ -19,8 +19,7 @@ module _ (words summary : List ℕ) (sums : Summarizes summary words) where
   none_under : (k : ℕ) → has summary (k / 64) ≡ false → has words k ≡ false
   none_under k clear =
       let low : get_or words (k / 64) 0 ≤ 0 = ltb-false _ _ (sym (sums (k / 64)) ∙ clear) in
-      let none : get_or words (k / 64) 0 ≡ 0 = omega arith in
-      has_at words k ∙ ap (λ w. has_bit w (k % 64)) none ∙ bit_is_clear 0 (k % 64) (bit_at-zero (k % 64))
+      none_in_zero words k (omega arith)
 
   -- and one whose bit is set has one
   some_under : (j : ℕ) → has summary j ≡ true → get_or words j 0 < 2 ^ 64 → ((k : ℕ) → j * 64 ≤ k → k / 64 ≡ j * 64 / 64 → has words k ≡ false) → ⊥

@@ -42,7 +42,20 @@ pub(crate) fn first(words: &[u64], mut from: usize) -> Option<usize>
         if let Some(place) = first_in_word(words, from) {
             return Some(place);
         }
-        from = (from / 64 + 1) * 64;
+        from = next_marked(words, from / 64 + 1) * 64;
     }
     None
+}
+
+/// The first word from this one on that isn't 0, or how many words there are where none is.
+fn next_marked(words: &[u64], mut at: usize) -> usize
+    requires { at ≤ length words.now }
+    ensures behind { at ≤ result }
+    ensures within { result ≤ length words.now }
+    ensures passed { (word : ℕ) → at ≤ word → word < result → slice_index words.now word ≡ 0 }
+{
+    while at < words.len() && words[at] == 0 {
+        at += 1;
+    }
+    at
 }
