@@ -162,11 +162,7 @@ past-place [] n at = drop-nil n
 past-place (y ∷ ys) zero at = cc
 past-place (y ∷ ys) (suc n) at = past-place ys n at
 
--- the first of all it has due: nothing, one for which something is planned, or one that is passed
-
-pub first_nothing : (h : HostView) (now : Moment) (place : ℕ) (dues : List (Endpoint × Outgoing)) → slice_get dues 0 ≡ None → None ≡ plan_to h now place (first_from h now dues)
-first_nothing h now place [] none = refl
-first_nothing h now place (d ∷ rest) none = cc
+-- the first of all it has due: one for which something is planned, or one that is passed
 
 pub first_found : (h : HostView) (now : Moment) (place : ℕ) (dues : List (Endpoint × Outgoing)) (due : Endpoint × Outgoing) (p : Option Plan) → slice_get dues 0 ≡ Some due → p ≡ plan_by place due.1 due.0.addr (way h.interface now due.0.addr)
     → is_some p ≡ true → p ≡ plan_to h now place (first_from h now dues)

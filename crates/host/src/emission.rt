@@ -1,6 +1,6 @@
 //! The frames that go out.
 
-ghost use Rattle.std.specs.Prelude.{◌≡◌, ◌≤◌, ◌++◌, drop, find, IfSome, Some};
+ghost use Rattle.std.specs.Prelude.{◌≡◌, ◌≤◌, ◌++◌, drop, find, IfSome, Some, slice_get};
 ghost use Rattle.interface.specs.Ways.{way};
 ghost use Rattle.sockets.specs.Emission.{IsNextAt};
 ghost use Rattle.sockets.specs.Entries.{dues_of, due_to, IsDueAt};
@@ -12,7 +12,7 @@ use ether::{FRAME_MAX, Mac};
 use frames::HEADS;
 use interface::Way;
 use ipv4::Addr;
-use sockets::{Emitted, Entry, Outgoing};
+use sockets::{Emitted, Entry, NextDue, Outgoing};
 
 /// What goes out for the first of what the entries have due for which a frame can.
 #[derive(Clone, Copy)]
@@ -107,35 +107,34 @@ impl Layers {
         }
     }
 
-    /// What can go out for the table: for the first of what its entries have due, in order of id, for which a frame can. Entries that aren't busy have
-    /// nothing due.
+    /// What can go out for the table: for the first of what its entries have due, in order of id, for which a frame can.
     fn plan(&self, now: Moment) -> Option<Plan>
         ensures what { table_emission self.now now ≡ planned_or_nothing result }
         ensures first { IfSome result (λ plan. IsFirst self.now now plan) }
     {
         let entries = self.sockets.entries();
         let mut from = 0;
-        while let Some(place) = self.sockets.next_busy(from) {
-            let plan = self.plan_for(now, place, &entries[place]);
+        while let Some(due) = self.sockets.next_due(from) {
+            let plan = self.plan_for(now, due, &entries[due.place]);
             if plan.is_some() {
                 return plan;
             }
-            from = place + 1;
+            from = due.place + 1;
         }
         None
     }
 
-    /// What can go out for the entry in this place: for the first of what it has due for which a frame can. For most entries that is the first of
-    /// all, or nothing is due.
-    fn plan_for(&self, now: Moment, place: usize, entry: &Entry) -> Option<Plan>
-        ensures { result ≡ plan_to self.now now place (due_to (goes_out_from self.now now) entry.now.role) }
+    /// What can go out for an entry, of what it has due first `due`: for the first of all that it has due for which a frame can. For most entries that
+    /// is the first of all.
+    fn plan_for(&self, now: Moment, due: NextDue, entry: &Entry) -> Option<Plan>
+        requires { slice_get (dues_of entry.now.role) 0 ≡ Some (due.peer, due.outgoing) }
+        ensures { result ≡ plan_to self.now now due.place (due_to (goes_out_from self.now now) entry.now.role) }
     {
-        let (peer, outgoing) = entry.due_at(0)?;
-        let plan = self.plan_by(now, place, outgoing, peer.addr);
+        let plan = self.plan_by(now, due.place, due.outgoing, due.peer.addr);
         if plan.is_some() {
             return plan;
         }
-        self.plan_behind(now, place, entry)
+        self.plan_behind(now, due.place, entry)
     }
 
     /// What can go out for the entry in this place: for the first of what it has due behind the first for which a frame can.

@@ -2,7 +2,6 @@
 use Rattle.std.proofs.Common.{◌≡◌, inl, inr, ℕ, zero, suc, ◌+◌, ◌<◌, ◌≤◌, ◌==◌, ◌&&◌, Bool, true, false, if◌then◌else◌, List, [], ◌∷◌, ◌++◌, length, get_or, set, Option, Some, None, Result, Ok, Err, refl, sym, ◌∙◌, ap, subst, arith}
 use Rattle.std.specs.Bool.{then_some}
 use Rattle.std.specs.List.{find, list_any, position, refill, remove, retain_mut, AllWithin}
-use Rattle.std.specs.List.Retain.{RetainsInTurn}
 use Rattle.std.specs.List.Sorted.{IsSearchInRange, IsBinarySearchResult, IsNonDecreasingBy}
 use Rattle.std.specs.Option.{is_some}
 use Rattle.std.specs.Ordering.{nat_cmp, ordering_index}
@@ -21,7 +20,7 @@ use Rattle.sockets.specs.Entries.{is_kept}
 use Rattle.sockets.specs.Ids.{has_id, AreAscending, AreInOrder}
 use Rattle.sockets.proofs.Firsts.{refill_set, position-from_fails, position-none_passes, find-position_none}
 use Rattle.sockets.specs.Causes.{Follows}
-use Rattle.sockets.proofs.Followed.{IsNothing, by_test, each_followed, place_removed, followed_in_turn}
+use Rattle.sockets.proofs.Followed.{IsNothing, by_test, each_followed, place_removed}
 
 -- What keeps the order.
 
@@ -123,7 +122,7 @@ module _ (xs : List Entry) (sorted : AreInOrder xs) (id : SocketId) where
   elsewhere i k d within inside other is = ne_eqb _ _ (λ same. other (grind (arith, sorted i k d, sorted k i d)))
 
   -- the place at which a comparison with the id finds it
-  place_at : (i : ℕ) (x : Entry) → i < length xs → x ≡ get_or xs i x → x.id.0 ≡ id.0 → position (has_id id) xs ≡ Some i
+  pub place_at : (i : ℕ) (x : Entry) → i < length xs → x ≡ get_or xs i x → x.id.0 ≡ id.0 → position (has_id id) xs ≡ Some i
   place_at i x within at is =
       position-from_fails (has_id id) xs i x within
       (λ k d low below. elsewhere i k d within (omega arith) (λ same. omega arith) (ap (λ (e : Entry). e.id.0) (get_or_default xs i d x within ∙ sym at) ∙ is))

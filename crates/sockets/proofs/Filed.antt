@@ -1,31 +1,16 @@
--- How the connections stay filed by their ends, and what a search by the ends finds.
-use Rattle.std.proofs.Common.{◌≡◌, inl, inr, ◌⊎◌, ℕ, zero, suc, ◌+◌, ◌<◌, ◌≤◌, ◌&&◌, not, Bool, true, false, true≢false, if◌then◌else◌, cond, List, [], ◌∷◌, ◌++◌, length, get_or, set, Option, Some, None, refl, sym, ◌∙◌, ap, subst, arith}
-use Rattle.std.specs.Prelude.{filter, nat_lt, insert}
+-- How the entries stay filed by their ports and peers.
+use Rattle.std.proofs.Common.{◌≡◌, inl, inr, ◌⊎◌, ℕ, zero, suc, ◌+◌, ◌<◌, ◌≤◌, Bool, true, false, cond, List, [], ◌∷◌, ◌++◌, length, get_or, set, Option, Some, None, refl, sym, ◌∙◌, ap, subst, arith}
+use Rattle.std.specs.Prelude.{nat_lt, insert}
 use Rattle.std.specs.List.Sorted.{IsPartitionPoint, IsPartitionedBy}
-use Rattle.std.specs.List.{list_any, position, remove, refill, AllByRecursion, AllWithin}
-use Rattle.std.specs.List.Retain.{RetainsInTurn}
-use Rattle.std.proofs.lemmas.Bool.{eqb-true, eq-eqb, ne_eqb, and_parts}
+use Rattle.std.specs.List.{remove, refill, AllByRecursion}
 use Rattle.std.proofs.lemmas.Bool.Decides.{nat_tests}
-use Rattle.std.proofs.lemmas.List.{get_or_default}
-use Rattle.std.proofs.lemmas.List.Elements.{All-from_recursion, recursion_from_All}
-use Rattle.std.proofs.lemmas.List.Folds.{list_any_at}
-use Rattle.std.proofs.lemmas.List.Quantifiers.{position-Some}
-use Rattle.ipv4.specs.declared.addr.Endpoint.{Endpoint}
-use Rattle.ipv4.specs.Addresses.{same_end}
-use Rattle.tcp_state.specs.View.{is_closed}
-use Rattle.sockets.specs.declared.entry.SocketId.{SocketId}
+use Rattle.std.proofs.lemmas.List.Edits.{length-remove}
+use Rattle.std.proofs.lemmas.List.Elements.{All-from_recursion}
 use Rattle.sockets.specs.declared.entry.Entry.{Entry}
 use Rattle.sockets.specs.declared.index.Filed.{Filed}
-use Rattle.sockets.specs.declared.role.Role.{Role}
-use Rattle.sockets.specs.declared.role.Role.TheVariants.{Connected}
-use Rattle.sockets.specs.Causes.{Follows}
-use Rattle.sockets.specs.Entries.{is_between, is_live_between}
-use Rattle.sockets.specs.Ids.{has_id, AreAscending, AreInOrder}
-use Rattle.sockets.specs.Index.{key_of, filed_at, filed_as, filed, is_before, AreSorted, inserted, with_filed, index_of, is_live_as}
-use Rattle.sockets.proofs.Ascending.{ascends_followed, is_some-position, lent_in_order}
-use Rattle.sockets.proofs.Ends.{same_end-true}
-use Rattle.sockets.proofs.Firsts.{refill_set, position-from_fails, position-none_passes}
-use Rattle.sockets.proofs.Followed.{by_test, IsNothing, place_removed, followed_in_turn}
+use Rattle.sockets.specs.Index.{filed, is_before, AreSorted, inserted, with_filed, index_of}
+use Rattle.sockets.proofs.Firsts.{refill_set}
+use Rattle.sockets.proofs.Followed.{by_test}
 
 -- The order.
 
@@ -151,18 +136,6 @@ length_index (e ∷ rest) =
     let less : length (index_of rest) ≤ length rest = length_index rest in
     omega arith
 
--- an entry that is none leaves room
-pub room_index : (xs : List Entry) (i : ℕ) (d : Entry) → i < length xs → filed (get_or xs i d) ≡ None → length (index_of xs) < length xs
-room_index [] i d within none = absurd (omega arith)
-room_index (e ∷ rest) zero d within none =
-    let same : length (with_filed (filed e) (index_of rest)) ≡ length (index_of rest) = ap (λ (o : Option Filed). length (with_filed o (index_of rest))) none in
-    let less : length (index_of rest) ≤ length rest = length_index rest in
-    omega arith
-room_index (e ∷ rest) (suc i) d within none =
-    let more : length (with_filed (filed e) (index_of rest)) ≤ length (index_of rest) + 1 = length-with (filed e) (index_of rest) in
-    let less : length (index_of rest) < length rest = room_index rest i d (omega arith) none in
-    omega arith
-
 -- an entry joins
 pub index_joined : (xs : List Entry) (x : Entry) → index_of (xs ++ x ∷ []) ≡ with_filed (filed x) (index_of xs)
 index_joined [] x = refl
@@ -174,92 +147,15 @@ index_set [] i y d same = refl
 index_set (x ∷ xs) zero y d same = ap (λ (o : Option Filed). with_filed o (index_of xs)) same
 index_set (x ∷ xs) (suc i) y d same = ap (λ (l : List Filed). with_filed (filed x) l) (index_set xs i y d same)
 
--- and where that one was none
-index_set_new : (xs : List Entry) (i : ℕ) (y d : Entry) → i < length xs → filed (get_or xs i d) ≡ None → index_of (set xs i y) ≡ with_filed (filed y) (index_of xs)
-index_set_new [] i y d within none = absurd (omega arith)
-index_set_new (x ∷ xs) zero y d within none = ap (λ (o : Option Filed). with_filed (filed y) (with_filed o (index_of xs))) (sym none)
-index_set_new (x ∷ xs) (suc i) y d within none = ap (λ (l : List Filed). with_filed (filed x) l) (index_set_new xs i y d (omega arith) none) ∙ twice-filed (filed x) (filed y) (index_of xs)
-
 -- the same of entries that were lent as a slice
 pub index_written : (index : List Filed) (xs zs : List Entry) (i : ℕ) (y d : Entry) → index ≡ index_of xs → zs ≡ xs → filed y ≡ filed (get_or zs i d) → index ≡ index_of (refill (length xs) xs (set zs i y))
 index_written index xs zs i y d is lent same =
     is ∙ sym (index_set xs i y d (same ∙ ap (λ (ws : List Entry). filed (get_or ws i d)) lent)) ∙ ap index_of (sym (refill_set xs zs i y lent))
 
-pub index_connected : (old index : List Filed) (xs zs : List Entry) (i : ℕ) (y d : Entry) (x : Filed) → old ≡ index_of xs → index ≡ inserted x old → zs ≡ xs → i < length xs → filed (get_or zs i d) ≡ None → filed y ≡ Some x → index ≡ index_of (refill (length xs) xs (set zs i y))
-index_connected old index xs zs i y d x was is lent within none now =
-    is ∙ ap (λ (l : List Filed). inserted x l) was ∙ ap (λ (o : Option Filed). with_filed o (index_of xs)) (sym now)
-    ∙ sym (index_set_new xs i y d within (ap (λ (ws : List Entry). filed (get_or ws i d)) (sym lent) ∙ none)) ∙ ap index_of (sym (refill_set xs zs i y lent))
-
--- no entry has an id below the first
-none_below : (a last : ℕ) (ys : List Entry) (id : SocketId) → id.0 ≤ a → AreAscending a last ys → list_any (has_id id) ys ≡ false
-none_below a last [] id low ascends = refl
-none_below a last (y ∷ ys) id low ascends =
-    let first : a < y.id.0 = ascends.0 in
-    rw (ne_eqb y.id.0 id.0 (λ same. omega arith)) (none_below y.id.0 last ys id (omega arith) ascends.1)
-
--- What a search by the ends finds.
-
--- a connection between these ends is filed by them
-filed_between : (local peer : Endpoint) (e : Entry) → is_between local peer e ≡ true → filed e ≡ Some (filed_at e.id local peer)
-filed_between local peer e live = by_role e.role live
-  where
-    by_role : (role : Role) → is_live_between local peer role ≡ true → filed_as e.id role ≡ Some (filed_at e.id local peer)
-    by_role (Connected c listener) passes =
-        let parts = and_parts (same_end c.local local) (same_end c.peer peer) (and_parts (not (is_closed c.state)) (same_end c.local local && same_end c.peer peer) passes).1 in
-        ap (λ (l : Endpoint). Some (filed_at e.id l c.peer)) (same_end-true c.local local parts.0) ∙ ap (λ (p : Endpoint). Some (filed_at e.id local p)) (same_end-true c.peer peer parts.1)
-    by_role _ passes = cc
-
--- no element passes where there is no place
-nowhere_passes : (test : Entry → Bool) (xs : List Entry) → position test xs ≡ None → (i : ℕ) (d : Entry) → i < length xs → test (get_or xs i d) ≡ true → ⊥
-nowhere_passes test xs none i d within passes =
-    let any : list_any test xs ≡ true = list_any_at test xs i d within passes in
-    let no : false ≡ list_any test xs = is_some-position test xs None (sym none) in
-    true≢false (sym any ∙ sym no)
-
--- where it is filed by these ends, its entry is no live connection between them
-abbrev pub IsPassed : List Entry → Endpoint → Endpoint → Filed → Type 0
-IsPassed xs local peer x = x.key ≡ key_of local peer → position (is_live_as x.id local peer) xs ≡ None
-
-module _ (xs : List Entry) (sorted : AreInOrder xs) (local peer : Endpoint) where
-  -- the entry in this place is none, as it would be found
-  passed : (i : ℕ) (d : Entry) → i < length xs → position (is_live_as (get_or xs i d).id local peer) xs ≡ None → is_between local peer (get_or xs i d) ≡ false
-  passed i d within none =
-      let e : Entry = get_or xs i d in
-      by_test (is_between local peer e)
-      (λ passes. absurd (nowhere_passes (is_live_as e.id local peer) xs none i d within (rw (eq-eqb e.id.0 e.id.0 refl) passes)))
-      (λ fails. fails)
-
-  pub found_none : AllByRecursion (IsPassed xs local peer) (index_of xs) → position (is_between local peer) xs ≡ None
-  found_none all = position-none_passes (is_between local peer) xs
-      (λ i d low within. let e : Entry = get_or xs i d in by_test (is_between local peer e)
-      (λ passes. passed i d within (all_filed (IsPassed xs local peer) xs all i d within (filed_at e.id local peer) (filed_between local peer e passes) refl))
-      (λ fails. fails))
-
-  -- the first of the ends that is one
-  pub found_some : (place : ℕ) (id : SocketId) → position (is_live_as id local peer) xs ≡ Some place → AllByRecursion (λ (x : Filed). x.id.0 < id.0 → IsPassed xs local peer x) (index_of xs) → position (is_between local peer) xs ≡ Some place
-  found_some place id at all = by_list xs refl
-    where
-      by_list : (ys : List Entry) → ys ≡ xs → position (is_between local peer) xs ≡ Some place
-      by_list [] same = let bad : None ≡ Some place = ap (λ (ws : List Entry). position (is_live_as id local peer) ws) same ∙ at in cc
-      by_list (y ∷ ys) same =
-          let there = position-Some (is_live_as id local peer) xs place y at in
-          let e : Entry = get_or xs place y in
-          let parts = and_parts (has_id id e) (is_between local peer e) there.1 in
-          let its_id : e.id.0 ≡ id.0 = eqb-true e.id.0 id.0 parts.0 in
-          position-from_fails (is_between local peer) xs place e there.0
-          (λ i d low below. let w : Entry = get_or xs i d in by_test (is_between local peer w)
-          (λ passes.
-          let within : i < length xs = omega (arith, there.0) in
-          let lower : w.id.0 < (get_or xs place d).id.0 = sorted i place d below there.0 in
-          let there_too : (get_or xs place d).id.0 ≡ e.id.0 = ap (λ (z : Entry). z.id.0) (get_or_default xs place d y there.0) in
-          passed i d within (all_filed (λ (x : Filed). x.id.0 < id.0 → IsPassed xs local peer x) xs all i d within (filed_at w.id local peer) (filed_between local peer w passes) (omega arith) refl))
-          (λ fails. fails))
-          (get_or_default xs place y e there.0) parts.1
-
 -- Binary search.
 
 -- none stands before one in front of it, or before itself
-sorted_from : (l : List Filed) → AreSorted l → (i j : ℕ) (d : Filed) → i ≤ j → j < length l → is_before (get_or l j d) (get_or l i d) ≡ false
+pub sorted_from : (l : List Filed) → AreSorted l → (i j : ℕ) (d : Filed) → i ≤ j → j < length l → is_before (get_or l j d) (get_or l i d) ≡ false
 sorted_from [] sorted i j d low within = absurd (omega arith)
 sorted_from (x ∷ xs) sorted zero zero d low within = grind (arith, nat_tests)
 sorted_from (x ∷ xs) sorted (suc i) zero d low within = absurd (omega arith)
@@ -314,32 +210,11 @@ index_without [] i d within = absurd (omega arith)
 index_without (e ∷ rest) zero d within = refl
 index_without (e ∷ rest) (suc i) d within = ap (λ (l : List Filed). with_filed (filed e) l) (index_without rest i d (omega arith)) ∙ twice-filed (filed e) (filed (get_or rest i d)) (index_of (remove rest i))
 
--- what stands in front of the first of a key is passed
-pub passed_below : (xs : List Entry) (local peer : Endpoint) (key : ℕ) (l : List Filed) (i : ℕ) → key ≡ key_of local peer → AllWithin (λ y. nat_lt y.key key ≡ true) l 0 i → AllWithin (IsPassed xs local peer) l 0 i
-passed_below xs local peer key l i is below k d low within same = let lower : nat_lt (get_or l k d).key key ≡ true = below k d low within in absurd (grind (arith, nat_tests))
-
--- where all in front of one are passed
-module _ (xs : List Entry) (local peer : Endpoint) (l : List Filed) (sorted : AreSorted l) (at : ℕ) (here : Filed) (is_here : here ≡ get_or l at here) (within : at < length l) (before : AllWithin (IsPassed xs local peer) l 0 at) where
-  later : (k : ℕ) (d : Filed) → at ≤ k → k < length l → is_before (get_or l k d) here ≡ false
-  later k d high inside = ap (λ (z : Filed). is_before (get_or l k d) z) (is_here ∙ get_or_default l at here d within) ∙ sorted_from l sorted at k d high inside
-
-  -- all are, where its key is a higher one
-  pub all_passed : key_of local peer < here.key → AllByRecursion (IsPassed xs local peer) l
-  all_passed higher = recursion_from_All (IsPassed xs local peer) l (λ k d inside. by_test (nat_lt k at)
-      (λ low. before k d (omega arith) (grind (arith, nat_tests)))
-      (λ high same. absurd (apart (get_or l k d) (later k d (grind (arith, nat_tests)) inside) same)))
-    where
-      apart : (z : Filed) → is_before z here ≡ false → z.key ≡ key_of local peer → ⊥
-      apart z behind same = grind (arith, nat_tests)
-
-  -- all of a lower id are, where it is the key
-  pub all_lower : here.key ≡ key_of local peer → AllByRecursion (λ (z : Filed). z.id.0 < here.id.0 → IsPassed xs local peer z) l
-  all_lower key = recursion_from_All (λ (z : Filed). z.id.0 < here.id.0 → IsPassed xs local peer z) l (λ k d inside. by_test (nat_lt k at)
-      (λ low less. before k d (omega arith) (grind (arith, nat_tests)))
-      (λ high less same. absurd (apart (get_or l k d) (later k d (grind (arith, nat_tests)) inside) less same)))
-    where
-      apart : (z : Filed) → is_before z here ≡ false → z.id.0 < here.id.0 → z.key ≡ key_of local peer → ⊥
-      apart z behind less same = grind (arith, nat_tests)
+-- another entry is written at its place
+index_with : (xs : List Entry) (i : ℕ) (y : Entry) → i < length xs → index_of (set xs i y) ≡ with_filed (filed y) (index_of (remove xs i))
+index_with [] i y within = absurd (omega arith)
+index_with (e ∷ rest) zero y within = refl
+index_with (e ∷ rest) (suc i) y within = ap (λ (l : List Filed). with_filed (filed e) l) (index_with rest i y (omega arith)) ∙ twice-filed (filed e) (filed y) (index_of (remove rest i))
 
 -- What a function of the table leaves filed.
 
@@ -353,10 +228,26 @@ filed_there x l ws i sorted lent within parts =
     in
     inserted_there x l i (subst (λ (us : List Filed). i ≤ length us) lent within) (at ws lent parts)
 
--- an entry joined that was filed, or that is no connection
-pub index_pushed : (old index : List Filed) (xs ys : List Entry) (e : Entry) (x : Filed) → old ≡ index_of xs → ys ≡ xs ++ e ∷ [] → filed e ≡ Some x → index ≡ inserted x old → index ≡ index_of ys
-index_pushed old index xs ys e x was joined now is =
-    is ∙ ap (λ (l : List Filed). inserted x l) was ∙ ap (λ (o : Option Filed). with_filed o (index_of xs)) (sym now) ∙ sym (index_joined xs e) ∙ ap index_of (sym joined)
+-- what an entry is filed as in entries that were lent
+module _ (xs zs : List Entry) (i : ℕ) (d : Entry) (before : Option Filed) (old : List Filed) (was : old ≡ index_of xs) (lent : zs ≡ xs) (within : i < length xs) (is : before ≡ filed (get_or zs i d)) where
+  beside : old ≡ with_filed before (index_of (remove xs i))
+  beside = was ∙ index_without xs i d within ∙ ap (λ (o : Option Filed). with_filed o (index_of (remove xs i))) (ap (λ (ws : List Entry). filed (get_or ws i d)) (sym lent) ∙ sym is)
+
+  -- it may be filed as another, and there is room
+  pub may_refile : (most : ℕ) → length xs ≤ most → (rest : List Filed) × AreSorted rest × (old ≡ with_filed before rest) × (length rest < most)
+  may_refile most room =
+      let fewer : length (remove xs i) + 1 ≡ length xs = length-remove xs i within in
+      let less : length (index_of (remove xs i)) ≤ length (remove xs i) = length_index (remove xs i) in
+      (index_of (remove xs i), sorted_index (remove xs i), beside, omega arith)
+
+  -- and so it is
+  pub index_refiled : (new : List Filed) (y : Entry) → ((rest : List Filed) → AreSorted rest → old ≡ with_filed before rest → new ≡ with_filed (filed y) rest) → new ≡ index_of (refill (length xs) xs (set zs i y))
+  index_refiled new y refiled =
+      refiled (index_of (remove xs i)) (sorted_index (remove xs i)) beside ∙ sym (index_with xs i y within) ∙ ap index_of (sym (refill_set xs zs i y lent))
+
+-- an entry joined that was filed, or that has no port
+pub index_pushed : (index : List Filed) (xs ys : List Entry) (e : Entry) → ys ≡ xs ++ e ∷ [] → index ≡ with_filed (filed e) (index_of xs) → index ≡ index_of ys
+index_pushed index xs ys e joined is = is ∙ sym (index_joined xs e) ∙ ap index_of (sym joined)
 
 pub index_pushed_none : (index : List Filed) (xs ys : List Entry) (e : Entry) → index ≡ index_of xs → ys ≡ xs ++ e ∷ [] → filed e ≡ None → index ≡ index_of ys
 index_pushed_none index xs ys e was joined none =

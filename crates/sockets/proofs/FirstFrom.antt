@@ -28,7 +28,7 @@ shifted : (n : ℕ) (o : Option ℕ) → option_map (λ a. suc n + a) o ≡ furt
 shifted n None = refl
 shifted n (Some a) = let one : suc n + a ≡ suc (n + a) = omega arith in ap (λ k. Some k) one
 
-from-zero : (o : Option ℕ) → option_map (λ a. 0 + a) o ≡ o
+pub from-zero : (o : Option ℕ) → option_map (λ a. 0 + a) o ≡ o
 from-zero None = refl
 from-zero (Some a) = let same : 0 + a ≡ a = omega arith in ap (λ k. Some k) same
 

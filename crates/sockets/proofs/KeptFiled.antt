@@ -1,10 +1,6 @@
--- Whatever happens to a role, it is filed as before, unless it begins a connection.
-use Rattle.std.proofs.Common.{◌≡◌, ◌⊎◌, inl, inr, ℕ, ◌<◌, ◌==◌, Bool, true, false, if◌then◌else◌, List, length, get_or, set, Option, Some, None, Result, Ok, Err, refl, sym, ◌∙◌, ap}
-use Rattle.std.specs.List.{position, refill}
+-- Whatever happens to a role, it is filed as before, unless it is bound or begins a connection.
+use Rattle.std.proofs.Common.{◌≡◌, ◌⊎◌, inl, inr, ℕ, Bool, true, false, if◌then◌else◌, List, Option, Some, Result, Ok, Err, refl, ◌∙◌, ap}
 use Rattle.std.specs.Result.{OnOk, OnErr}
-use Rattle.std.proofs.lemmas.Bool.{eqb-true, and_parts}
-use Rattle.std.proofs.lemmas.List.{get_or_default}
-use Rattle.std.proofs.lemmas.List.Quantifiers.{position-Some}
 use Rattle.ipv4.specs.declared.addr.Endpoint.{Endpoint}
 use Rattle.clock.specs.declared.moment.Moment.{Moment}
 use Rattle.tcp_segment.specs.Segment.{Segment}
@@ -18,12 +14,9 @@ use Rattle.sockets.specs.declared.role.Leave.{Leave}
 use Rattle.sockets.specs.declared.role.Role.{Role}
 use Rattle.sockets.specs.declared.role.Role.TheVariants.{Idle, Connected, Datagrams}
 use Rattle.tcp_state.specs.Edges as edge
-use Rattle.sockets.specs.Entries.{on_connection, on_datagrams, has_socket, is_socket, waits_at, with_role, role_after_connect, role_after_bind, role_after_listen, role_after_accept, role_after_send, role_after_recv, role_after_shutdown, role_after_nodelay, role_after_keepalive, role_after_sendto, role_after_recvfrom, role_after_reception, role_after_tick, role_after_segment, role_after_unreachable, leaving_event, role_after_leaving, role_after_listener_close, role_after_emission}
-use Rattle.sockets.specs.Calls.{open_answer}
-use Rattle.sockets.specs.Index.{filed_at, filed_as, filed, inserted, index_of}
-use Rattle.sockets.proofs.Connected.{had_opens_none}
+use Rattle.sockets.specs.Entries.{on_connection, on_datagrams, waits_at, with_role, role_after_listen, role_after_accept, role_after_send, role_after_recv, role_after_shutdown, role_after_nodelay, role_after_keepalive, role_after_recvfrom, role_after_reception, role_after_tick, role_after_segment, role_after_unreachable, leaving_event, role_after_leaving, role_after_listener_close, role_after_emission}
+use Rattle.sockets.specs.Index.{filed_at, filed_as, filed}
 use Rattle.sockets.proofs.Written.{role_changed}
-use Rattle.sockets.proofs.Filed.{room_index, index_connected}
 use Rattle.sockets.proofs.Followed.{by_test}
 use Rattle.sockets.proofs.KeptEnds.{KeepsEnds, keeps-event}
 use Rattle.sockets.proofs.Steps.{read_either, shut_either}
@@ -33,7 +26,7 @@ abbrev pub IsFiledAs : Role → Role → Type 0
 IsFiledAs before after = (id : SocketId) → filed_as id after ≡ filed_as id before
 
 filed-kept : (c d : View) (l k : Option SocketId) → KeepsEnds c d → IsFiledAs (Connected c l) (Connected d k)
-filed-kept c d l k keeps id = ap (λ (e : Endpoint). Some (filed_at id e d.peer)) keeps.local ∙ ap (λ (e : Endpoint). Some (filed_at id c.local e)) keeps.peer
+filed-kept c d l k keeps id = ap (λ (e : Endpoint). Some (filed_at id e.port d.peer)) keeps.local ∙ ap (λ (e : Endpoint). Some (filed_at id c.local.port e)) keeps.peer
 
 -- what changes a connection as an event does, or leaves it
 filed-changed : (change : View → View) (e : edge.Event) → ((c : View) → (change c ≡ c) ⊎ (change c ≡ edge.after_event c e)) → (r : Role) → IsFiledAs r (on_connection change r)
@@ -77,10 +70,6 @@ pub filed-emission : (now : Moment) (what : Outgoing) (r : Role) → IsFiledAs r
 filed-emission now what (Connected c l) id = filed-kept c _ l l (keeps-event c (edge.Emits now)) id
 filed-emission now what _ id = refl
 
-pub filed-bind : (local : Endpoint) (r : Role) → IsFiledAs r (role_after_bind local r)
-filed-bind local (Idle buffers bound) id = refl
-filed-bind local _ id = refl
-
 pub filed-listen : (backlog : ℕ) (r : Role) → IsFiledAs r (role_after_listen backlog r)
 filed-listen backlog (Idle buffers (Some local)) id = refl
 filed-listen backlog _ id = refl
@@ -89,18 +78,15 @@ pub filed-accept : (r : Role) → IsFiledAs r (role_after_accept r)
 filed-accept (Connected c l) id = refl
 filed-accept _ id = refl
 
-filed-queues : (bind : Option Endpoint → Option Endpoint) (change : Queues → Queues) (r : Role) → IsFiledAs r (on_datagrams bind change r)
-filed-queues bind change (Datagrams bound socket) id = refl
-filed-queues bind change _ id = refl
-
-pub filed-sendto : (local : Endpoint) (now : Moment) (peer : Endpoint) (identification : ℕ) (octets : List ℕ) (r : Role) → IsFiledAs r (role_after_sendto local now peer identification octets r)
-filed-sendto local now peer identification octets r = filed-queues _ _ r
+filed-queues : (change : Queues → Queues) (r : Role) → IsFiledAs r (on_datagrams (λ bound. bound) change r)
+filed-queues change (Datagrams bound socket) id = refl
+filed-queues change _ id = refl
 
 pub filed-recvfrom : (r : Role) → IsFiledAs r (role_after_recvfrom r)
-filed-recvfrom r = filed-queues _ _ r
+filed-recvfrom r = filed-queues _ r
 
 pub filed-reception : (from : Endpoint) (octets : List ℕ) (r : Role) → IsFiledAs r (role_after_reception from octets r)
-filed-reception from octets r = filed-queues _ _ r
+filed-reception from octets r = filed-queues _ r
 
 -- An entry is left so.
 
@@ -115,47 +101,11 @@ pub filed_or_not : (b : Bool) (change : Role → Role) (x : Entry) (r : Role) �
 filed_or_not true change x r kept is = filed_role change x r kept is
 filed_or_not false change x r kept is = ap (λ (role : Role). filed_as x.id role) is
 
+-- It is left as it was.
+pub filed_same : (b : Bool) (after : Role) (x : Entry) (r : Role) → b ≡ false → r ≡ (if b then after else x.role) → filed (record x { role = r }) ≡ filed x
+filed_same true after x r fails is = cc
+filed_same false after x r fails is = ap (λ (role : Role). filed_as x.id role) is
+
 pub filed_read : {T E : Type 0} (answer : Result T E) (change : Role → Role) (x : Entry) (r : Role) → IsFiledAs x.role (change x.role) → OnOk answer (r ≡ change x.role) → OnErr answer (r ≡ x.role) → filed (record x { role = r }) ≡ filed x
 filed_read (Ok value) change x r kept changed same = filed_role change x r kept changed
 filed_read (Err refusal) change x r kept changed same = ap (λ (role : Role). filed_as x.id role) same
-
--- A connection is begun.
-
--- a role that may open one is none yet
-opens-unfiled : (id : SocketId) (r : Role) (bound : Option Endpoint) → open_answer r ≡ Ok bound → filed_as id r ≡ None
-opens-unfiled id (Connected c l) bound opens = absurd (had_opens_none c.state c.pending_error bound opens)
-opens-unfiled id _ bound opens = refl
-
-opens-filed : (id : SocketId) (r : Role) (bound : Option Endpoint) (local peer : Endpoint) (isn : ℕ) (now : Moment) → open_answer r ≡ Ok bound → filed_as id (role_after_connect local peer isn now r) ≡ Some (filed_at id local peer)
-opens-filed id (Idle buffers b) bound local peer isn now opens = refl
-opens-filed id (Connected c l) bound local peer isn now opens = absurd (had_opens_none c.state c.pending_error bound opens)
-opens-filed id _ bound local peer isn now opens = cc
-
--- the entry of a socket that may open one
-module _ (xs ls : List Entry) (i : ℕ) (a : Entry) (id : SocketId) (bound : Option Endpoint) (place : position (is_socket id) xs ≡ Some i) (lent : ls ≡ xs) (opens : open_answer (get_or ls i a).role ≡ Ok bound) where
-  within_list : i < length xs
-  within_list = (position-Some (is_socket id) xs i a place).0
-
-  opens_here : (d : Entry) → open_answer (get_or xs i d).role ≡ Ok bound
-  opens_here d = ap (λ (z : Entry). open_answer z.role) (get_or_default xs i d a within_list) ∙ ap (λ (ws : List Entry). open_answer (get_or ws i a).role) (sym lent) ∙ opens
-
-  unfiled_here : (d : Entry) → filed (get_or xs i d) ≡ None
-  unfiled_here d = opens-unfiled (get_or xs i d).id (get_or xs i d).role bound (opens_here d)
-
-  -- there is room to file one more
-  pub room_connected : length (index_of xs) < length xs
-  room_connected = room_index xs i a within_list (unfiled_here a)
-
-  -- and it is filed
-  pub index_after_connect : (old index : List Filed) (zs : List Entry) (d y : Entry) (local peer : Endpoint) (isn : ℕ) (now : Moment) → old ≡ index_of xs → index ≡ inserted (filed_at id local peer) old → zs ≡ xs
-      → y ≡ with_role (role_after_connect local peer isn now) (get_or zs i d) → index ≡ index_of (refill (length xs) xs (set zs i y))
-  index_after_connect old index zs d y local peer isn now was is same connected =
-      let e : Entry = get_or xs i d in
-      let number : e.id.0 ≡ id.0 = eqb-true e.id.0 id.0 (and_parts (e.id.0 == id.0) (has_socket e.role) (position-Some (is_socket id) xs i d place).1).0 in
-      let its_id : e.id ≡ id = ap (λ n. let s : SocketId = record { 0 = n } in s) number in
-      let filed_now : filed y ≡ Some (filed_at id local peer) =
-      ap (λ (z : Entry). filed z) (connected ∙ ap (λ (ws : List Entry). with_role (role_after_connect local peer isn now) (get_or ws i d)) same)
-      ∙ opens-filed e.id e.role bound local peer isn now (opens_here d)
-      ∙ ap (λ (s : SocketId). Some (filed_at s local peer)) its_id
-      in
-      index_connected old index xs zs i y d (filed_at id local peer) was is same within_list (ap (λ (ws : List Entry). filed (get_or ws i d)) same ∙ unfiled_here d) filed_now

@@ -47,12 +47,17 @@ pub mod OfferTurns
 pub mod OfferAccepted
 pub mod Foretold
 pub mod Filed
+pub mod Sought
+mod Either
 pub mod FirstFrom
 mod AtHand
 pub mod Visits
 mod Outlooks
+mod Quiet
+mod Passing
 mod Walks
 pub mod Resting
+pub mod NextDues
 pub mod KeptFiled
 pub mod ResetWaits
 pub mod Places

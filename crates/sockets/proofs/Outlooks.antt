@@ -9,7 +9,7 @@ use Rattle.std.proofs.lemmas.Bool.{eqb-true, eqb-false}
 use Rattle.std.proofs.lemmas.Bool.Decides.{nat_tests}
 use Rattle.sockets.specs.declared.entry.Entry.{Entry}
 use Rattle.sockets.specs.declared.outlook.Outlook.{Outlook}
-use Rattle.sockets.specs.Outlook.{is_busy_entry, deadline_of_entry, with_at, at_without, first_of, IsOutlook}
+use Rattle.sockets.specs.Outlook.{is_busy_entry, is_pending_entry, deadline_of_entry, with_at, at_without, first_of, IsOutlook}
 use Rattle.marks.specs.First.{first_from}
 use Rattle.clock.specs.declared.moment.Moment.{Moment}
 use Rattle.clock.specs.Moments.{has_come, sooner}
@@ -80,6 +80,20 @@ module _ {T : Type 0} (f : Entry → T) (x : T) where
       let in_list : p < length (map f xs) = omega (arith, inside, same) in
       rw (other, before) (removed-below (map f xs) i p x less in_list ∙ ap (λ l. set l i x) (sym (map-removed f xs p inside)))))
 
+  -- and the same of a list that is noted
+  still-written : (at : Option ℕ) (items : List T) (i : ℕ) (xs : List Entry) (y : Entry) → items ≡ with_at at x (map f xs) → at ≡ Some i → items ≡ with_at at x (map f (set xs i y))
+  still-written at items i xs y known is = known ∙ ap (λ a. with_at a x (map f xs)) is ∙ sym (noted-written i xs y) ∙ ap (λ a. with_at a x (map f (set xs i y))) (sym is)
+
+  still-away : (at to : Option ℕ) (items new : List T) (i : ℕ) (xs : List Entry) (d : Entry) (b : T) → items ≡ with_at at x (map f xs) → at ≡ Some i → b ≡ f (get_or xs i d) → to ≡ None → new ≡ set items i b → new ≡ with_at to x (map f xs)
+  still-away at to items new i xs d b known is is_b none written =
+      written ∙ ap (λ l. set l i b) (known ∙ ap (λ a. with_at a x (map f xs)) is) ∙ ap (λ c. set (set (map f xs) i x) i c) is_b ∙ noted-again i xs d ∙ ap (λ a. with_at a x (map f xs)) (sym none)
+
+  still-joined : (at to : Option ℕ) (items new : List T) (xs : List Entry) (y : Entry) → items ≡ with_at at x (map f xs) → IsWithin at (length xs) → to ≡ at → new ≡ items ++ f y ∷ [] → new ≡ with_at to x (map f (xs ++ y ∷ []))
+  still-joined at to items new xs y known within same joined = joined ∙ ap (λ l. l ++ f y ∷ []) known ∙ sym (noted-joined at xs y within) ∙ ap (λ a. with_at a x (map f (xs ++ y ∷ []))) (sym same)
+
+  still-removed : (at to : Option ℕ) (items new : List T) (xs : List Entry) (i : ℕ) → items ≡ with_at at x (map f xs) → i < length xs → IsWithin at (length xs) → to ≡ at_without at i → new ≡ remove items i → new ≡ with_at to x (map f (remove xs i))
+  still-removed at to items new xs i known inside within same removed = removed ∙ ap (λ l. remove l i) known ∙ noted-removed at xs i inside within ∙ ap (λ a. with_at a x (map f (remove xs i))) (sym same)
+
 -- the place at hand lies in what is left
 within-removed : (at : Option ℕ) (xs : List Entry) (p : ℕ) → p < length xs → IsWithin at (length xs) → IsWithin (at_without at p) (length (remove xs p))
 within-removed None xs p inside within = tt
@@ -101,41 +115,49 @@ outlook_written o most xs zs i y known at lent =
     subst (λ (ws : List Entry). IsOutlook o most ws) (sym (refill_set xs zs i y lent))
     (record {
       within = subst (λ n. IsWithin o.at_hand n) (sym (length-set xs i y)) known.within;
-      busy = known.busy ∙ ap (λ a. with_at a false (map is_busy_entry xs)) at ∙ sym (noted-written is_busy_entry false i xs y) ∙ ap (λ a. with_at a false (map is_busy_entry (set xs i y))) (sym at);
-      deadlines = known.deadlines ∙ ap (λ a. with_at a None (map deadline_of_entry xs)) at ∙ sym (noted-written deadline_of_entry None i xs y) ∙ ap (λ a. with_at a None (map deadline_of_entry (set xs i y))) (sym at);
+      busy = still-written is_busy_entry false o.at_hand o.busy.items i xs y known.busy at;
+      pending = still-written is_pending_entry false o.at_hand o.pending.items i xs y known.pending at;
+      deadlines = still-written deadline_of_entry None o.at_hand o.deadlines.items i xs y known.deadlines at;
       busy_most = known.busy_most;
+      pending_most = known.pending_most;
       deadlines_most = known.deadlines_most;
     })
 
 -- What happens to an outlook.
 
-pub outlook_turned_away : (o p : Outlook) (most : ℕ) (xs : List Entry) (i : ℕ) (d : Entry) (b : Bool) (m : Option Moment) → IsOutlook o most xs → o.at_hand ≡ Some i → b ≡ is_busy_entry (get_or xs i d) → m ≡ deadline_of_entry (get_or xs i d)
-    → p.at_hand ≡ None → p.busy.items ≡ set o.busy.items i b → p.busy.most ≡ o.busy.most → p.deadlines.items ≡ set o.deadlines.items i m → p.deadlines.most ≡ o.deadlines.most → IsOutlook p most xs
-outlook_turned_away o p most xs i d b m known at is_b is_m none busy busy_most deadlines deadlines_most = record {
+pub outlook_turned_away : (o p : Outlook) (most : ℕ) (xs : List Entry) (i : ℕ) (d : Entry) (b w : Bool) (m : Option Moment) → IsOutlook o most xs → o.at_hand ≡ Some i → b ≡ is_busy_entry (get_or xs i d) → w ≡ is_pending_entry (get_or xs i d) → m ≡ deadline_of_entry (get_or xs i d)
+    → p.at_hand ≡ None → p.busy.items ≡ set o.busy.items i b → p.busy.most ≡ o.busy.most → p.pending.items ≡ set o.pending.items i w → p.pending.most ≡ o.pending.most → p.deadlines.items ≡ set o.deadlines.items i m → p.deadlines.most ≡ o.deadlines.most → IsOutlook p most xs
+outlook_turned_away o p most xs i d b w m known at is_b is_w is_m none busy busy_most pending pending_most deadlines deadlines_most = record {
   within = subst (λ a. IsWithin a (length xs)) (sym none) tt;
-  busy = busy ∙ ap (λ l. set l i b) (known.busy ∙ ap (λ a. with_at a false (map is_busy_entry xs)) at) ∙ ap (λ c. set (set (map is_busy_entry xs) i false) i c) is_b ∙ noted-again is_busy_entry false i xs d ∙ ap (λ a. with_at a false (map is_busy_entry xs)) (sym none);
-  deadlines = deadlines ∙ ap (λ l. set l i m) (known.deadlines ∙ ap (λ a. with_at a None (map deadline_of_entry xs)) at) ∙ ap (λ c. set (set (map deadline_of_entry xs) i None) i c) is_m ∙ noted-again deadline_of_entry None i xs d ∙ ap (λ a. with_at a None (map deadline_of_entry xs)) (sym none);
+  busy = still-away is_busy_entry false o.at_hand p.at_hand o.busy.items p.busy.items i xs d b known.busy at is_b none busy;
+  pending = still-away is_pending_entry false o.at_hand p.at_hand o.pending.items p.pending.items i xs d w known.pending at is_w none pending;
+  deadlines = still-away deadline_of_entry None o.at_hand p.at_hand o.deadlines.items p.deadlines.items i xs d m known.deadlines at is_m none deadlines;
   busy_most = busy_most ∙ known.busy_most;
+  pending_most = pending_most ∙ known.pending_most;
   deadlines_most = deadlines_most ∙ known.deadlines_most;
 }
 
 pub outlook_joined : (o p : Outlook) (most : ℕ) (xs : List Entry) (y : Entry) → IsOutlook o most xs → p.at_hand ≡ o.at_hand → p.busy.items ≡ o.busy.items ++ is_busy_entry y ∷ [] → p.busy.most ≡ o.busy.most
-    → p.deadlines.items ≡ o.deadlines.items ++ deadline_of_entry y ∷ [] → p.deadlines.most ≡ o.deadlines.most → IsOutlook p most (xs ++ y ∷ [])
-outlook_joined o p most xs y known at busy busy_most deadlines deadlines_most = record {
+    → p.pending.items ≡ o.pending.items ++ is_pending_entry y ∷ [] → p.pending.most ≡ o.pending.most → p.deadlines.items ≡ o.deadlines.items ++ deadline_of_entry y ∷ [] → p.deadlines.most ≡ o.deadlines.most → IsOutlook p most (xs ++ y ∷ [])
+outlook_joined o p most xs y known at busy busy_most pending pending_most deadlines deadlines_most = record {
   within = subst (λ a. IsWithin a (length (xs ++ y ∷ []))) (sym at) (within-joined o.at_hand xs y known.within);
-  busy = busy ∙ ap (λ l. l ++ is_busy_entry y ∷ []) known.busy ∙ sym (noted-joined is_busy_entry false o.at_hand xs y known.within) ∙ ap (λ a. with_at a false (map is_busy_entry (xs ++ y ∷ []))) (sym at);
-  deadlines = deadlines ∙ ap (λ l. l ++ deadline_of_entry y ∷ []) known.deadlines ∙ sym (noted-joined deadline_of_entry None o.at_hand xs y known.within) ∙ ap (λ a. with_at a None (map deadline_of_entry (xs ++ y ∷ []))) (sym at);
+  busy = still-joined is_busy_entry false o.at_hand p.at_hand o.busy.items p.busy.items xs y known.busy known.within at busy;
+  pending = still-joined is_pending_entry false o.at_hand p.at_hand o.pending.items p.pending.items xs y known.pending known.within at pending;
+  deadlines = still-joined deadline_of_entry None o.at_hand p.at_hand o.deadlines.items p.deadlines.items xs y known.deadlines known.within at deadlines;
   busy_most = busy_most ∙ known.busy_most;
+  pending_most = pending_most ∙ known.pending_most;
   deadlines_most = deadlines_most ∙ known.deadlines_most;
 }
 
 pub outlook_removed : (o p : Outlook) (most : ℕ) (xs : List Entry) (i : ℕ) → i < length xs → IsOutlook o most xs → p.at_hand ≡ at_without o.at_hand i → p.busy.items ≡ remove o.busy.items i → p.busy.most ≡ o.busy.most
-    → p.deadlines.items ≡ remove o.deadlines.items i → p.deadlines.most ≡ o.deadlines.most → IsOutlook p most (remove xs i)
-outlook_removed o p most xs i inside known at busy busy_most deadlines deadlines_most = record {
+    → p.pending.items ≡ remove o.pending.items i → p.pending.most ≡ o.pending.most → p.deadlines.items ≡ remove o.deadlines.items i → p.deadlines.most ≡ o.deadlines.most → IsOutlook p most (remove xs i)
+outlook_removed o p most xs i inside known at busy busy_most pending pending_most deadlines deadlines_most = record {
   within = subst (λ a. IsWithin a (length (remove xs i))) (sym at) (within-removed o.at_hand xs i inside known.within);
-  busy = busy ∙ ap (λ l. remove l i) known.busy ∙ noted-removed is_busy_entry false o.at_hand xs i inside known.within ∙ ap (λ a. with_at a false (map is_busy_entry (remove xs i))) (sym at);
-  deadlines = deadlines ∙ ap (λ l. remove l i) known.deadlines ∙ noted-removed deadline_of_entry None o.at_hand xs i inside known.within ∙ ap (λ a. with_at a None (map deadline_of_entry (remove xs i))) (sym at);
+  busy = still-removed is_busy_entry false o.at_hand p.at_hand o.busy.items p.busy.items xs i known.busy inside known.within at busy;
+  pending = still-removed is_pending_entry false o.at_hand p.at_hand o.pending.items p.pending.items xs i known.pending inside known.within at pending;
+  deadlines = still-removed deadline_of_entry None o.at_hand p.at_hand o.deadlines.items p.deadlines.items xs i known.deadlines inside known.within at deadlines;
   busy_most = busy_most ∙ known.busy_most;
+  pending_most = pending_most ∙ known.pending_most;
   deadlines_most = deadlines_most ∙ known.deadlines_most;
 }
 
@@ -174,15 +196,17 @@ next-apart f xs i from b inside look =
     ∙ ap (λ c. first_of (if c then Some i else None) (first_from (λ c. c) from (set (map f xs) i false))) (looked f xs i from b inside look)
     ∙ sym (apart (map f xs) i from (omega (arith, inside, same))) ∙ first-mapped f (λ c. c) from xs
 
+-- of what is noted as marks
+module _ (f : Entry → Bool) (xs : List Entry) (at : Option ℕ) (items : List Bool) (known : items ≡ with_at at false (map f xs)) where
+  pub marked_alone : (from : ℕ) (noted : Option ℕ) → at ≡ None → noted ≡ first_from (λ b. b) from items → noted ≡ first_from f from xs
+  marked_alone from noted none is = is ∙ ap (first_from (λ b. b) from) (known ∙ ap (λ a. with_at a false (map f xs)) none) ∙ first-mapped f (λ b. b) from xs
+
+  pub marked_beside : IsWithin at (length xs) → (from : ℕ) (noted : Option ℕ) (i : ℕ) (b : Bool) → at ≡ Some i → noted ≡ first_from (λ b. b) from items → Looked f xs i from b → first_of (then_some b i) noted ≡ first_from f from xs
+  marked_beside within from noted i b here is look =
+      let inside : i < length xs = subst (λ a. IsWithin a (length xs)) here within in
+      ap (first_of (then_some b i)) (is ∙ ap (first_from (λ c. c) from) (known ∙ ap (λ a. with_at a false (map f xs)) here)) ∙ next-apart f xs i from b inside look
+
 module _ (o : Outlook) (most : ℕ) (xs : List Entry) (known : IsOutlook o most xs) where
-  pub busy_alone : (from : ℕ) (noted : Option ℕ) → o.at_hand ≡ None → noted ≡ first_from (λ b. b) from o.busy.items → noted ≡ first_from is_busy_entry from xs
-  busy_alone from noted none is = is ∙ ap (first_from (λ b. b) from) (known.busy ∙ ap (λ a. with_at a false (map is_busy_entry xs)) none) ∙ first-mapped is_busy_entry (λ b. b) from xs
-
-  pub busy_beside : (from : ℕ) (noted : Option ℕ) (i : ℕ) (b : Bool) → o.at_hand ≡ Some i → noted ≡ first_from (λ b. b) from o.busy.items → Looked is_busy_entry xs i from b → first_of (then_some b i) noted ≡ first_from is_busy_entry from xs
-  busy_beside from noted i b at is look =
-      let inside : i < length xs = subst (λ a. IsWithin a (length xs)) at known.within in
-      ap (first_of (then_some b i)) (is ∙ ap (first_from (λ c. c) from) (known.busy ∙ ap (λ a. with_at a false (map is_busy_entry xs)) at)) ∙ next-apart is_busy_entry xs i from b inside look
-
   -- the deadlines that have come
   come : (now : Moment) (from : ℕ) (ds : List (Option Moment)) → first_from (λ d. has_come d now) from ds ≡ first_from (λ b. b) from (map (λ d. has_come d now) ds)
   come now from ds = sym (first-mapped (λ d. has_come d now) (λ b. b) from ds)

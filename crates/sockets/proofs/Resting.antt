@@ -1,12 +1,11 @@
--- An entry that isn't busy has nothing to send, and waits for no hop.
-use Rattle.std.proofs.Common.{◌≡◌, ℕ, ◌<◌, ◌≤◌, get_or, cond, ◌&&◌, ◌||◌, not, nat_lt, Bool, true, false, true≢false, if◌then◌else◌, List, [], ◌∷◌, length, Option, Some, None, is_some, refl, sym, ◌∙◌, ap, arith}
+-- An entry that isn't busy has nothing to send, and waits for no hop; a connection that was accepted waits at no listener.
+use Rattle.std.proofs.Common.{◌≡◌, ℕ, cond, ◌||◌, nat_lt, Bool, true, false, if◌then◌else◌, List, [], ◌∷◌, length, Option, Some, None, is_some, refl, sym, ◌∙◌, ap, arith}
 use Rattle.std.proofs.lemmas.Bool.{or_parts}
 use Rattle.std.proofs.lemmas.Bool.Decides.{nat_tests}
 use Rattle.ipv4.specs.declared.addr.Addr.{Addr}
 use Rattle.clock.specs.declared.moment.Moment.{Moment}
-use Rattle.clock.specs.Moments.{has_come}
 use Rattle.tcp_state.specs.Due.{first_due}
-use Rattle.tcp_state.specs.Hop.{unheard_until, hopless_fate, after_hopless, end_of_hop_wait, hop_wait}
+use Rattle.tcp_state.specs.Hop.{hopless_fate, after_hopless}
 use Rattle.tcp_state.specs.View.{View}
 use Rattle.tcp_state.specs.declared.connection.Fate.{Fate}
 use Rattle.tcp_state.specs.declared.connection.Fate.TheVariants.{Stays}
@@ -16,15 +15,13 @@ use Rattle.sockets.specs.declared.entry.Entry.{Entry}
 use Rattle.sockets.specs.declared.entry.SocketId.{SocketId}
 use Rattle.sockets.specs.declared.role.Role.{Role}
 use Rattle.sockets.specs.declared.role.Role.TheVariants.{Idle, Listener, Connected, Datagrams}
-use Rattle.sockets.specs.Entries.{is_kept, dues_of, sends, with_role, listener_close_fate_of, role_after_listener_close, waits_at}
+use Rattle.sockets.specs.Entries.{is_kept, dues_of, with_role, listener_close_fate_of, role_after_listener_close, is_pending, waits_at, is_waiting_at}
 use Rattle.sockets.specs.Lost.{waits_until, give_up_fate_of, role_after_giving_up, give_up_at, is_hopless}
-use Rattle.std.specs.List.{count_by, AllWithin}
-use Rattle.marks.specs.First.{first_from}
+use Rattle.std.specs.List.{count_by}
 use Rattle.sockets.specs.GivenUp.{outbox_of}
 use Rattle.sockets.specs.Lost.{is_given_up}
-use Rattle.sockets.specs.Outlook.{is_busy, is_busy_entry}
-use Rattle.sockets.proofs.FirstFrom.{fails-before, fails-behind}
-use Rattle.sockets.proofs.Followed.{by_test}
+use Rattle.sockets.specs.GiveWay.{is_unanswered_at}
+use Rattle.sockets.specs.Outlook.{is_busy, is_pending_entry}
 
 none_of : {T : Type 0} (o : Option T) → is_some o ≡ false → o ≡ None
 none_of None e = refl
@@ -117,20 +114,17 @@ rests-datagrams lost now (Datagrams bound socket) e = let none = none_in socket.
 rests-datagrams lost now (Listener local backlog) e = refl
 rests-datagrams lost now (Idle buffers bound) e = refl
 
--- It sends nothing.
+-- What was accepted doesn't wait, and what doesn't wait is no unanswered one.
 
-rests-sends : (goes : Addr → Bool) (e : Entry) → is_busy_entry e ≡ false → sends goes e ≡ false
-rests-sends goes e quiet = let none = rests-dues e.role quiet in rw none refl
+pub accepted_waits_not : (listener : SocketId) (x : Entry) → is_pending_entry x ≡ false → is_waiting_at listener x ≡ false
+accepted_waits_not listener x accepted = by_role x.role accepted
+  where
+    by_role : (role : Role) → is_pending role ≡ false → waits_at listener role ≡ false
+    by_role (Connected c (Some l)) e = let bad : true ≡ false = e in cc
+    by_role (Connected c None) e = refl
+    by_role (Listener local backlog) e = refl
+    by_role (Idle buffers bound) e = refl
+    by_role (Datagrams bound socket) e = refl
 
-module _ (goes : Addr → Bool) (xs : List Entry) (from : ℕ) (before : AllWithin (λ (e : Entry). sends goes e ≡ false) xs 0 from) where
-  pub quiet_to : (place : ℕ) → first_from is_busy_entry from xs ≡ Some place → AllWithin (λ (e : Entry). sends goes e ≡ false) xs 0 place
-  quiet_to place is = λ k d low high.
-      by_test (nat_lt k from)
-      (λ early. before k d low (grind (arith, nat_tests)))
-      (λ late. rests-sends goes (get_or xs k d) (fails-before is_busy_entry from xs place is k d (grind (arith, nat_tests)) high))
-
-  pub quiet_past : first_from is_busy_entry from xs ≡ None → AllWithin (λ (e : Entry). sends goes e ≡ false) xs 0 (length xs)
-  quiet_past is = λ k d low high.
-      by_test (nat_lt k from)
-      (λ early. before k d low (grind (arith, nat_tests)))
-      (λ late. rests-sends goes (get_or xs k d) (fails-behind is_busy_entry from xs is k d (grind (arith, nat_tests)) high))
+pub answered_or_gone : (listener : SocketId) (x : Entry) → is_waiting_at listener x ≡ false → is_unanswered_at listener x ≡ false
+answered_or_gone listener x e = rw e refl

@@ -1,8 +1,8 @@
 -- A walk over the elements that a test tells to act: each stays changed or goes, and all others stay as they are.
 use Rattle.std.proofs.Common.{◌≡◌, ℕ, zero, suc, ◌+◌, ◌<◌, Bool, true, false, cond, List, [], ◌∷◌, ◌++◌, length, take, drop, get_or, set, Option, Some, None, refl, sym, ◌∙◌, ap, arith}
-use Rattle.std.specs.List.{retain_mut, remove, fold, sum_by}
+use Rattle.std.specs.List.{retain_mut, remove, fold, sum_by, count_by}
 use Rattle.marks.specs.First.{first_from}
-use Rattle.sockets.proofs.FirstFrom.{further, further-some, further-none, first-none, first-here, first-behind}
+use Rattle.sockets.proofs.FirstFrom.{further, further-some, further-none, first-none, first-here, first-behind, first_from-found}
 use Rattle.sockets.proofs.Followed.{by_test}
 
 module _ {X : Type 0} (acts keeps : X → Bool) (change : X → X) (idle : (x : X) → acts x ≡ false → (keeps x ≡ true) × (change x ≡ x)) where
@@ -121,3 +121,18 @@ module _ {X : Type 0} (acts : X → Bool) (f : X → ℕ) (idle : (x : X) → ac
 
   pub sums_out : (from : ℕ) (xs : List X) → first_from acts from xs ≡ None → sum_by f (drop from xs) ≡ 0
   sums_out from xs is = folds_out acts (λ (n : ℕ) (x : X). n + f x) adds_none 0 from xs is
+
+-- .. and so does a count of those themselves.
+module _ {X : Type 0} (test : X → Bool) where
+  counts_none : (x : X) → test x ≡ false → cond {A = ℕ} (test x) 1 0 ≡ 0
+  counts_none x fails = ap (λ b. cond b 1 0) fails
+
+  pub counts_on : (from : ℕ) (xs : List X) (p : ℕ) → first_from test from xs ≡ Some p → count_by test (drop from xs) ≡ 1 + count_by test (drop (p + 1) xs)
+  counts_on from [] p is = let none : None ≡ Some p = sym (first-none test from) ∙ is in cc
+  counts_on from (x ∷ xs) p is =
+      let here : test (get_or (x ∷ xs) p x) ≡ true = (first_from-found test from (x ∷ xs) p is).passes x in
+      let next : suc p ≡ p + 1 = omega arith in
+      sums_on test (λ y. cond (test y) 1 0) counts_none from (x ∷ xs) p x is ∙ ap (λ b. cond b 1 0 + count_by test (drop (suc p) (x ∷ xs))) here ∙ ap (λ k. 1 + count_by test (drop k (x ∷ xs))) next
+
+  pub counts_out : (from : ℕ) (xs : List X) → first_from test from xs ≡ None → count_by test (drop from xs) ≡ 0
+  counts_out from xs is = sums_out test (λ x. cond (test x) 1 0) counts_none from xs is

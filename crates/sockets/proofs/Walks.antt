@@ -1,11 +1,10 @@
 -- A walk over some entries of the table: each of these stays changed or is taken out, and the others stay as they are.
-use Rattle.std.proofs.Common.{◌≡◌, ℕ, suc, ◌+◌, ◌-◌, ◌<◌, ◌≤◌, Bool, true, false, if◌then◌else◌, List, [], ◌++◌, length, take, drop, get_or, set, Option, Some, None, refl, sym, ◌∙◌, ap, subst, arith, length-set}
+use Rattle.std.proofs.Common.{◌≡◌, ℕ, suc, ◌+◌, ◌-◌, ◌<◌, ◌≤◌, Bool, true, false, if◌then◌else◌, List, ◌++◌, length, take, drop, get_or, set, Some, None, sym, ◌∙◌, ap, arith, length-set}
 use Rattle.std.specs.List.{remove, refill, retain_mut}
-use Rattle.std.proofs.lemmas.List.{get_or_default}
 use Rattle.std.proofs.lemmas.List.Edits.{length-remove}
 use Rattle.marks.specs.First.{first_from}
 use Rattle.sockets.specs.declared.entry.Entry.{Entry}
-use Rattle.sockets.proofs.Firsts.{refill_set, remove-set}
+use Rattle.sockets.proofs.Firsts.{refill_set}
 use Rattle.sockets.proofs.FirstFrom.{first_from-found}
 use Rattle.sockets.specs.declared.index.Filed.{Filed}
 use Rattle.sockets.specs.declared.outlook.Outlook.{Outlook}

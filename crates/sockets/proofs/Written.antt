@@ -24,10 +24,14 @@ entry_written v h p f zs i x y same place lent at changed =
 pub found_lent : (v h : SocketsView) (p : Entry → Bool) (zs : List Entry) (i : ℕ) (x : Entry) → v ≡ h → position p h.entries ≡ Some i → zs ≡ v.entries → x ≡ get_or zs i x → find p h.entries ≡ Some x
 found_lent v h p zs i x same place lent at = find-position p h.entries i x place (at ∙ ap (λ ws. get_or ws i x) (lent ∙ ap (λ (w : SocketsView). w.entries) same))
 
--- Its place is one of the table still.
+-- Its place is one of the table.
+pub place_within : (v h : SocketsView) (p : Entry → Bool) (i : ℕ) → v ≡ h → position p h.entries ≡ Some i → i < length v.entries
+place_within v h p i same place = subst (λ (w : SocketsView). i < length w.entries) (sym same) (position-lt-length p h.entries i place)
+
+-- It is one still.
 pub place_written : (v h : SocketsView) (p : Entry → Bool) (zs : List Entry) (i : ℕ) (y : Entry) → v ≡ h → position p h.entries ≡ Some i → zs ≡ v.entries → i < length (refill (length v.entries) v.entries (set zs i y))
 place_written v h p zs i y same place lent =
-    let here : i < length v.entries = subst (λ (w : SocketsView). i < length w.entries) (sym same) (position-lt-length p h.entries i place) in
+    let here : i < length v.entries = place_within v h p i same place in
     subst (λ ws. i < length ws) (sym (refill_set v.entries zs i y lent)) (subst (λ n. i < n) (sym (length-set v.entries i y)) here)
 
 -- An entry whose role was changed where it stands.

@@ -13,7 +13,7 @@ use crate::role::Role;
 use crate::sizes::LEAST_BUFFER;
 use crate::sockets::Sockets;
 use crate::state::SocketState;
-use crate::{index, ports, table};
+use crate::{found, index, ports, table};
 use clock::Moment;
 use ipv4::{Addr, Endpoint, Pair};
 use std::alloc::{AllocError, Global};
@@ -127,7 +127,10 @@ impl Sockets {
         let addr = local.addr;
         self.last_port = self.last_port_bound(local, port);
         self.outlook.turn_to(&self.entries, place);
-        self.entries[place].role.bind(Endpoint { addr, port });
+        let entry = &mut self.entries[place];
+        let before = index::filing(entry);
+        entry.role.bind(Endpoint { addr, port });
+        index::refile(&mut self.ends, before, entry);
         Ok(())
     }
 
@@ -169,11 +172,11 @@ impl Sockets {
             return Err(Refusal::EADDRNOTAVAIL);
         }
         if local.port == 0 {
-            return ports::first_bindable(&self.entries, kind, self.last_port).ok_or(
+            return ports::first_bindable(&self.entries, &self.ends, kind, self.last_port).ok_or(
                 Refusal::EADDRINUSE,
             );
         }
-        if !ports::is_bindable(&self.entries, kind, local.port) {
+        if !ports::is_bindable(&self.entries, &self.ends, kind, local.port) {
             return Err(Refusal::EADDRINUSE);
         }
         Ok(local.port)
@@ -300,9 +303,11 @@ impl Sockets {
         let addr = self.addr;
         self.last_port = self.last_port_after(bound, port);
         let local = Endpoint { addr, port };
-        index::file(&mut self.ends, id, local, peer);
         self.outlook.turn_to(&self.entries, place);
-        self.entries[place].role.connect(now, local, peer, isn);
+        let entry = &mut self.entries[place];
+        let before = index::filing(entry);
+        entry.role.connect(now, local, peer, isn);
+        index::refile(&mut self.ends, before, entry);
         Ok(())
     }
 
@@ -310,7 +315,7 @@ impl Sockets {
     pub fn would_connect(&self, id: SocketId, peer: Endpoint, is_routed: bool) -> Option<Pair>
         ensures { result ≡ pair_connected self.now id peer is_routed }
     {
-        let place = table::socket_of(&self.entries, id)?;
+        let place = table::socket_of(&self.entries, self.outlook.at_hand(), id)?;
         let bound = may_open(&self.entries[place].role).ok()?;
         self.may_reach(peer, is_routed).ok()?;
         let addr = self.addr;
@@ -339,12 +344,12 @@ impl Sockets {
         let addr = self.addr;
         match bound {
             Some(Endpoint { port, .. }) => {
-                if table::is_pair_held(&self.entries, Endpoint { addr, port }, peer) {
+                if found::is_pair_held(&self.entries, &self.ends, Endpoint { addr, port }, peer) {
                     return Err(Refusal::EADDRINUSE);
                 }
                 Ok(port)
             }
-            None => ports::first_free(&self.entries, addr, self.last_port, peer).ok_or(
+            None => ports::first_free(&self.entries, &self.ends, addr, self.last_port, peer).ok_or(
                 Refusal::EADDRINUSE,
             ),
         }
@@ -459,7 +464,7 @@ impl Sockets {
         ensures absent { IfErr result (λ e. (e ≡ Refusal.EBADF) × (find (is_socket id) self.now.entries ≡ None)) }
         ensures place { IfOk result (λ place. position (is_socket id) self.now.entries ≡ Some place) }
     {
-        table::socket_of(&self.entries, id).ok_or(Refusal::EBADF)
+        table::socket_of(&self.entries, self.outlook.at_hand(), id).ok_or(Refusal::EBADF)
     }
 }
 

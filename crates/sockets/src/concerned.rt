@@ -5,9 +5,9 @@ ghost use Rattle.sockets.specs.Ready.{listener_of, socket_named};
 
 use crate::arrival::is_opening;
 use crate::entry::{Entry, SocketId};
+use crate::found;
 use crate::role::Role;
 use crate::sockets::Sockets;
-use crate::{index, table};
 use ipv4::{Addr, Endpoint};
 use tcp_segment::TcpView;
 
@@ -22,7 +22,7 @@ impl Sockets {
         ensures { result ≡ socket_of_segment self.now source segment.now }
     {
         let (local, peer) = self.ends(source, segment);
-        match index::connection_between(&self.entries, &self.ends, local, peer) {
+        match found::connection_between(&self.entries, &self.ends, local, peer) {
             Some(place) => self.entries[place].socket_named(),
             None => self.listener_for(segment),
         }
@@ -33,7 +33,7 @@ impl Sockets {
     pub fn socket_between(&self, local: Endpoint, peer: Endpoint) -> Option<SocketId>
         ensures { result ≡ socket_between self.now local peer }
     {
-        let place = index::connection_between(&self.entries, &self.ends, local, peer)?;
+        let place = found::connection_between(&self.entries, &self.ends, local, peer)?;
         self.entries[place].socket_named()
     }
 
@@ -41,7 +41,7 @@ impl Sockets {
     pub fn socket_at_port(&self, port: u16) -> Option<SocketId>
         ensures { result ≡ socket_at_port self.now port }
     {
-        let place = table::datagrams_at(&self.entries, port)?;
+        let place = found::datagrams_at(&self.entries, &self.ends, port)?;
         Some(self.entries[place].id)
     }
 
@@ -52,7 +52,7 @@ impl Sockets {
         if !is_opening(segment) {
             return None;
         }
-        let place = table::listener_at(&self.entries, segment.destination())?;
+        let place = found::listener_at(&self.entries, &self.ends, segment.destination())?;
         Some(self.entries[place].id)
     }
 }

@@ -8,7 +8,7 @@ use crate::entry::{Kind, SocketId};
 use crate::refusal::Refusal;
 use crate::role::Role;
 use crate::sockets::Sockets;
-use crate::{ports, table};
+use crate::{found, index, ports};
 use ipv4::{Addr, Endpoint};
 use udp::UdpView;
 use udp_socket::MOST_OCTETS;
@@ -56,12 +56,12 @@ impl Sockets {
         let now = self.kept;
         let identification = self.identification;
         self.outlook.turn_to(&self.entries, place);
-        if !self.entries[place]
-            .role
-            .send_to(now, local, peer, identification, octets)
-        {
+        let entry = &mut self.entries[place];
+        let before = index::filing(entry);
+        if !entry.role.send_to(now, local, peer, identification, octets) {
             return Err(Refusal::EAGAIN);
         }
+        index::refile(&mut self.ends, before, entry);
         self.last_port = last_port;
         self.identification = identification.wrapping_add(1);
         Ok(octets.len())
@@ -75,9 +75,12 @@ impl Sockets {
         if let Some(local) = bound {
             return Ok(local);
         }
-        let port = ports::first_bindable(&self.entries, Kind::Udp, self.last_port).ok_or(
-            Refusal::EADDRINUSE,
-        )?;
+        let port = ports::first_bindable(
+            &self.entries,
+            &self.ends,
+            Kind::Udp,
+            self.last_port,
+        ).ok_or(Refusal::EADDRINUSE)?;
         let addr = self.addr;
         Ok(Endpoint { addr, port })
     }
@@ -107,7 +110,8 @@ impl Sockets {
         ensures answer { result ≡ reception self.old datagram.now }
         ensures after { self.new ≡ after_reception self.old source datagram.now }
     {
-        let Some(place) = table::datagrams_at(&self.entries, datagram.destination()) else {
+        let Some(place) = found::datagrams_at(&self.entries, &self.ends, datagram.destination())
+        else {
             return Reception::NoSocket;
         };
         let from = Endpoint {

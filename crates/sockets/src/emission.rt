@@ -1,6 +1,6 @@
 //! What the table sends: segments (RFC 9293 section 3.8), and datagrams in parts (RFC 791 section 3.2).
 
-ghost use Rattle.std.specs.Prelude.{◌≡◌, ◌≤◌, length, Bool, Some};
+ghost use Rattle.std.specs.Prelude.{◌≡◌, ◌≤◌, length, Bool, Some, IfSome, option_map, slice_get};
 ghost use Rattle.ipv4.specs.declared.addr.Addr.{Addr};
 ghost use Rattle.sockets.specs.Emission.{IsWithin, IsNextAt};
 ghost use Rattle.sockets.specs.Entries.{IsDueAt};
@@ -8,6 +8,7 @@ ghost use Rattle.sockets.specs.Entries.{IsDueAt};
 use crate::sockets::Sockets;
 use crate::table;
 use clock::Moment;
+use ipv4::Endpoint;
 use tcp_state::{Due, MOST_SEGMENT};
 use udp::{MOST_IN_FRAGMENT, Part};
 
@@ -29,9 +30,43 @@ pub enum Emitted {
     Datagram(Part),
 }
 
+/// The first of what an entry has to send.
+#[derive(Clone, Copy)]
+pub struct NextDue {
+    /// The place of the entry in the table.
+    pub place: usize,
+    /// To whom it is.
+    pub peer: Endpoint,
+    /// What it is.
+    pub outgoing: Outgoing,
+}
+
 #[tactic(auto, using(crate::proofs::Firsts::firsts))]
 impl Sockets {
     ghost use Rattle.sockets.specs.Emission.{emitted, emitted_front, after_segment_sent};
+    ghost use Rattle.sockets.specs.declared.entry.Entry.{Entry};
+    ghost use Rattle.sockets.specs.Entries.{dues_of};
+    ghost use Rattle.sockets.specs.Outlook.{has_due};
+    ghost use Rattle.marks.specs.First.{first_from};
+
+    /// What the first entry from the place `from` on that has something to send sends first; None where none has.
+    pub fn next_due(&self, mut from: usize) -> Option<NextDue>
+        ensures place { option_map (λ due. due.place) result ≡ first_from has_due from self.now.entries }
+        ensures due { IfSome result (λ due. (e : Entry) → slice_get self.now.entries due.place ≡ Some e → slice_get (dues_of e.role) 0 ≡ Some (due.peer, due.outgoing)) }
+    {
+        let entries = self.entries();
+        while let Some(place) = self.outlook.next_to_ask(from) {
+            if let Some((peer, outgoing)) = entries[place].due_at(0) {
+                return Some(NextDue {
+                    place,
+                    peer,
+                    outgoing,
+                });
+            }
+            from = place + 1;
+        }
+        None
+    }
 
     /// Writes what the entry in this place has to send, a segment or a part of a datagram, from `out[0]` on, and answers what was written. The
     /// entry is taken out where it is over then. Whatever the test by which it is the first that may go out, this is the emission by that test.

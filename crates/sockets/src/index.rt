@@ -1,20 +1,27 @@
-//! The connections of the table by their two ends, so that a segment finds its own by binary search.
+//! The entries of the table by their local port and their peer, so that what arrives finds its own by binary search.
 
-ghost use Rattle.std.specs.Prelude.{◌≡◌, ◌<◌, List, length, position};
-ghost use Rattle.sockets.specs.Entries.{is_between};
-ghost use Rattle.sockets.specs.Ids.{AreInOrder};
-ghost use Rattle.sockets.specs.Index.{key_of, filed, filed_at, is_before, AreSorted, inserted, index_of, is_live_as};
+ghost use Rattle.std.specs.Prelude.{◌≡◌, ◌<◌, List, length};
+ghost use Rattle.sockets.specs.Index.{key_of, filed, is_before, AreSorted, inserted, with_filed, no_peer};
 ghost use Rattle.sockets.specs.declared.index.Filed.{Filed};
 
 use crate::entry::{Entry, SocketId};
-use crate::table::place_of;
+use crate::role::Role;
 use fixed_vec::FixedVec;
-use ipv4::Endpoint;
+use ipv4::{Addr, Endpoint};
 
 /// How many ports a host has.
 const PORTS: u64 = 65_536;
 
-/// A connection of the table, in any state: the number of its two ends, by which it is found, and the id of its entry.
+/// How many peers there may be: so many addresses, and at each so many ports.
+pub(crate) const PEERS: u64 = 281_474_976_710_656;
+
+/// The peer of what has none.
+const NO_PEER: Endpoint = Endpoint {
+    addr: Addr([0; 4]),
+    port: 0,
+};
+
+/// An entry of the table that has a local port: the number of that and of its peer, by which it is found, and its id.
 #[derive(Clone, Copy, PartialEq, Eq, Debug)]
 pub struct Filed {
     pub(crate) key: u64,
@@ -22,7 +29,7 @@ pub struct Filed {
 }
 
 impl Filed {
-    /// Whether this one stands before another: by the ends, and at the same ends by the id.
+    /// Whether this one stands before another: by the key, and at the same key by the id.
     fn is_before(&self, other: Filed) -> bool
         ensures { result ≡ is_before self.now other }
     {
@@ -30,80 +37,86 @@ impl Filed {
     }
 }
 
-/// The two ends of a connection as one number, which halves compare. The local address is that of the table, so it has no part in it.
-fn key_of(local: Endpoint, peer: Endpoint) -> u64
-    ensures { result ≡ key_of local peer }
-{
-    let host = u64::from(u32::from_be_bytes(peer.addr.0));
-    (host * PORTS + u64::from(peer.port)) * PORTS + u64::from(local.port)
+impl Role {
+    ghost use Rattle.sockets.specs.Index.{port_and_peer};
+
+    /// The local port of an entry and its peer, where it has a port: a connection in any state, a listener, or a socket that is bound.
+    fn port_and_peer(&self) -> Option<(u16, Endpoint)>
+        ensures { result ≡ port_and_peer self.now }
+    {
+        match self {
+            Role::Connected { connection, .. } => {
+                Some((connection.local().port, connection.peer()))
+            }
+            Role::Listener { local, .. } => Some((local.port, NO_PEER)),
+            Role::Idle { bound, .. } | Role::Datagrams { bound, .. } => {
+                bound.map(|local| (local.port, NO_PEER))
+            }
+        }
+    }
 }
 
-/// Files a further connection, which the id names.
-pub(crate) fn file(index: &mut FixedVec<Filed>, id: SocketId, local: Endpoint, peer: Endpoint)
+/// A local port and a peer as one number, which halves compare. The local address is that of the table, so it has no part in it.
+pub(crate) fn key_of(port: u16, peer: Endpoint) -> u64
+    ensures { result ≡ key_of port peer }
+{
+    let host = u64::from(u32::from_be_bytes(peer.addr.0));
+    u64::from(port) * PEERS + (host * PORTS + u64::from(peer.port))
+}
+
+/// The key of what has a local port and no peer.
+pub(crate) fn key_at(port: u16) -> u64
+    ensures { result ≡ key_of port no_peer }
+{
+    key_of(port, NO_PEER)
+}
+
+/// What an entry is filed as, where it has a local port.
+pub(crate) fn filing(entry: &Entry) -> Option<Filed>
+    ensures { result ≡ filed entry.now }
+{
+    let (port, peer) = entry.role.port_and_peer()?;
+    let key = key_of(port, peer);
+    Some(Filed { key, id: entry.id })
+}
+
+/// Files the entry as what it is now, where it was filed as this.
+pub(crate) fn refile(index: &mut FixedVec<Filed>, before: Option<Filed>, entry: &Entry)
+    requires { (rest : List Filed) × AreSorted rest × (index.old.items ≡ with_filed before rest) × (length rest < index.old.most) }
+    ensures most { index.new.most ≡ index.old.most }
+    ensures items { (rest : List Filed) → AreSorted rest → index.old.items ≡ with_filed before rest → index.new.items ≡ with_filed (filed entry.now) rest }
+{
+    let after = filing(entry);
+    if before == after {
+        return;
+    }
+    unfile(index, before);
+    file(index, after);
+}
+
+/// Files a further entry.
+pub(crate) fn file(index: &mut FixedVec<Filed>, filed: Option<Filed>)
     requires sorted { AreSorted index.old.items }
     requires room { length index.old.items < index.old.most }
     ensures most { index.new.most ≡ index.old.most }
-    ensures items { index.new.items ≡ inserted (filed_at id local peer) index.old.items }
+    ensures items { index.new.items ≡ with_filed filed index.old.items }
 {
-    let key = key_of(local, peer);
-    let filed = Filed { key, id };
+    let Some(filed) = filed else {
+        return;
+    };
     let place = index.partition_point(|other| other.is_before(filed));
     index.insert(place, filed);
 }
 
-/// What an entry is filed as: a connection, in any state, and no other.
-pub(crate) fn filing(entry: &Entry) -> Option<Filed>
-    ensures { result ≡ filed entry.now }
-{
-    let (local, peer) = entry.role.ends()?;
-    let key = key_of(local, peer);
-    Some(Filed { key, id: entry.id })
-}
-
-/// Takes out a connection that is filed.
-pub(crate) fn unfile(index: &mut FixedVec<Filed>, filed: Filed)
-    requires { (rest : List Filed) × AreSorted rest × (index.old.items ≡ inserted filed rest) }
+/// Takes out an entry that is filed as this.
+pub(crate) fn unfile(index: &mut FixedVec<Filed>, filed: Option<Filed>)
+    requires { (rest : List Filed) × AreSorted rest × (index.old.items ≡ with_filed filed rest) }
     ensures most { index.new.most ≡ index.old.most }
-    ensures items { (rest : List Filed) → AreSorted rest → index.old.items ≡ inserted filed rest → index.new.items ≡ rest }
+    ensures items { (rest : List Filed) → AreSorted rest → index.old.items ≡ with_filed filed rest → index.new.items ≡ rest }
 {
+    let Some(filed) = filed else {
+        return;
+    };
     let place = index.partition_point(|other| other.is_before(filed));
     index.remove(place);
-}
-
-/// The place of the connection from `local` to `peer`, in any state but CLOSED: a binary search finds the first that is filed by the two ends, and of those
-/// that are, it is the first that is not CLOSED.
-pub(crate) fn connection_between(
-    entries: &[Entry],
-    index: &[Filed],
-    local: Endpoint,
-    peer: Endpoint,
-) -> Option<usize>
-    requires order { AreInOrder entries.now }
-    requires index { index.now ≡ index_of entries.now }
-    ensures { result ≡ position (is_between local peer) entries.now }
-{
-    let key = key_of(local, peer);
-    let first = index.partition_point(|filed| filed.key < key);
-    for at in first..index.len() {
-        let filed = &index[at];
-        if filed.key != key {
-            return None;
-        }
-        if let Some(place) = live_as(entries, filed.id, local, peer) {
-            return Some(place);
-        }
-    }
-    None
-}
-
-/// The place of the entry that `id` names, where it is a connection from `local` to `peer`, in any state but CLOSED.
-fn live_as(entries: &[Entry], id: SocketId, local: Endpoint, peer: Endpoint) -> Option<usize>
-    requires { AreInOrder entries.now }
-    ensures { result ≡ position (is_live_as id local peer) entries.now }
-{
-    let place = place_of(entries, id)?;
-    entries[place]
-        .role
-        .is_live_between(local, peer)
-        .then_some(place)
 }

@@ -10,6 +10,7 @@ mod datagrams;
 pub mod duties;
 mod emission;
 mod entry;
+mod found;
 mod given_up;
 pub mod giving;
 mod index;
@@ -35,7 +36,7 @@ mod way;
 
 pub use calls::{LEAST_KEEPALIVE, MOST_BACKLOG};
 pub use datagrams::Reception;
-pub use emission::{Emitted, Outgoing};
+pub use emission::{Emitted, NextDue, Outgoing};
 pub use entry::{Entry, Kind, SocketId};
 pub use given_up::Losses;
 pub use needs::Need;

@@ -10,7 +10,7 @@ use crate::datagrams::Reception;
 use crate::entry::Entry;
 use crate::role::Role;
 use crate::sockets::Sockets;
-use crate::{index, replies, table};
+use crate::{found, replies, table};
 use ipv4::Addr;
 use tcp_segment::{Head, TcpView};
 use udp::UdpView;
@@ -39,7 +39,7 @@ impl Sockets {
         ensures { result ≡ need self.now source segment.now }
     {
         let (local, peer) = self.ends(source, segment);
-        match index::connection_between(&self.entries, &self.ends, local, peer) {
+        match found::connection_between(&self.entries, &self.ends, local, peer) {
             Some(place) if self.entries[place].role.would_reject(segment) => Some(Need::Reply),
             Some(_) => None,
             None => self.need_alone(segment),
@@ -50,7 +50,8 @@ impl Sockets {
     pub fn would_receive(&self, datagram: &UdpView<'_>) -> Reception
         ensures { result ≡ reception self.now datagram.now }
     {
-        let Some(place) = table::datagrams_at(&self.entries, datagram.destination()) else {
+        let Some(place) = found::datagrams_at(&self.entries, &self.ends, datagram.destination())
+        else {
             return Reception::NoSocket;
         };
         if self.entries[place]
@@ -67,7 +68,7 @@ impl Sockets {
     fn need_alone(&self, segment: &TcpView<'_>) -> Option<Need>
         ensures { result ≡ need_alone self.now segment.now }
     {
-        match table::listener_at(&self.entries, segment.destination()) {
+        match found::listener_at(&self.entries, &self.ends, segment.destination()) {
             None => need_of_answer(replies::answer_to(segment)),
             Some(place) if is_opening(segment) => Some(self.need_at(&self.entries[place])),
             Some(_) => need_of_answer(replies::answer_at_listener(segment)),
@@ -91,7 +92,7 @@ impl Sockets {
     pub(crate) fn is_backlog_full(&self, listener: &Entry) -> bool
         ensures { result ≡ is_backlog_full self.now listener.now }
     {
-        table::waiting_at(&self.entries, listener.id) >= listener.role.backlog()
+        self.outlook.waiting_at(&self.entries, listener.id) >= listener.role.backlog()
     }
 }
 

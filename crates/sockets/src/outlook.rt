@@ -1,25 +1,27 @@
-//! What the table knows of its entries without a walk over them: which are busy, and the least of their deadlines.
+//! What the table knows of its entries without a walk over them: which are busy, which nobody has accepted, and the least of their deadlines.
 
-ghost use Rattle.std.specs.Prelude.{◌≡◌, ◌<◌, ◌≤◌, ◌++◌, [], ◌∷◌, ℕ, List, length, remove, fold, None, Some, IfOk};
+ghost use Rattle.std.specs.Prelude.{◌≡◌, ◌<◌, ◌≤◌, ◌++◌, [], ◌∷◌, ℕ, List, length, remove, fold, count_by, None, Some, IfOk, MatchOption};
 ghost use Rattle.clock.specs.Moments.{has_come, sooner};
 ghost use Rattle.marks.specs.First.{first_from};
 ghost use Rattle.marks.specs.declared.TheConstants.{MOST};
-ghost use Rattle.sockets.specs.Entries.{deadline_of};
-ghost use Rattle.sockets.specs.Outlook.{is_busy_entry, first_of, at_without, IsOutlook};
+ghost use Rattle.sockets.specs.Entries.{deadline_of, is_waiting_at};
+ghost use Rattle.sockets.specs.GiveWay.{is_unanswered_at, first_id};
+ghost use Rattle.sockets.specs.Outlook.{is_busy_entry, AreQuiet, is_pending_entry, first_of, at_without, IsOutlook};
 ghost use Rattle.sockets.specs.declared.entry.Entry.{Entry};
 
-use crate::entry::Entry;
+use crate::entry::{Entry, SocketId};
 use clock::{Moment, sooner};
 use fixed_vec::FixedVec;
 use marks::{Deadlines, Marks};
 use std::alloc::{AllocError, Global};
 
-/// Which of the entries are busy, and their deadlines, by place. Of the entry at hand nothing is noted, and it is asked itself: so what happens to one entry
-/// again and again costs nothing here.
+/// Which of the entries are busy, which are connections that nobody has accepted, and their deadlines, by place. Of the entry at hand nothing is noted, and it
+/// is asked itself: so what happens to one entry again and again costs nothing here.
 #[derive(Drop)]
 pub(crate) struct Outlook {
     at_hand: Option<usize>,
     busy: Marks,
+    pending: Marks,
     deadlines: Deadlines,
 }
 
@@ -32,8 +34,16 @@ impl Outlook {
         Ok(Outlook {
             at_hand: None,
             busy: Marks::new(alloc, most)?,
+            pending: Marks::new(alloc, most)?,
             deadlines: Deadlines::new(alloc, most)?,
         })
+    }
+
+    /// The place of the entry at hand, to which something happened last.
+    pub(crate) fn at_hand(&self) -> Option<usize>
+        ensures { result ≡ self.now.at_hand }
+    {
+        self.at_hand
     }
 
     /// Something is about to happen to the entry in this place, and to no other.
@@ -46,6 +56,7 @@ impl Outlook {
         if self.at_hand != Some(place) {
             self.turn_away(entries);
             self.busy.set(place, false);
+            self.pending.set(place, false);
             self.deadlines.set(place, None);
             self.at_hand = Some(place);
         }
@@ -60,6 +71,7 @@ impl Outlook {
         if let Some(place) = self.at_hand {
             let role = &entries[place].role;
             self.busy.set(place, role.is_busy());
+            self.pending.set(place, role.is_pending());
             self.deadlines.set(place, role.deadline());
             self.at_hand = None;
         }
@@ -71,6 +83,7 @@ impl Outlook {
         ensures { (most : ℕ) (entries : List Entry) → IsOutlook self.old most entries → IsOutlook self.new most (entries ++ entry.now ∷ []) }
     {
         self.busy.push(entry.role.is_busy());
+        self.pending.push(entry.role.is_pending());
         self.deadlines.push(entry.role.deadline());
     }
 
@@ -80,6 +93,7 @@ impl Outlook {
         ensures { (most : ℕ) (entries : List Entry) → place < length entries → IsOutlook self.old most entries → IsOutlook self.new most (remove entries place) }
     {
         self.busy.remove(place);
+        self.pending.remove(place);
         self.deadlines.remove(place);
         self.at_hand = at_without(self.at_hand, place);
     }
@@ -97,6 +111,87 @@ impl Outlook {
             }
             None => noted,
         }
+    }
+
+    /// The place of the first entry from the place `from` on that may be busy: one that is noted so, or the one at hand, which isn't asked.
+    pub(crate) fn next_to_ask(&self, from: usize) -> Option<usize>
+        ensures { (most : ℕ) (entries : List Entry) → IsOutlook self.now most entries
+            → MatchOption result (AreQuiet entries from (length entries)) (λ place. (from ≤ place) × (place < length entries) × AreQuiet entries from place) }
+    {
+        let noted = self.busy.first_from(from);
+        match self.at_hand {
+            Some(place) if from <= place => first_of(Some(place), noted),
+            _ => noted,
+        }
+    }
+
+    /// The place of the first connection from the place `from` on that nobody has accepted.
+    fn next_pending(&self, entries: &FixedVec<Entry>, from: usize) -> Option<usize>
+        requires known { (most : ℕ) × IsOutlook self.now most entries.now.items }
+        ensures { result ≡ first_from is_pending_entry from entries.now.items }
+    {
+        let noted = self.pending.first_from(from);
+        match self.at_hand {
+            Some(place) => {
+                let is_next = from <= place && entries[place].role.is_pending();
+                first_of(is_next.then_some(place), noted)
+            }
+            None => noted,
+        }
+    }
+
+    /// The place of the first connection from the place `from` on that waits at `listener`. What waits is one that nobody has accepted.
+    pub(crate) fn next_waiting(
+        &self,
+        entries: &FixedVec<Entry>,
+        mut from: usize,
+        listener: SocketId,
+    ) -> Option<usize>
+        requires known { (most : ℕ) × IsOutlook self.now most entries.now.items }
+        ensures { result ≡ first_from (is_waiting_at listener) from entries.now.items }
+    {
+        while let Some(place) = self.next_pending(entries, from) {
+            if entries[place].role.waits_at(listener) {
+                return Some(place);
+            }
+            from = place + 1;
+        }
+        None
+    }
+
+    /// How many connections wait at a listener, in SYN-RECEIVED or past it.
+    pub(crate) fn waiting_at(&self, entries: &FixedVec<Entry>, listener: SocketId) -> usize
+        requires known { (most : ℕ) × IsOutlook self.now most entries.now.items }
+        ensures { result ≡ count_by (is_waiting_at listener) entries.now.items }
+    {
+        let _held = entries.len();
+        let mut count = 0;
+        let mut from = 0;
+        while let Some(place) = self.next_waiting(entries, from, listener) {
+            count += 1;
+            from = place + 1;
+        }
+        count
+    }
+
+    /// The id of the first connection that waits at `listener`, and whose SYN-ACK went out a second ago or more and is not answered.
+    pub(crate) fn unanswered_at(
+        &self,
+        entries: &FixedVec<Entry>,
+        listener: SocketId,
+    ) -> Option<SocketId>
+        requires known { (most : ℕ) × IsOutlook self.now most entries.now.items }
+        ensures { result ≡ first_id (is_unanswered_at listener) entries.now.items }
+    {
+        let mut from = 0;
+        while let Some(place) = self.next_waiting(entries, from, listener) {
+            let entry = &entries[place];
+            if entry.role.is_unanswered_at(listener) {
+                return Some(entry.id);
+            }
+            from = place + 1;
+        }
+        None
     }
 
     /// The place of the first entry from the place `from` on whose deadline has come at this moment.
@@ -133,7 +228,7 @@ impl Outlook {
 }
 
 /// The first of two places, as far as there are any.
-fn first_of(a: Option<usize>, b: Option<usize>) -> Option<usize>
+pub(crate) fn first_of(a: Option<usize>, b: Option<usize>) -> Option<usize>
     ensures { result ≡ first_of a b }
 {
     match (a, b) {

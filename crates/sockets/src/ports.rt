@@ -1,10 +1,13 @@
 //! Dynamic ports (RFC 6335 section 6): 49152 to 65535, given in turn.
 
 ghost use Rattle.std.specs.Prelude.{ℕ, Bool, ◌≡◌, ◌+◌, ◌-◌, ◌<◌, ◌≤◌, IfSome};
+ghost use Rattle.sockets.specs.Ids.{AreInOrder};
+ghost use Rattle.sockets.specs.Index.{index_of};
 ghost use Rattle.sockets.specs.Ports.{port_after, first_port, is_free_port, is_bindable};
 
 use crate::entry::{Entry, Kind};
-use crate::table;
+use crate::found;
+use crate::index::Filed;
 use ipv4::{Addr, Endpoint};
 
 /// The first dynamic port.
@@ -43,37 +46,56 @@ fn first_that<F: Fn(u16) -> bool>(last: u16, passes: F) -> Option<u16>
 }
 
 /// The first dynamic port after `last` to which no TCP socket is bound and from which no entry holds a connection to `peer`.
-pub(crate) fn first_free(entries: &[Entry], addr: Addr, last: u16, peer: Endpoint) -> Option<u16>
-    requires { FIRST ≤ last }
+pub(crate) fn first_free(
+    entries: &[Entry],
+    index: &[Filed],
+    addr: Addr,
+    last: u16,
+    peer: Endpoint,
+) -> Option<u16>
+    requires from_first { FIRST ≤ last }
+    requires order { AreInOrder entries.now }
+    requires index { index.now ≡ index_of entries.now }
     ensures within { IfSome result (λ port. FIRST ≤ port) }
     ensures first { result ≡ first_port (is_free_port entries.now addr peer) last 0 COUNT }
 {
-    first_that(last, |port| is_free(entries, addr, port, peer))
+    first_that(last, |port| is_free(entries, index, addr, port, peer))
 }
 
 /// The first dynamic port after `last` to which a socket of this kind may be bound.
-pub(crate) fn first_bindable(entries: &[Entry], kind: Kind, last: u16) -> Option<u16>
-    requires { FIRST ≤ last }
+pub(crate) fn first_bindable(
+    entries: &[Entry],
+    index: &[Filed],
+    kind: Kind,
+    last: u16,
+) -> Option<u16>
+    requires from_first { FIRST ≤ last }
+    requires order { AreInOrder entries.now }
+    requires index { index.now ≡ index_of entries.now }
     ensures within { IfSome result (λ port. FIRST ≤ port) }
     ensures first { result ≡ first_port (is_bindable kind entries.now) last 0 COUNT }
 {
-    first_that(last, |port| is_bindable(entries, kind, port))
+    first_that(last, |port| is_bindable(entries, index, kind, port))
 }
 
 /// Whether a socket of this kind may be bound to a port: no entry over TCP has it, or no UDP socket is bound to it.
-pub(crate) fn is_bindable(entries: &[Entry], kind: Kind, port: u16) -> bool
+pub(crate) fn is_bindable(entries: &[Entry], index: &[Filed], kind: Kind, port: u16) -> bool
+    requires order { AreInOrder entries.now }
+    requires index { index.now ≡ index_of entries.now }
     ensures { result ≡ is_bindable kind entries.now port }
 {
     match kind {
-        Kind::Tcp => !table::is_port_taken(entries, port),
-        Kind::Udp => !table::is_datagram_port_taken(entries, port),
+        Kind::Tcp => !found::is_port_taken(entries, index, port),
+        Kind::Udp => !found::is_datagram_port_taken(entries, index, port),
     }
 }
 
 /// Whether no TCP socket is bound to our port `port`, and no entry holds a connection from it to `peer`.
-fn is_free(entries: &[Entry], addr: Addr, port: u16, peer: Endpoint) -> bool
+fn is_free(entries: &[Entry], index: &[Filed], addr: Addr, port: u16, peer: Endpoint) -> bool
+    requires order { AreInOrder entries.now }
+    requires index { index.now ≡ index_of entries.now }
     ensures { result ≡ is_free_port entries.now addr peer port }
 {
-    !table::is_port_bound(entries, port)
-        && !table::is_pair_held(entries, Endpoint { addr, port }, peer)
+    !found::is_port_bound(entries, index, port)
+        && !found::is_pair_held(entries, index, Endpoint { addr, port }, peer)
 }

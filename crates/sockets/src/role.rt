@@ -6,7 +6,7 @@ ghost use Rattle.ipv4.specs.declared.addr.Addr.{Addr};
 ghost use Rattle.sockets.specs.Calls.{own_end};
 ghost use Rattle.sockets.specs.Emission.{IsWithin};
 ghost use Rattle.sockets.specs.Lost.{is_hopless, waits_until};
-ghost use Rattle.sockets.specs.Entries.{is_closed_by, is_pending, is_left, has_socket, is_live_between, joins, uses_port, uses_datagram_port, waits_at, is_in_syn_received, peer_of, shown_state, deadline_of, dues_of, HasOutgoing, reset_wait, backlog_of, listens_at, is_kept, source_of};
+ghost use Rattle.sockets.specs.Entries.{is_closed_by, is_pending, is_left, has_socket, is_live_between, uses_port, uses_datagram_port, waits_at, is_in_syn_received, peer_of, shown_state, deadline_of, dues_of, HasOutgoing, reset_wait, backlog_of, listens_at, is_kept, source_of};
 
 use crate::emission::{Emitted, Outgoing};
 use crate::entry::SocketId;
@@ -126,7 +126,6 @@ impl Role {
     ghost use Rattle.sockets.specs.Sound.{IsSoundRole};
     ghost use Rattle.clock.specs.Moments.{has_come};
     ghost use Rattle.sockets.specs.Outlook.{is_busy};
-    ghost use Rattle.sockets.specs.Index.{ends_of};
 
     /// Whether this is a socket: a connection is none while it is not accepted, and once its caller closed it.
     pub(crate) fn has_socket(&self) -> bool
@@ -265,16 +264,6 @@ impl Role {
         }
     }
 
-    /// The local and the foreign end of a connection, in any state.
-    pub(crate) fn ends(&self) -> Option<(Endpoint, Endpoint)>
-        ensures { result ≡ ends_of self.now }
-    {
-        match self {
-            Role::Connected { connection, .. } => Some((connection.local(), connection.peer())),
-            _ => None,
-        }
-    }
-
     /// Whether this is the local port of a bound TCP socket, a listener or a connection.
     pub(crate) fn uses_port(&self, port: u16) -> bool
         ensures { result ≡ uses_port port self.now }
@@ -336,14 +325,6 @@ impl Role {
             }
             _ => false,
         }
-    }
-
-    /// Whether this is a connection of this pair, in any state but CLOSED.
-    pub(crate) fn joins(&self, pair: Pair) -> bool
-        ensures { result ≡ joins pair self.now }
-    {
-        self.is_live_between(pair.first(), pair.second())
-            || self.is_live_between(pair.second(), pair.first())
     }
 
     /// The pair of a connection.

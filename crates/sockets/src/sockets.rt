@@ -6,7 +6,7 @@ use crate::entry::{Entry, SocketId};
 use crate::index::Filed;
 use crate::outlook::Outlook;
 use crate::sizes::Sizes;
-use crate::{ports, table};
+use crate::{found, ports, table};
 use clock::Moment;
 use fixed_vec::FixedVec;
 use ipv4::{Addr, Pair};
@@ -152,7 +152,7 @@ impl Sockets {
     pub fn holds(&self, pair: Pair) -> Option<SocketId>
         ensures { result ≡ holder_id self.now pair }
     {
-        let place = table::holder(&self.entries, pair)?;
+        let place = found::holder(&self.entries, &self.ends, pair)?;
         Some(self.entries[place].id)
     }
 
@@ -160,7 +160,7 @@ impl Sockets {
     pub fn pair_of(&self, id: SocketId) -> Option<Pair>
         ensures { result ≡ socket_pair self.now id }
     {
-        let place = table::socket_of(&self.entries, id)?;
+        let place = table::socket_of(&self.entries, self.outlook.at_hand(), id)?;
         self.entries[place].role.pair()
     }
 

@@ -1,18 +1,17 @@
 //! What is looked up in the table, which stands in order of id.
 
-ghost use Rattle.std.specs.Prelude.{◌≡◌, ◌<◌, ◌+◌, ℕ, Bool, not, if◌then◌else◌, length, filter, remove, position, count_by, IfSome};
-ghost use Rattle.std.specs.List.{list_any, AllByRecursion};
-ghost use Rattle.sockets.specs.Entries.{is_kept, entries_after_steps, tick_fate_of, role_after_listener_close, listener_close_fate_of, is_socket, is_between, is_of_pair, has_port, is_bound_at, is_datagrams_at, is_waiting_at, is_waiting_as, is_waiting_id, is_listening_at, deadline_of, role_after_tick, with_role};
+ghost use Rattle.std.specs.Prelude.{◌≡◌, ◌<◌, ◌+◌, ℕ, Bool, not, if◌then◌else◌, length, filter, remove, position};
+ghost use Rattle.std.specs.List.{AllByRecursion};
+ghost use Rattle.sockets.specs.Entries.{is_kept, entries_after_steps, tick_fate_of, role_after_listener_close, listener_close_fate_of, is_socket, is_waiting_as, is_waiting_id, deadline_of, role_after_tick, with_role};
 ghost use Rattle.sockets.specs.Arrival.{offered_with};
 ghost use Rattle.clock.specs.Moments.{sooner};
 ghost use Rattle.ipv4.specs.declared.addr.Addr.{Addr};
 ghost use Rattle.sockets.specs.Lost.{give_up_fate_of, role_after_giving_up};
-ghost use Rattle.sockets.specs.GiveWay.{is_unanswered_at, is_left_since, longest_left, longest_id, first_id, gives_way};
+ghost use Rattle.sockets.specs.GiveWay.{is_left_since, longest_left, longest_id, first_id, gives_way};
 ghost use Rattle.sockets.specs.Sound.{IsSoundRole};
 ghost use Rattle.sockets.specs.Ids.{AreAscending, AreInOrder, has_id};
 ghost use Rattle.sockets.specs.Index.{index_of};
 ghost use Rattle.sockets.specs.Outlook.{IsOutlook};
-ghost use Rattle.marks.specs.First.{first_from};
 
 use crate::entry::{Entry, SocketId};
 use crate::index::{self, Filed};
@@ -20,7 +19,7 @@ use crate::outlook::Outlook;
 use crate::role::is_kept;
 use clock::{Moment, sooner};
 use fixed_vec::FixedVec;
-use ipv4::{Addr, Endpoint, Pair};
+use ipv4::Addr;
 use tcp_state::Fate;
 
 /// The place of the entry of this id, by binary search: the entries stand in order of id.
@@ -31,78 +30,24 @@ pub(crate) fn place_of(entries: &[Entry], id: SocketId) -> Option<usize>
     entries.binary_search_by_key(&id.0, |entry| entry.id.0).ok()
 }
 
-/// The place of the socket `id`.
-pub(crate) fn socket_of(entries: &[Entry], id: SocketId) -> Option<usize>
+/// The same place, which is looked for in the place `near` first: the entry to which something happened last is often the next one too.
+fn place_near(entries: &[Entry], near: Option<usize>, id: SocketId) -> Option<usize>
+    requires { AreInOrder entries.now }
+    ensures { result ≡ position (has_id id) entries.now }
+{
+    match near {
+        Some(place) if place < entries.len() && entries[place].id == id => Some(place),
+        _ => place_of(entries, id),
+    }
+}
+
+/// The place of the socket `id`, which is looked for in the place `near` first.
+pub(crate) fn socket_of(entries: &[Entry], near: Option<usize>, id: SocketId) -> Option<usize>
     requires { AreInOrder entries.now }
     ensures { result ≡ position (is_socket id) entries.now }
 {
-    let place = place_of(entries, id)?;
+    let place = place_near(entries, near, id)?;
     entries[place].role.has_socket().then_some(place)
-}
-
-/// The place of the connection of `pair`, in any state but CLOSED.
-pub(crate) fn holder(entries: &[Entry], pair: Pair) -> Option<usize>
-    ensures { result ≡ position (is_of_pair pair) entries.now }
-{
-    entries.iter().position(|entry| entry.role.joins(pair))
-}
-
-/// Whether there is a connection from `local` to `peer`, in any state but CLOSED.
-pub(crate) fn is_pair_held(entries: &[Entry], local: Endpoint, peer: Endpoint) -> bool
-    ensures { result ≡ list_any (is_between local peer) entries.now }
-{
-    entries
-        .iter()
-        .any(|entry| entry.role.is_live_between(local, peer))
-}
-
-/// Whether an entry has this local port over TCP.
-pub(crate) fn is_port_taken(entries: &[Entry], port: u16) -> bool
-    ensures { result ≡ list_any (has_port port) entries.now }
-{
-    entries.iter().any(|entry| entry.role.uses_port(port))
-}
-
-/// Whether a TCP socket has this local port.
-pub(crate) fn is_port_bound(entries: &[Entry], port: u16) -> bool
-    ensures { result ≡ list_any (is_bound_at port) entries.now }
-{
-    entries.iter().any(|entry| entry.role.has_socket() && entry.role.uses_port(port))
-}
-
-/// Whether a UDP socket is bound to this port.
-pub(crate) fn is_datagram_port_taken(entries: &[Entry], port: u16) -> bool
-    ensures { result ≡ list_any (is_datagrams_at port) entries.now }
-{
-    entries
-        .iter()
-        .any(|entry| entry.role.uses_datagram_port(port))
-}
-
-/// The place of the UDP socket at a local port.
-pub(crate) fn datagrams_at(entries: &[Entry], port: u16) -> Option<usize>
-    ensures { result ≡ position (is_datagrams_at port) entries.now }
-{
-    entries
-        .iter()
-        .position(|entry| entry.role.uses_datagram_port(port))
-}
-
-/// The place of the listener at a local port.
-pub(crate) fn listener_at(entries: &[Entry], port: u16) -> Option<usize>
-    ensures { result ≡ position (is_listening_at port) entries.now }
-{
-    entries.iter().position(|entry| entry.role.listens_at(port))
-}
-
-/// How many connections wait at a listener, in SYN-RECEIVED or past it.
-pub(crate) fn waiting_at(entries: &[Entry], listener: SocketId) -> usize
-    ensures { result ≡ count_by (is_waiting_at listener) entries.now }
-{
-    entries
-        .iter()
-        .filter(|entry| entry.role.waits_at(listener))
-        .count()
 }
 
 /// The place of the connection that `id` names, where it waits at `listener`.
@@ -112,16 +57,6 @@ pub(crate) fn waiting_as(entries: &[Entry], listener: SocketId, id: SocketId) ->
 {
     let place = place_of(entries, id)?;
     entries[place].role.waits_at(listener).then_some(place)
-}
-
-/// The id of the first connection that waits at `listener`, and whose SYN-ACK went out a second ago or more and is not answered.
-pub(crate) fn unanswered_at(entries: &[Entry], listener: SocketId) -> Option<SocketId>
-    ensures { result ≡ first_id (is_unanswered_at listener) entries.now }
-{
-    entries
-        .iter()
-        .find(|entry| entry.role.is_unanswered_at(listener))
-        .map(|entry| entry.id)
 }
 
 /// Since when it is in TIME-WAIT that is so longest, of the connections that no caller has.
@@ -239,31 +174,11 @@ pub(crate) fn forsake(
     ensures most { (entries.new.most ≡ entries.old.most) × (ends.new.most ≡ ends.old.most) }
 {
     let mut from = 0;
-    while let Some(place) = next_waiting(entries, from, id) {
+    while let Some(place) = outlook.next_waiting(entries, from, id) {
         outlook.turn_to(entries, place);
         let stays = entries[place].forsake(now, id);
         from = beyond(entries, ends, outlook, place, stays);
     }
-}
-
-/// The place of the first connection from the place `from` on that waits at `listener`.
-fn next_waiting(entries: &[Entry], from: usize, listener: SocketId) -> Option<usize>
-    ensures { result ≡ first_from (is_waiting_at listener) from entries.now }
-{
-    if from > entries.len() {
-        return None;
-    }
-    first_waiting(&entries[from..], listener).map(|ahead| from + ahead)
-}
-
-/// The place of the first connection of these that waits at `listener`.
-fn first_waiting(entries: &[Entry], listener: SocketId) -> Option<usize>
-    ensures value { result ≡ position (is_waiting_at listener) entries.now }
-    ensures within { IfSome result (λ place. place < length entries.now) }
-{
-    entries
-        .iter()
-        .position(|entry| entry.role.waits_at(listener))
 }
 
 /// Lets every entry give up what has waited too long for a lost address, and takes out the connections whose reset is given up, and those
@@ -362,9 +277,7 @@ fn take_out(
     ensures known { (most : ℕ) → IsOutlook outlook.old most entries.old.items → IsOutlook outlook.new most entries.new.items }
     ensures most { (entries.new.most ≡ entries.old.most) × (ends.new.most ≡ ends.old.most) }
 {
-    if let Some(filed) = index::filing(&entries[place]) {
-        index::unfile(ends, filed);
-    }
+    index::unfile(ends, index::filing(&entries[place]));
     entries.remove(place);
     outlook.remove(place);
 }

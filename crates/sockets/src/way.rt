@@ -6,7 +6,7 @@ use crate::arrival::is_opening;
 use crate::entry::{Entry, SocketId};
 use crate::role::Role;
 use crate::sockets::Sockets;
-use crate::{index, table};
+use crate::{found, table};
 use ipv4::{Addr, Pair};
 use tcp_segment::TcpView;
 use tcp_state::Fate;
@@ -86,7 +86,7 @@ impl Sockets {
             return None;
         }
         let (local, peer) = self.ends(source, segment);
-        match index::connection_between(&self.entries, &self.ends, local, peer) {
+        match found::connection_between(&self.entries, &self.ends, local, peer) {
             Some(place) => {
                 let entry = &self.entries[place];
                 self.opens_anew(segment, &entry.role).then_some(entry.id)
@@ -108,7 +108,7 @@ impl Sockets {
     fn has_backlog_at(&self, port: u16) -> bool
         ensures { result ≡ has_backlog_at self.now port }
     {
-        match table::listener_at(&self.entries, port) {
+        match found::listener_at(&self.entries, &self.ends, port) {
             Some(place) => !self.is_backlog_full(&self.entries[place]),
             None => false,
         }
@@ -118,7 +118,7 @@ impl Sockets {
     fn id_at_port(&self, port: u16) -> Option<SocketId>
         ensures { result ≡ id_at_port self.now port }
     {
-        let place = table::listener_at(&self.entries, port)?;
+        let place = found::listener_at(&self.entries, &self.ends, port)?;
         self.id_at(&self.entries[place])
     }
 
@@ -127,9 +127,11 @@ impl Sockets {
         ensures { result ≡ id_at self.now listener.now }
     {
         if self.is_backlog_full(listener) {
-            table::unanswered_at(&self.entries, listener.id)
+            self.outlook.unanswered_at(&self.entries, listener.id)
         } else if self.entries.is_full() {
-            table::unanswered_at(&self.entries, listener.id).or(table::longest_left(&self.entries))
+            self.outlook
+                .unanswered_at(&self.entries, listener.id)
+                .or(table::longest_left(&self.entries))
         } else {
             None
         }

@@ -6,8 +6,8 @@ use Rattle.sockets.specs.Entries.{sends}
 use Rattle.host.specs.Emission.{goes_out_from}
 use Rattle.host.proofs.layers.Layers.plan.Given as goal
 
-abbrev pub invariant-loop-place : goal.invariant-loop-place
-invariant-loop-place l = AllWithin (λ (e : Entry). sends (goes_out_from l.self l.now) e ≡ false) l.entries 0 l.from
+abbrev pub invariant-loop-due : goal.invariant-loop-due
+invariant-loop-due l = AllWithin (λ (e : Entry). sends (goes_out_from l.self l.now) e ≡ false) l.entries 0 l.from
 
-abbrev pub decreases-loop-place : goal.decreases-loop-place
-decreases-loop-place l = length l.entries - l.from
+abbrev pub decreases-loop-due : goal.decreases-loop-due
+decreases-loop-due l = length l.entries - l.from

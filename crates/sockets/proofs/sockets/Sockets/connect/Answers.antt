@@ -1,19 +1,16 @@
 -- The write at the socket's place is the change of the first entry that the id names, from the port that is given.
-use Rattle.std.proofs.Common.{◌≡◌, ◌∙◌, ◌<◌, ℕ, List, length, Some, None, Ok, refl, ap, sym, subst, arith}
-use Rattle.std.specs.List.{find, position}
+use Rattle.std.proofs.Common.{◌≡◌, ◌∙◌, ◌≤◌, ℕ, List, length, Some, None, Ok, refl, ap, sym, arith}
+use Rattle.std.specs.List.{find}
 use Rattle.ipv4.specs.declared.addr.Addr.{Addr}
-use Rattle.ipv4.specs.declared.addr.Endpoint.{Endpoint}
 use Rattle.clock.specs.declared.moment.Moment.{Moment}
 use Rattle.sockets.specs.declared.entry.Entry.{Entry}
 use Rattle.sockets.specs.Entries.{is_socket, role_after_connect}
 use Rattle.sockets.specs.SocketsView.{SocketsView, with_socket}
 use Rattle.sockets.specs.Calls.{open_answer, reach_refusal, port_for, last_port_after}
-use Rattle.sockets.specs.Index.{AreSorted, index_of}
 use Rattle.sockets.proofs.Roomy.{places_stay}
-use Rattle.sockets.proofs.Filed.{sorted_index}
-use Rattle.sockets.proofs.KeptFiled.{room_connected, index_after_connect}
+use Rattle.sockets.proofs.Filed.{may_refile, index_refiled}
 use Rattle.sockets.proofs.Connected.{after_connect-accepted, some_from_ok}
-use Rattle.sockets.proofs.Written.{found_lent, role_changed, role_written}
+use Rattle.sockets.proofs.Written.{found_lent, role_written, place_within}
 use Rattle.sockets.proofs.Ascending.{ascends_written}
 use Rattle.sockets.proofs.Outlooks.{outlook_written}
 use Rattle.sockets.proofs.sockets.Sockets.connect.Goals as goal
@@ -41,27 +38,21 @@ returns-clause-ok c =
 -- the entry keeps its id, and its connection is filed
 pub invariant_of-self : goal.invariant_of-self
 invariant_of-self c =
-    let local : Endpoint = record { addr = c.self.inside.addr; port = c.in_ok-port.port } in
-    let entries : c.self.inside.entries.items ≡ c.args.self.now.entries = ap (λ (w : SocketsView). w.entries) c.self.view_is in (
-      (c.last_port_after-self-inside.ensures.dynamic, places_stay refl c.file.ensures.most refl c.self.invariant.0.1),
-      ascends_written _ _ _ _ _ c.index-deref_mut-place.result c.self.invariant.1 c.deref_mut.ensures.value refl,
-      index_after_connect c.self.inside.entries.items c.deref.result.now c.in_ok-place.place c.index-deref-place.result c.args.id c.in_ok-bound.bound (ap (λ (es : List Entry). position (is_socket c.args.id) es) entries ∙ c.in_ok-place.ensures.place) c.deref.ensures.0 (sym c.in_ok-bound.ensures)
-          _ _ _ c.index-deref_mut-place.result _ local c.args.peer c.args.isn.0 c.later_moment-now.result c.self.invariant.2 c.file.ensures.items c.deref_mut.ensures.value (role_changed (role_after_connect local c.args.peer c.args.isn.0 c.later_moment-now.result) _ _ c.connect.ensures),
+    let x : Entry = c.index-deref_mut-place.result in (
+      (c.last_port_after-self-inside.ensures.dynamic, places_stay refl c.refile.ensures.most refl c.self.invariant.0.1),
+      ascends_written _ _ _ _ _ x c.self.invariant.1 c.deref_mut.ensures.value refl,
+      index_refiled _ c.deref_mut.result.now c.in_ok-place.place x c.filing-before.result _ c.self.invariant.2 c.deref_mut.ensures.value (place_within _ c.args.self.now (is_socket c.args.id) _ c.self.view_is c.in_ok-place.ensures.place) c.filing-before.ensures
+          _ _ c.refile.ensures.items,
       outlook_written _ _ _ _ _ _ (c.turn_to.ensures.known _ c.self.invariant.3) c.turn_to.ensures.at_hand c.deref_mut.ensures.value,
     )
 
-pub file-requires-clause-sorted : goal.file-requires-clause-sorted
-file-requires-clause-sorted c = subst AreSorted (sym c.self.invariant.2) (sorted_index c.self.inside.entries.items)
-
-pub file-requires-clause-room : goal.file-requires-clause-room
-file-requires-clause-room c =
-    let entries : c.self.inside.entries.items ≡ c.args.self.now.entries = ap (λ (w : SocketsView). w.entries) c.self.view_is in
-    let room : length (index_of c.self.inside.entries.items) < length c.self.inside.entries.items =
-    room_connected c.self.inside.entries.items c.deref.result.now c.in_ok-place.place c.index-deref-place.result c.args.id c.in_ok-bound.bound (ap (λ (es : List Entry). position (is_socket c.args.id) es) entries ∙ c.in_ok-place.ensures.place) c.deref.ensures.0 (sym c.in_ok-bound.ensures)
-    in
-    let filed : length c.self.inside.ends.items ≡ length (index_of c.self.inside.entries.items) = ap length c.self.invariant.2 in
-    let lent : length c.deref.result.now ≡ length c.self.inside.entries.items = ap length c.deref.ensures.0 in
-    omega (arith, c.deref.ensures.1, c.self.invariant.0.1.entries, c.self.invariant.0.1.ends)
+-- there is room for that
+pub refile-requires : goal.refile-requires
+refile-requires c =
+    let xs : List Entry = c.self.inside.entries.items in
+    let lent : length c.deref_mut.result.now ≡ length xs = ap length c.deref_mut.ensures.value in
+    let room : length xs ≤ c.self.inside.ends.most = omega (arith, c.deref_mut.ensures.fits, c.self.invariant.0.1.entries, c.self.invariant.0.1.ends) in
+    may_refile _ c.deref_mut.result.now c.in_ok-place.place c.index-deref_mut-place.result c.filing-before.result _ c.self.invariant.2 c.deref_mut.ensures.value (place_within _ c.args.self.now (is_socket c.args.id) _ c.self.view_is c.in_ok-place.ensures.place) c.filing-before.ensures _ room
 
 pub turn_to-requires-clause-known : goal.turn_to-requires-clause-known
 turn_to-requires-clause-known c = (c.self.inside.sizes.entries, c.self.invariant.3)

@@ -9,6 +9,7 @@ use Rattle.sockets.specs.Needs.{need_of_answer}
 use Rattle.sockets.specs.SocketsView.{SocketsView}
 use Rattle.sockets.proofs.Firsts.{found_by_place}
 use Rattle.sockets.proofs.Needed.{needed_at_listener}
+use Rattle.sockets.proofs.Ascending.{lent_in_order}
 use Rattle.sockets.proofs.sockets.Sockets.need_alone.Goals as goal
 
 pub returns-in-Some-2 : goal.returns-in-Some-2
@@ -25,3 +26,7 @@ returns-in-Some-2 c =
     let found = found_by_place (is_listening_at s.destination) h.entries c.in-Some-2.field-0 place in
     let opens : is_opening s.flags ≡ false = sym c.is_opening.ensures ∙ c.if-is_opening.false in
     c.need_of_answer-in-Some-2.ensures ∙ ap (λ o. need_of_answer o) c.answer_at_listener.ensures ∙ sym (needed_at_listener h s found.0 found.1 opens)
+
+-- the entries that are lent stand in order
+pub listener_at-requires-clause-order : goal.listener_at-requires-clause-order
+listener_at-requires-clause-order c = lent_in_order _ _ _ c.deref.ensures.0 c.self.invariant.1

@@ -8,7 +8,7 @@ use Rattle.sockets.specs.Entries.{is_datagrams_at, role_after_reception}
 use Rattle.sockets.specs.SocketsView.{SocketsView}
 use Rattle.sockets.proofs.Queues.{received}
 use Rattle.sockets.proofs.Written.{role_changed_if}
-use Rattle.sockets.proofs.Ascending.{ascends_written}
+use Rattle.sockets.proofs.Ascending.{lent_in_order, ascends_written}
 use Rattle.sockets.proofs.Filed.{index_written}
 use Rattle.sockets.proofs.KeptFiled.{filed_or_not, filed-reception}
 use Rattle.sockets.proofs.Outlooks.{outlook_written}
@@ -42,3 +42,7 @@ invariant_of-self c =
 
 pub turn_to-requires-clause-known : goal.turn_to-requires-clause-known
 turn_to-requires-clause-known c = (c.self.inside.sizes.entries, c.self.invariant.3)
+
+-- the entries that are lent stand in order
+pub datagrams_at-requires-clause-order : goal.datagrams_at-requires-clause-order
+datagrams_at-requires-clause-order c = lent_in_order _ _ _ c.deref.ensures.0 c.self.invariant.1

@@ -1,5 +1,5 @@
 -- The write at the socket's place is the change of the first entry that the id names, from the port that is given.
-use Rattle.std.proofs.Common.{◌≡◌, ◌∙◌, ℕ, Bool, true, false, if◌then◌else◌, nat_lt, List, length, get_or, Option, Some, None, Ok, arith, refl, ap, sym}
+use Rattle.std.proofs.Common.{◌≡◌, ◌∙◌, ℕ, Bool, true, false, if◌then◌else◌, ◌≤◌, nat_lt, List, length, get_or, Option, Some, None, Ok, arith, refl, ap, sym}
 use Rattle.std.specs.List.{find}
 use Rattle.std.proofs.lemmas.Bool.Decides.{nat_tests}
 use Rattle.ipv4.specs.declared.addr.Endpoint.{Endpoint}
@@ -13,10 +13,11 @@ use Rattle.sockets.specs.Datagrams.{datagrams_bound, sending_end, end_sent_from,
 use Rattle.sockets.proofs.Followed.{some_same}
 use Rattle.sockets.proofs.Connected.{some_from_ok}
 use Rattle.sockets.proofs.Queues.{end_given, bound_found, sendto-given}
-use Rattle.sockets.proofs.Written.{found_lent, role_written}
+use Rattle.sockets.proofs.Roomy.{places_stay}
+use Rattle.sockets.proofs.Written.{found_lent, role_written, place_within}
 use Rattle.sockets.proofs.Ascending.{ascends_written}
-use Rattle.sockets.proofs.Filed.{index_written}
-use Rattle.sockets.proofs.KeptFiled.{filed_or_not, filed-sendto}
+use Rattle.sockets.proofs.Filed.{index_written, may_refile, index_refiled}
+use Rattle.sockets.proofs.KeptFiled.{filed_same}
 use Rattle.sockets.proofs.Outlooks.{outlook_written}
 use Rattle.sockets.proofs.sockets.Sockets.sendto.Goals as goal
 
@@ -51,25 +52,34 @@ returns-clause-ok c =
     ∙ ap (λ (b : Option Endpoint). with_socket (record h { last_port = last_port_after h b local.port; identification = next_identification h.identification }) c.args.id (role_after_sendto local h.kept c.args.peer h.identification octets)) (sym (bound_found h c.args.id x bound found bound_is))
     ∙ sym (sendto-given h c.args.id c.args.peer octets c.args.is_routed local given)
 
--- the entry keeps its id
+-- the entry keeps its id, and is filed as what it is
 pub invariant_of-self-2 : goal.invariant_of-self-2
 invariant_of-self-2 c =
-    let change : Role → Role = role_after_sendto c.in_ok-local.local c.self.inside.kept c.args.peer c.self.inside.identification c.args.octets.now in
     let x : Entry = c.index-deref_mut-place.result in (
-      (c.last_port_after-last_port.ensures.dynamic, c.self.invariant.0.1),
+      (c.last_port_after-last_port.ensures.dynamic, places_stay refl c.refile.ensures.most refl c.self.invariant.0.1),
       ascends_written _ _ _ _ _ x c.self.invariant.1 c.deref_mut.ensures.value refl,
-      index_written _ _ _ _ _ x c.self.invariant.2 c.deref_mut.ensures.value (filed_or_not c.send_to.result change (get_or c.deref_mut.result.now c.in_ok-place.place x) _ (filed-sendto _ _ _ _ _ _) c.send_to.ensures.after),
+      index_refiled _ c.deref_mut.result.now c.in_ok-place.place x c.filing-before.result _ c.self.invariant.2 c.deref_mut.ensures.value (place_within _ c.args.self.now (is_socket c.args.id) _ c.self.view_is c.in_ok-place.ensures.place) c.filing-before.ensures
+          _ _ c.refile.ensures.items,
       outlook_written _ _ _ _ _ _ (c.turn_to.ensures.known _ c.self.invariant.3) c.turn_to.ensures.at_hand c.deref_mut.ensures.value,
     )
+
+-- there is room for that
+pub refile-requires : goal.refile-requires
+refile-requires c =
+    let xs : List Entry = c.self.inside.entries.items in
+    let lent : length c.deref_mut.result.now ≡ length xs = ap length c.deref_mut.ensures.value in
+    let room : length xs ≤ c.self.inside.ends.most = omega (arith, c.deref_mut.ensures.fits, c.self.invariant.0.1.entries, c.self.invariant.0.1.ends) in
+    may_refile _ c.deref_mut.result.now c.in_ok-place.place c.index-deref_mut-place.result c.filing-before.result _ c.self.invariant.2 c.deref_mut.ensures.value (place_within _ c.args.self.now (is_socket c.args.id) _ c.self.view_is c.in_ok-place.ensures.place) c.filing-before.ensures _ room
 
 -- and where it is refused
 pub invariant_of-self : goal.invariant_of-self
 invariant_of-self c =
     let change : Role → Role = role_after_sendto c.in_ok-local.local c.self.inside.kept c.args.peer c.self.inside.identification c.args.octets.now in
-    let x : Entry = c.index-deref_mut-place.result in (
+    let x : Entry = c.index-deref_mut-place.result in
+    let there : Entry = get_or c.deref_mut.result.now c.in_ok-place.place x in (
       c.self.invariant.0,
       ascends_written _ _ _ _ _ x c.self.invariant.1 c.deref_mut.ensures.value refl,
-      index_written _ _ _ _ _ x c.self.invariant.2 c.deref_mut.ensures.value (filed_or_not c.send_to.result change (get_or c.deref_mut.result.now c.in_ok-place.place x) _ (filed-sendto _ _ _ _ _ _) c.send_to.ensures.after),
+      index_written _ _ _ _ _ x c.self.invariant.2 c.deref_mut.ensures.value (filed_same c.send_to.result (change there.role) there _ c.if-not-send_to.true c.send_to.ensures.after),
       outlook_written _ _ _ _ _ _ (c.turn_to.ensures.known _ c.self.invariant.3) c.turn_to.ensures.at_hand c.deref_mut.ensures.value,
     )
 

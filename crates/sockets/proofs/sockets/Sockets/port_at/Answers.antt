@@ -1,0 +1,9 @@
+use Rattle.sockets.proofs.Ascending.{lent_in_order}
+use Rattle.sockets.proofs.sockets.Sockets.port_at.Goals as goal
+
+-- the entries that are lent stand in order
+pub first_bindable-requires-clause-order : goal.first_bindable-requires-clause-order
+first_bindable-requires-clause-order c = lent_in_order _ _ _ c.deref.ensures.0 c.self.invariant.1
+
+pub is_bindable-requires-clause-order : goal.is_bindable-requires-clause-order
+is_bindable-requires-clause-order c = lent_in_order _ _ _ c.deref-2.ensures.0 c.self.invariant.1

@@ -1,0 +1,183 @@
+//! What the table has at a local port or between two ends, found by the index: nothing here walks over all entries.
+
+ghost use Rattle.std.specs.Prelude.{◌≡◌, Bool, is_some, position};
+ghost use Rattle.std.specs.List.{list_any};
+ghost use Rattle.sockets.specs.Entries.{is_between, is_of_pair, has_port, is_bound_at, is_datagrams_at, is_listening_at};
+ghost use Rattle.sockets.specs.Ids.{AreInOrder};
+ghost use Rattle.sockets.specs.Index.{index_of, is_sought_in, is_sought_as, low_key, high_key};
+
+use crate::entry::{Entry, SocketId};
+use crate::index::{Filed, PEERS, key_at, key_of};
+use crate::outlook::first_of;
+use crate::role::Role;
+use crate::table::place_of;
+use ipv4::{Endpoint, Pair};
+
+/// What is looked for, by the keys under which it is filed.
+#[derive(Clone, Copy)]
+enum Sought {
+    /// The connection between two ends, in any state but CLOSED.
+    Connection { local: Endpoint, peer: Endpoint },
+    /// The listener at a local port.
+    Listener { port: u16 },
+    /// The UDP socket that is bound to a port.
+    Datagrams { port: u16 },
+    /// What has a local port over TCP.
+    Stream { port: u16 },
+    /// A TCP socket that has a local port.
+    Socket { port: u16 },
+}
+
+impl Sought {
+    ghost use Rattle.sockets.specs.Index.{is_sought};
+
+    /// The least key under which it may be filed, and the greatest: the same where its peer is told or it has none, else the first and the last of its port.
+    fn keys(self) -> (u64, u64)
+        ensures low { result.0 ≡ low_key self }
+        ensures high { result.1 ≡ high_key self }
+    {
+        match self {
+            Sought::Connection { local, peer } => {
+                let key = key_of(local.port, peer);
+                (key, key)
+            }
+            Sought::Listener { port } | Sought::Datagrams { port } => {
+                let key = key_at(port);
+                (key, key)
+            }
+            Sought::Stream { port } | Sought::Socket { port } => {
+                let low = u64::from(port) * PEERS;
+                (low, low + (PEERS - 1))
+            }
+        }
+    }
+
+    /// Whether this role is what is looked for.
+    fn is_met(self, role: &Role) -> bool
+        ensures { result ≡ is_sought self role.now }
+    {
+        match self {
+            Sought::Connection { local, peer } => role.is_live_between(local, peer),
+            Sought::Listener { port } => role.listens_at(port),
+            Sought::Datagrams { port } => role.uses_datagram_port(port),
+            Sought::Stream { port } => role.uses_port(port),
+            Sought::Socket { port } => role.has_socket() && role.uses_port(port),
+        }
+    }
+}
+
+/// The place of the connection from `local` to `peer`, in any state but CLOSED.
+pub(crate) fn connection_between(
+    entries: &[Entry],
+    index: &[Filed],
+    local: Endpoint,
+    peer: Endpoint,
+) -> Option<usize>
+    requires order { AreInOrder entries.now }
+    requires index { index.now ≡ index_of entries.now }
+    ensures { result ≡ position (is_between local peer) entries.now }
+{
+    let ends = Sought::Connection { local, peer };
+    search(entries, index, ends)
+}
+
+/// Whether there is a connection from `local` to `peer`, in any state but CLOSED.
+pub(crate) fn is_pair_held(
+    entries: &[Entry],
+    index: &[Filed],
+    local: Endpoint,
+    peer: Endpoint,
+) -> bool
+    requires order { AreInOrder entries.now }
+    requires index { index.now ≡ index_of entries.now }
+    ensures { result ≡ list_any (is_between local peer) entries.now }
+{
+    search(entries, index, Sought::Connection { local, peer }).is_some()
+}
+
+/// The place of the connection of `pair`, in any state but CLOSED: from the one end or from the other, whichever stands first.
+pub(crate) fn holder(entries: &[Entry], index: &[Filed], pair: Pair) -> Option<usize>
+    requires order { AreInOrder entries.now }
+    requires index { index.now ≡ index_of entries.now }
+    ensures { result ≡ position (is_of_pair pair) entries.now }
+{
+    let there = connection_between(entries, index, pair.first(), pair.second());
+    let back = connection_between(entries, index, pair.second(), pair.first());
+    first_of(there, back)
+}
+
+/// The place of the listener at a local port.
+pub(crate) fn listener_at(entries: &[Entry], index: &[Filed], port: u16) -> Option<usize>
+    requires order { AreInOrder entries.now }
+    requires index { index.now ≡ index_of entries.now }
+    ensures { result ≡ position (is_listening_at port) entries.now }
+{
+    search(entries, index, Sought::Listener { port })
+}
+
+/// The place of the UDP socket at a local port.
+pub(crate) fn datagrams_at(entries: &[Entry], index: &[Filed], port: u16) -> Option<usize>
+    requires order { AreInOrder entries.now }
+    requires index { index.now ≡ index_of entries.now }
+    ensures { result ≡ position (is_datagrams_at port) entries.now }
+{
+    search(entries, index, Sought::Datagrams { port })
+}
+
+/// Whether a UDP socket is bound to this port.
+pub(crate) fn is_datagram_port_taken(entries: &[Entry], index: &[Filed], port: u16) -> bool
+    requires order { AreInOrder entries.now }
+    requires index { index.now ≡ index_of entries.now }
+    ensures { result ≡ list_any (is_datagrams_at port) entries.now }
+{
+    search(entries, index, Sought::Datagrams { port }).is_some()
+}
+
+/// Whether an entry has this local port over TCP.
+pub(crate) fn is_port_taken(entries: &[Entry], index: &[Filed], port: u16) -> bool
+    requires order { AreInOrder entries.now }
+    requires index { index.now ≡ index_of entries.now }
+    ensures { result ≡ list_any (has_port port) entries.now }
+{
+    search(entries, index, Sought::Stream { port }).is_some()
+}
+
+/// Whether a TCP socket has this local port.
+pub(crate) fn is_port_bound(entries: &[Entry], index: &[Filed], port: u16) -> bool
+    requires order { AreInOrder entries.now }
+    requires index { index.now ≡ index_of entries.now }
+    ensures { result ≡ list_any (is_bound_at port) entries.now }
+{
+    search(entries, index, Sought::Socket { port }).is_some()
+}
+
+/// The place of an entry that is what is looked for, and of the first where that has one key: a binary search finds what is filed first from the least key on,
+/// and from there up to the greatest key each entry is tested. At one key they are filed in order of id, as they stand in the table.
+fn search(entries: &[Entry], index: &[Filed], what: Sought) -> Option<usize>
+    requires order { AreInOrder entries.now }
+    requires index { index.now ≡ index_of entries.now }
+    ensures any { is_some result ≡ list_any (is_sought_in what) entries.now }
+    ensures first { low_key what ≡ high_key what → result ≡ position (is_sought_in what) entries.now }
+{
+    let (low, high) = what.keys();
+    let first = index.partition_point(|filed| filed.key < low);
+    for at in first..index.len() {
+        let filed = &index[at];
+        if filed.key > high {
+            return None;
+        }
+        if let Some(place) = sought_as(entries, filed.id, what) {
+            return Some(place);
+        }
+    }
+    None
+}
+
+/// The place of the entry that `id` names, where that is what is looked for.
+fn sought_as(entries: &[Entry], id: SocketId, what: Sought) -> Option<usize>
+    requires { AreInOrder entries.now }
+    ensures { result ≡ position (is_sought_as id what) entries.now }
+{
+    let place = place_of(entries, id)?;
+    what.is_met(&entries[place].role).then_some(place)
+}
