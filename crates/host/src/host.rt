@@ -19,7 +19,6 @@ use tcp_segment::Seq;
 /// fragments of datagrams are put together; on its guard it knows for a second which datagrams were whole. The making of a host takes memory, for what it will know of its neighbours, for the control replies
 /// that will wait, for the places of its table and for the datagrams of its pool, as many as its set-up says, and so do sockets and the connections that frames open;
 /// nothing else does.
-#[derive(Drop)]
 pub struct Host {
     pub(crate) layers: Layers,
 }
@@ -34,6 +33,13 @@ impl Model for Host {
 
     // There is no host but one that a list of events led to.
     ghost invariant = { λ h. HasRunOnOctets h.layers };
+}
+
+// Written out: the proof of what lets a host go then has one call, and not each part of it.
+impl Drop for Host {
+    fn drop(self) {
+        let Host { layers: _ } = self;
+    }
 }
 
 impl Host {

@@ -22,7 +22,6 @@ use tcp_segment::Head;
 
 /// What a host has of its link: its MAC, its address and its routes, what it heard of its neighbours and asked for, and the
 /// control replies that wait, at most so many as it was made for. Only the making takes memory.
-#[derive(Drop)]
 pub struct Interface {
     pub(crate) mac: Mac,
     pub(crate) addr: Addr,
@@ -44,6 +43,19 @@ impl Model for Interface {
       most_replies = i.replies.most;
       replies = i.replies.replies;
     } };
+}
+
+// Written out: the proof of what lets an interface go then has one call, and not each part of it.
+impl Drop for Interface {
+    fn drop(self) {
+        let Interface {
+            mac: _,
+            addr: _,
+            routes: _,
+            cache: _,
+            replies: _,
+        } = self;
+    }
 }
 
 impl Interface {

@@ -15,7 +15,6 @@ use std::marker::Model;
 use tcp_state::Manner;
 
 /// The table of the sockets and connections over one address.
-#[derive(Drop)]
 pub struct Sockets {
     pub(crate) alloc: Global,
     pub(crate) addr: Addr,
@@ -57,6 +56,26 @@ impl Model for Sockets {
     ghost invariant = { λ h. ((49152 ≤ h.last_port) × HasPlaces h.sizes h.entries.most h.ends.most h.offered.most)
         × AreAscending 0 h.last_id h.entries.items × (h.ends.items ≡ index_of h.entries.items)
         × IsOutlook h.outlook h.sizes.entries h.entries.items };
+}
+
+// Written out: the proof of what lets a table go then has one call, and not each part of it.
+impl Drop for Sockets {
+    fn drop(self) {
+        let Sockets {
+            alloc: _,
+            addr: _,
+            manner: _,
+            kept: _,
+            last_port: _,
+            last_id: _,
+            identification: _,
+            sizes: _,
+            entries: _,
+            ends: _,
+            outlook: _,
+            offered: _,
+        } = self;
+    }
 }
 
 #[tactic(auto, using(crate::proofs::Firsts::firsts))]

@@ -24,7 +24,6 @@ use std::marker::Model;
 const LIMIT: u64 = 1 << 30;
 
 /// Two hosts, the frames that they emitted, and all that happened.
-#[derive(Drop)]
 pub struct World {
     alloc: Global,
     network: Network,
@@ -49,6 +48,17 @@ impl Model for World {
     // a run of the definitions leads to.
     ghost invariant = { λ w. ((i : ℕ) → slice_index_or w.network.ledger.written.items i 0 ≤ LARGEST_CAPACITY * length w.trace.items)
         × IsReached w.network.limit (record { network = network_view w.network; trace = w.trace.items }) };
+}
+
+// Written out: the proof of what lets a world go then has one call, and not each part of it.
+impl Drop for World {
+    fn drop(self) {
+        let World {
+            alloc: _,
+            network: _,
+            trace: _,
+        } = self;
+    }
 }
 
 impl World {

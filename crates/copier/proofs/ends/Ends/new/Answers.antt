@@ -1,5 +1,4 @@
 use Rattle.std.proofs.Common.{refl, sym, subst}
-use Rattle.std.proofs.lemmas.Result.{err_from_is_err_and}
 use Rattle.host.specs.HostView.{HostView}
 use Rattle.sides.specs.declared.side.Side.TheVariants.{A, B}
 use Rattle.wire_sim.proofs.runs.FieldsAreReached.{unalike}
@@ -29,19 +28,3 @@ returns-clause-course c =
       sound_b = c.sound.ensures.sound;
       others = refl;
     })
-
--- the fault of the second host, of a listener or a connection that can't be made
-pub returns-in_err-b-clause-fault : goal.returns-in_err-b-clause-fault
-returns-in_err-b-clause-fault c =
-    let p = err_from_is_err_and c.from_residual-in_err-b.result c.from_residual-in_err-b.ensures.1 in
-    rw (p.1, p.2) c.in_err-b.ensures.fault
-
-pub returns-in_err-listener-clause-fault : goal.returns-in_err-listener-clause-fault
-returns-in_err-listener-clause-fault c =
-    let p = err_from_is_err_and c.from_residual-in_err-listener.result c.from_residual-in_err-listener.ensures.1 in
-    rw (p.1, p.2) c.in_err-listener.ensures.fault
-
-pub returns-in_err-sender-clause-fault : goal.returns-in_err-sender-clause-fault
-returns-in_err-sender-clause-fault c =
-    let p = err_from_is_err_and c.from_residual-in_err-sender.result c.from_residual-in_err-sender.ensures.1 in
-    rw (p.1, p.2) c.in_err-sender.ensures.fault
