@@ -10,7 +10,7 @@ use crate::calls::new_buffers;
 use crate::entry::{Entry, SocketId};
 use crate::sockets::Sockets;
 use crate::taken::Taken;
-use crate::{found, index, replies, table};
+use crate::{index, replies, table};
 use clock::Moment;
 use ipv4::{Addr, Endpoint, Pair};
 use std::alloc::AllocError;
@@ -30,7 +30,7 @@ impl Sockets {
         ensures { Meets (arrival self.old now isn.0 source segment.now) self.old result self.new }
     {
         let (local, peer) = self.ends(source, segment);
-        match found::connection_between(&self.entries, &self.ends, local, peer) {
+        match self.connection_between(local, peer) {
             Some(place) => self.take_at(now, place, source, segment),
             None => self.take_alone(self.later_moment(now), isn, source, segment),
         }
@@ -66,7 +66,7 @@ impl Sockets {
     fn take_alone(&mut self, now: Moment, isn: Seq, source: Addr, segment: &TcpView<'_>) -> Taken
         ensures { Meets (arrival_alone self.old now isn.0 source segment.now) self.old result self.new }
     {
-        match found::listener_at(&self.entries, &self.ends, segment.destination()) {
+        match self.listener_at(segment.destination()) {
             None => answered(replies::answer_to(segment)),
             Some(place) if is_opening(segment) => self.open(now, isn, place, source, segment),
             Some(_) => answered(replies::answer_at_listener(segment)),
@@ -142,7 +142,7 @@ impl Sockets {
         ensures { result ≡ pair_opened self.now source segment.now }
     {
         let (local, peer) = self.ends(source, segment);
-        match found::connection_between(&self.entries, &self.ends, local, peer) {
+        match self.connection_between(local, peer) {
             Some(_) => None,
             None if is_opening(segment) => self.pair_at_listener(source, segment),
             None => None,
@@ -153,7 +153,7 @@ impl Sockets {
     fn pair_at_listener(&self, source: Addr, segment: &TcpView<'_>) -> Option<Pair>
         ensures { result ≡ pair_at_listener self.now source segment.now }
     {
-        let place = found::listener_at(&self.entries, &self.ends, segment.destination())?;
+        let place = self.listener_at(segment.destination())?;
         if self.has_no_room(&self.entries[place]) {
             return None;
         }

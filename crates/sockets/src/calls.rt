@@ -266,11 +266,12 @@ impl Sockets {
         ensures turn { IfSome result (λ at. position (is_waiting_id self.now.entries id) self.now.offered ≡ Some at.0) }
         ensures place { IfSome result (λ at. position (is_next_at self.now id) self.now.entries ≡ Some at.1) }
     {
-        let Some(turn) = table::next_offered(&self.offered, &self.entries, id) else {
+        let near = self.outlook.at_hand();
+        let Some(turn) = table::next_offered(&self.offered, &self.entries, near, id) else {
             return None;
         };
         let accepted = self.offered[turn];
-        let Some(place) = table::waiting_as(&self.entries, id, accepted) else {
+        let Some(place) = table::waiting_as(&self.entries, near, id, accepted) else {
             return None;
         };
         Some((turn, place))

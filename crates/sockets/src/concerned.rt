@@ -5,7 +5,6 @@ ghost use Rattle.sockets.specs.Ready.{listener_of, socket_named};
 
 use crate::arrival::is_opening;
 use crate::entry::{Entry, SocketId};
-use crate::found;
 use crate::role::Role;
 use crate::sockets::Sockets;
 use ipv4::{Addr, Endpoint};
@@ -22,7 +21,7 @@ impl Sockets {
         ensures { result ≡ socket_of_segment self.now source segment.now }
     {
         let (local, peer) = self.ends(source, segment);
-        match found::connection_between(&self.entries, &self.ends, local, peer) {
+        match self.connection_between(local, peer) {
             Some(place) => self.entries[place].socket_named(),
             None => self.listener_for(segment),
         }
@@ -33,7 +32,7 @@ impl Sockets {
     pub fn socket_between(&self, local: Endpoint, peer: Endpoint) -> Option<SocketId>
         ensures { result ≡ socket_between self.now local peer }
     {
-        let place = found::connection_between(&self.entries, &self.ends, local, peer)?;
+        let place = self.connection_between(local, peer)?;
         self.entries[place].socket_named()
     }
 
@@ -41,7 +40,7 @@ impl Sockets {
     pub fn socket_at_port(&self, port: u16) -> Option<SocketId>
         ensures { result ≡ socket_at_port self.now port }
     {
-        let place = found::datagrams_at(&self.entries, &self.ends, port)?;
+        let place = self.datagrams_at(port)?;
         Some(self.entries[place].id)
     }
 
@@ -52,7 +51,7 @@ impl Sockets {
         if !is_opening(segment) {
             return None;
         }
-        let place = found::listener_at(&self.entries, &self.ends, segment.destination())?;
+        let place = self.listener_at(segment.destination())?;
         Some(self.entries[place].id)
     }
 }

@@ -8,7 +8,7 @@ use crate::entry::{Kind, SocketId};
 use crate::refusal::Refusal;
 use crate::role::Role;
 use crate::sockets::Sockets;
-use crate::{found, index, ports};
+use crate::{index, ports};
 use ipv4::{Addr, Endpoint};
 use udp::UdpView;
 use udp_socket::MOST_OCTETS;
@@ -110,8 +110,7 @@ impl Sockets {
         ensures answer { result ≡ reception self.old datagram.now }
         ensures after { self.new ≡ after_reception self.old source datagram.now }
     {
-        let Some(place) = found::datagrams_at(&self.entries, &self.ends, datagram.destination())
-        else {
+        let Some(place) = self.datagrams_at(datagram.destination()) else {
             return Reception::NoSocket;
         };
         let from = Endpoint {

@@ -10,7 +10,8 @@ use crate::entry::{Entry, SocketId};
 use crate::index::{Filed, PEERS, key_at, key_of};
 use crate::outlook::first_of;
 use crate::role::Role;
-use crate::table::place_of;
+use crate::sockets::Sockets;
+use crate::table::place_near;
 use ipv4::{Endpoint, Pair};
 
 /// What is looked for, by the keys under which it is filed.
@@ -66,19 +67,44 @@ impl Sought {
     }
 }
 
-/// The place of the connection from `local` to `peer`, in any state but CLOSED.
-pub(crate) fn connection_between(
-    entries: &[Entry],
-    index: &[Filed],
-    local: Endpoint,
-    peer: Endpoint,
-) -> Option<usize>
-    requires order { AreInOrder entries.now }
-    requires index { index.now ≡ index_of entries.now }
-    ensures { result ≡ position (is_between local peer) entries.now }
-{
-    let ends = Sought::Connection { local, peer };
-    search(entries, index, ends)
+impl Sockets {
+    /// The place of the connection from `local` to `peer`, in any state but CLOSED.
+    pub(crate) fn connection_between(&self, local: Endpoint, peer: Endpoint) -> Option<usize>
+        ensures { result ≡ position (is_between local peer) self.now.entries }
+    {
+        self.sought(Sought::Connection { local, peer })
+    }
+
+    /// The place of the connection of `pair`, in any state but CLOSED: from the one end or from the other, whichever stands first.
+    pub(crate) fn holder(&self, pair: Pair) -> Option<usize>
+        ensures { result ≡ position (is_of_pair pair) self.now.entries }
+    {
+        let there = self.connection_between(pair.first(), pair.second());
+        let back = self.connection_between(pair.second(), pair.first());
+        first_of(there, back)
+    }
+
+    /// The place of the listener at a local port.
+    pub(crate) fn listener_at(&self, port: u16) -> Option<usize>
+        ensures { result ≡ position (is_listening_at port) self.now.entries }
+    {
+        self.sought(Sought::Listener { port })
+    }
+
+    /// The place of the UDP socket at a local port.
+    pub(crate) fn datagrams_at(&self, port: u16) -> Option<usize>
+        ensures { result ≡ position (is_datagrams_at port) self.now.entries }
+    {
+        self.sought(Sought::Datagrams { port })
+    }
+
+    /// The place of the first entry that is what is looked for, which has one key. The entry at hand is looked at first.
+    fn sought(&self, what: Sought) -> Option<usize>
+        requires { low_key what ≡ high_key what }
+        ensures { result ≡ position (is_sought_in what) self.now.entries }
+    {
+        search(&self.entries, &self.ends, self.outlook.at_hand(), what)
+    }
 }
 
 /// Whether there is a connection from `local` to `peer`, in any state but CLOSED.
@@ -92,36 +118,7 @@ pub(crate) fn is_pair_held(
     requires index { index.now ≡ index_of entries.now }
     ensures { result ≡ list_any (is_between local peer) entries.now }
 {
-    search(entries, index, Sought::Connection { local, peer }).is_some()
-}
-
-/// The place of the connection of `pair`, in any state but CLOSED: from the one end or from the other, whichever stands first.
-pub(crate) fn holder(entries: &[Entry], index: &[Filed], pair: Pair) -> Option<usize>
-    requires order { AreInOrder entries.now }
-    requires index { index.now ≡ index_of entries.now }
-    ensures { result ≡ position (is_of_pair pair) entries.now }
-{
-    let there = connection_between(entries, index, pair.first(), pair.second());
-    let back = connection_between(entries, index, pair.second(), pair.first());
-    first_of(there, back)
-}
-
-/// The place of the listener at a local port.
-pub(crate) fn listener_at(entries: &[Entry], index: &[Filed], port: u16) -> Option<usize>
-    requires order { AreInOrder entries.now }
-    requires index { index.now ≡ index_of entries.now }
-    ensures { result ≡ position (is_listening_at port) entries.now }
-{
-    search(entries, index, Sought::Listener { port })
-}
-
-/// The place of the UDP socket at a local port.
-pub(crate) fn datagrams_at(entries: &[Entry], index: &[Filed], port: u16) -> Option<usize>
-    requires order { AreInOrder entries.now }
-    requires index { index.now ≡ index_of entries.now }
-    ensures { result ≡ position (is_datagrams_at port) entries.now }
-{
-    search(entries, index, Sought::Datagrams { port })
+    search(entries, index, None, Sought::Connection { local, peer }).is_some()
 }
 
 /// Whether a UDP socket is bound to this port.
@@ -130,7 +127,7 @@ pub(crate) fn is_datagram_port_taken(entries: &[Entry], index: &[Filed], port: u
     requires index { index.now ≡ index_of entries.now }
     ensures { result ≡ list_any (is_datagrams_at port) entries.now }
 {
-    search(entries, index, Sought::Datagrams { port }).is_some()
+    search(entries, index, None, Sought::Datagrams { port }).is_some()
 }
 
 /// Whether an entry has this local port over TCP.
@@ -139,7 +136,7 @@ pub(crate) fn is_port_taken(entries: &[Entry], index: &[Filed], port: u16) -> bo
     requires index { index.now ≡ index_of entries.now }
     ensures { result ≡ list_any (has_port port) entries.now }
 {
-    search(entries, index, Sought::Stream { port }).is_some()
+    search(entries, index, None, Sought::Stream { port }).is_some()
 }
 
 /// Whether a TCP socket has this local port.
@@ -148,12 +145,13 @@ pub(crate) fn is_port_bound(entries: &[Entry], index: &[Filed], port: u16) -> bo
     requires index { index.now ≡ index_of entries.now }
     ensures { result ≡ list_any (is_bound_at port) entries.now }
 {
-    search(entries, index, Sought::Socket { port }).is_some()
+    search(entries, index, None, Sought::Socket { port }).is_some()
 }
 
 /// The place of an entry that is what is looked for, and of the first where that has one key: a binary search finds what is filed first from the least key on,
-/// and from there up to the greatest key each entry is tested. At one key they are filed in order of id, as they stand in the table.
-fn search(entries: &[Entry], index: &[Filed], what: Sought) -> Option<usize>
+/// and from there up to the greatest key each entry is tested, which is looked for in the place `near` first. At one key they are filed in order of id, as they
+/// stand in the table.
+fn search(entries: &[Entry], index: &[Filed], near: Option<usize>, what: Sought) -> Option<usize>
     requires order { AreInOrder entries.now }
     requires index { index.now ≡ index_of entries.now }
     ensures any { is_some result ≡ list_any (is_sought_in what) entries.now }
@@ -166,18 +164,18 @@ fn search(entries: &[Entry], index: &[Filed], what: Sought) -> Option<usize>
         if filed.key > high {
             return None;
         }
-        if let Some(place) = sought_as(entries, filed.id, what) {
+        if let Some(place) = sought_as(entries, near, filed.id, what) {
             return Some(place);
         }
     }
     None
 }
 
-/// The place of the entry that `id` names, where that is what is looked for.
-fn sought_as(entries: &[Entry], id: SocketId, what: Sought) -> Option<usize>
+/// The place of the entry that `id` names, where that is what is looked for. It is looked for in the place `near` first.
+fn sought_as(entries: &[Entry], near: Option<usize>, id: SocketId, what: Sought) -> Option<usize>
     requires { AreInOrder entries.now }
     ensures { result ≡ position (is_sought_as id what) entries.now }
 {
-    let place = place_of(entries, id)?;
+    let place = place_near(entries, near, id)?;
     what.is_met(&entries[place].role).then_some(place)
 }

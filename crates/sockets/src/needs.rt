@@ -8,9 +8,9 @@ ghost use Rattle.sockets.specs.Needs.{need_of_answer};
 use crate::arrival::is_opening;
 use crate::datagrams::Reception;
 use crate::entry::Entry;
+use crate::replies;
 use crate::role::Role;
 use crate::sockets::Sockets;
-use crate::{found, replies, table};
 use ipv4::Addr;
 use tcp_segment::{Head, TcpView};
 use udp::UdpView;
@@ -39,7 +39,7 @@ impl Sockets {
         ensures { result ≡ need self.now source segment.now }
     {
         let (local, peer) = self.ends(source, segment);
-        match found::connection_between(&self.entries, &self.ends, local, peer) {
+        match self.connection_between(local, peer) {
             Some(place) if self.entries[place].role.would_reject(segment) => Some(Need::Reply),
             Some(_) => None,
             None => self.need_alone(segment),
@@ -50,8 +50,7 @@ impl Sockets {
     pub fn would_receive(&self, datagram: &UdpView<'_>) -> Reception
         ensures { result ≡ reception self.now datagram.now }
     {
-        let Some(place) = found::datagrams_at(&self.entries, &self.ends, datagram.destination())
-        else {
+        let Some(place) = self.datagrams_at(datagram.destination()) else {
             return Reception::NoSocket;
         };
         if self.entries[place]
@@ -68,7 +67,7 @@ impl Sockets {
     fn need_alone(&self, segment: &TcpView<'_>) -> Option<Need>
         ensures { result ≡ need_alone self.now segment.now }
     {
-        match found::listener_at(&self.entries, &self.ends, segment.destination()) {
+        match self.listener_at(segment.destination()) {
             None => need_of_answer(replies::answer_to(segment)),
             Some(place) if is_opening(segment) => Some(self.need_at(&self.entries[place])),
             Some(_) => need_of_answer(replies::answer_at_listener(segment)),

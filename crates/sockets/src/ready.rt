@@ -134,7 +134,7 @@ impl Sockets {
     fn has_offered(&self, id: SocketId) -> bool
         ensures { result ≡ is_some (next_offered self.now id) }
     {
-        table::next_offered(&self.offered, &self.entries, id).is_some()
+        table::next_offered(&self.offered, &self.entries, self.outlook.at_hand(), id).is_some()
     }
 
     /// Whether this is a UDP socket with room for a datagram of one octet, and a port to send it from.

@@ -6,7 +6,7 @@ use crate::entry::{Entry, SocketId};
 use crate::index::Filed;
 use crate::outlook::Outlook;
 use crate::sizes::Sizes;
-use crate::{found, ports, table};
+use crate::{ports, table};
 use clock::Moment;
 use fixed_vec::FixedVec;
 use ipv4::{Addr, Pair};
@@ -171,7 +171,7 @@ impl Sockets {
     pub fn holds(&self, pair: Pair) -> Option<SocketId>
         ensures { result ≡ holder_id self.now pair }
     {
-        let place = found::holder(&self.entries, &self.ends, pair)?;
+        let place = self.holder(pair)?;
         Some(self.entries[place].id)
     }
 

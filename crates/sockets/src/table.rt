@@ -31,7 +31,7 @@ pub(crate) fn place_of(entries: &[Entry], id: SocketId) -> Option<usize>
 }
 
 /// The same place, which is looked for in the place `near` first: the entry to which something happened last is often the next one too.
-fn place_near(entries: &[Entry], near: Option<usize>, id: SocketId) -> Option<usize>
+pub(crate) fn place_near(entries: &[Entry], near: Option<usize>, id: SocketId) -> Option<usize>
     requires { AreInOrder entries.now }
     ensures { result ≡ position (has_id id) entries.now }
 {
@@ -50,12 +50,17 @@ pub(crate) fn socket_of(entries: &[Entry], near: Option<usize>, id: SocketId) ->
     entries[place].role.has_socket().then_some(place)
 }
 
-/// The place of the connection that `id` names, where it waits at `listener`.
-pub(crate) fn waiting_as(entries: &[Entry], listener: SocketId, id: SocketId) -> Option<usize>
+/// The place of the connection that `id` names, where it waits at `listener`, which is looked for in the place `near` first.
+pub(crate) fn waiting_as(
+    entries: &[Entry],
+    near: Option<usize>,
+    listener: SocketId,
+    id: SocketId,
+) -> Option<usize>
     requires { AreInOrder entries.now }
     ensures { result ≡ position (is_waiting_as listener id) entries.now }
 {
-    let place = place_of(entries, id)?;
+    let place = place_near(entries, near, id)?;
     entries[place].role.waits_at(listener).then_some(place)
 }
 
@@ -95,18 +100,19 @@ pub(crate) fn giving_way(entries: &[Entry], id: SocketId) -> Option<usize>
     entries[place].role.may_give_way().then_some(place)
 }
 
-/// Whether the connection that `id` names waits at `listener`.
-fn is_waiting_id(entries: &[Entry], listener: SocketId, id: SocketId) -> bool
+/// Whether the connection that `id` names waits at `listener`; it is looked for in the place `near` first.
+fn is_waiting_id(entries: &[Entry], near: Option<usize>, listener: SocketId, id: SocketId) -> bool
     requires { AreInOrder entries.now }
     ensures { result ≡ is_waiting_id entries.now listener id }
 {
-    waiting_as(entries, listener, id).is_some()
+    waiting_as(entries, near, listener, id).is_some()
 }
 
-/// The place among those offered of the connection that `listener` accepts next.
+/// The place among those offered of the connection that `listener` accepts next. Each is looked for in the place `near` first: one that came just now is there.
 pub(crate) fn next_offered(
     offered: &[SocketId],
     entries: &[Entry],
+    near: Option<usize>,
     listener: SocketId,
 ) -> Option<usize>
     requires { AreInOrder entries.now }
@@ -114,7 +120,7 @@ pub(crate) fn next_offered(
 {
     offered
         .iter()
-        .position(|id| is_waiting_id(entries, listener, *id))
+        .position(|id| is_waiting_id(entries, near, listener, *id))
 }
 
 /// Puts the connection that `id` names behind those offered, where it is offered now.
@@ -133,7 +139,7 @@ pub(crate) fn offer_no_more(offered: &mut FixedVec<SocketId>, entries: &[Entry],
     ensures most { offered.new.most ≡ offered.old.most }
     ensures items { offered.new.items ≡ filter (λ id. not (is_waiting_id entries.now listener id)) offered.old.items }
 {
-    offered.retain(|id| !is_waiting_id(entries, listener, *id));
+    offered.retain(|id| !is_waiting_id(entries, None, listener, *id));
 }
 
 /// Lets the timers of every entry act whose moment has come, and takes out those whose connection is gone then.

@@ -3,7 +3,7 @@
 ghost use Rattle.std.specs.Prelude.{◌≡◌};
 
 use crate::sockets::Sockets;
-use crate::{found, table};
+use crate::table;
 use ipv4::Endpoint;
 use tcp_segment::Seq;
 
@@ -16,7 +16,7 @@ impl Sockets {
     pub fn unreachable(&mut self, local: Endpoint, peer: Endpoint, number: Seq)
         ensures { self.new ≡ after_unreachable self.old local peer number.0 }
     {
-        if let Some(place) = found::connection_between(&self.entries, &self.ends, local, peer) {
+        if let Some(place) = self.connection_between(local, peer) {
             self.outlook.turn_to(&self.entries, place);
             let fate = self.entries[place].role.unreachable(number);
             table::settle(

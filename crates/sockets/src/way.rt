@@ -6,7 +6,7 @@ use crate::arrival::is_opening;
 use crate::entry::{Entry, SocketId};
 use crate::role::Role;
 use crate::sockets::Sockets;
-use crate::{found, table};
+use crate::table;
 use ipv4::{Addr, Pair};
 use tcp_segment::TcpView;
 use tcp_state::Fate;
@@ -86,7 +86,7 @@ impl Sockets {
             return None;
         }
         let (local, peer) = self.ends(source, segment);
-        match found::connection_between(&self.entries, &self.ends, local, peer) {
+        match self.connection_between(local, peer) {
             Some(place) => {
                 let entry = &self.entries[place];
                 self.opens_anew(segment, &entry.role).then_some(entry.id)
@@ -108,7 +108,7 @@ impl Sockets {
     fn has_backlog_at(&self, port: u16) -> bool
         ensures { result ≡ has_backlog_at self.now port }
     {
-        match found::listener_at(&self.entries, &self.ends, port) {
+        match self.listener_at(port) {
             Some(place) => !self.is_backlog_full(&self.entries[place]),
             None => false,
         }
@@ -118,7 +118,7 @@ impl Sockets {
     fn id_at_port(&self, port: u16) -> Option<SocketId>
         ensures { result ≡ id_at_port self.now port }
     {
-        let place = found::listener_at(&self.entries, &self.ends, port)?;
+        let place = self.listener_at(port)?;
         self.id_at(&self.entries[place])
     }
 

@@ -10,7 +10,7 @@ pub returns : goal.returns
 returns c =
     c.then_some.ensures
     ∙ ap (λ (b : Bool). then_some b c.in_ok-place.place) (c.is_met.ensures ∙ ap (λ (e : Entry). is_sought c.args.what e.role) (sym c.index-entries-place.is))
-    ∙ sym (place_of_id c.args.entries.now c.requires c.args.id (is_sought c.args.what) c.in_ok-place.place c.index-entries-place.result (sym c.place_of.ensures ∙ c.in_ok-place.was) c.index-entries-place.is)
+    ∙ sym (place_of_id c.args.entries.now c.requires c.args.id (is_sought c.args.what) c.in_ok-place.place c.index-entries-place.result (sym c.place_near.ensures ∙ c.in_ok-place.was) c.index-entries-place.is)
 
 pub returns-in_err-place : goal.returns-in_err-place
-returns-in_err-place c = rw c.from_residual.ensures (sym (none_of_id (is_sought c.args.what) c.args.id c.args.entries.now (sym c.place_of.ensures ∙ c.in_err-place.was)))
+returns-in_err-place c = rw c.from_residual.ensures (sym (none_of_id (is_sought c.args.what) c.args.id c.args.entries.now (sym c.place_near.ensures ∙ c.in_err-place.was)))

@@ -1,5 +1,5 @@
 -- The write at the place is the change of the first UDP socket at the port, or none where it has no room.
-use Rattle.std.proofs.Common.{◌≡◌, ◌∙◌, ℕ, List, get_or, Some, refl, ap, sym}
+use Rattle.std.proofs.Common.{◌≡◌, ◌∙◌, ℕ, get_or, Some, refl, ap, sym}
 use Rattle.std.specs.List.{position}
 use Rattle.ipv4.specs.declared.addr.Endpoint.{Endpoint}
 use Rattle.udp.specs.Datagram.{UserDatagram}
@@ -8,7 +8,7 @@ use Rattle.sockets.specs.Entries.{is_datagrams_at, role_after_reception}
 use Rattle.sockets.specs.SocketsView.{SocketsView}
 use Rattle.sockets.proofs.Queues.{received}
 use Rattle.sockets.proofs.Written.{role_changed_if}
-use Rattle.sockets.proofs.Ascending.{lent_in_order, ascends_written}
+use Rattle.sockets.proofs.Ascending.{ascends_written}
 use Rattle.sockets.proofs.Filed.{index_written}
 use Rattle.sockets.proofs.KeptFiled.{filed_or_not, filed-reception}
 use Rattle.sockets.proofs.Outlooks.{outlook_written}
@@ -18,10 +18,8 @@ pub returns-clause-after : goal.returns-clause-after
 returns-clause-after c =
     let h : SocketsView = c.args.self.now in
     let d : UserDatagram = c.args.datagram.now in
-    let entries = ap (λ (w : SocketsView). w.entries) c.self.view_is in
     let place : position (is_datagrams_at d.destination) h.entries ≡ Some c.in-Some.place =
-    ap (λ (es : List Entry). position (is_datagrams_at d.destination) es) (sym entries ∙ sym c.deref.ensures.0)
-    ∙ ap (λ (port : ℕ). position (is_datagrams_at port) c.deref.result.now) (sym c.destination.ensures)
+    ap (λ (port : ℕ). position (is_datagrams_at port) h.entries) (sym c.destination.ensures)
     ∙ sym c.datagrams_at.ensures
     ∙ c.in-Some.is
     in
@@ -42,7 +40,3 @@ invariant_of-self c =
 
 pub turn_to-requires-clause-known : goal.turn_to-requires-clause-known
 turn_to-requires-clause-known c = (c.self.inside.sizes.entries, c.self.invariant.3)
-
--- the entries that are lent stand in order
-pub datagrams_at-requires-clause-order : goal.datagrams_at-requires-clause-order
-datagrams_at-requires-clause-order c = lent_in_order _ _ _ c.deref.ensures.0 c.self.invariant.1

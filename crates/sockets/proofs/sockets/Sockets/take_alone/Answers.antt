@@ -1,32 +1,24 @@
 -- A segment for a listener that opens nothing is answered as a listener answers it.
-use Rattle.std.proofs.Common.{◌≡◌, ◌∙◌, ℕ, List, false, Some, refl, ap, sym}
+use Rattle.std.proofs.Common.{◌≡◌, ◌∙◌, ℕ, false, Some, refl, ap, sym}
 use Rattle.std.specs.List.{position}
 use Rattle.tcp_segment.specs.Segment.{Segment}
-use Rattle.sockets.specs.declared.entry.Entry.{Entry}
 use Rattle.sockets.specs.Arrival.{is_opening}
 use Rattle.sockets.specs.Replies.{answer_at_listener}
 use Rattle.sockets.specs.Entries.{is_listening_at}
 use Rattle.sockets.specs.SocketsView.{SocketsView}
 use Rattle.sockets.proofs.Arrived.{listener-answers, meets_reply}
 use Rattle.sockets.proofs.Firsts.{found_by_place}
-use Rattle.sockets.proofs.Ascending.{lent_in_order}
 use Rattle.sockets.proofs.sockets.Sockets.take_alone.Goals as goal
 
 pub returns-in-Some-2 : goal.returns-in-Some-2
 returns-in-Some-2 c =
     let h : SocketsView = c.args.self.now in
     let s : Segment = c.args.segment.now in
-    let entries = ap (λ (w : SocketsView). w.entries) c.self.view_is in
     let place : position (is_listening_at s.destination) h.entries ≡ Some c.in-Some-2.field-0 =
-    ap (λ (es : List Entry). position (is_listening_at s.destination) es) (sym entries ∙ sym c.deref.ensures.0)
-    ∙ ap (λ (port : ℕ). position (is_listening_at port) c.deref.result.now) (sym c.destination.ensures)
+    ap (λ (port : ℕ). position (is_listening_at port) h.entries) (sym c.destination.ensures)
     ∙ sym c.listener_at.ensures
     ∙ c.in-Some-2.is
     in
     let found = found_by_place (is_listening_at s.destination) h.entries c.in-Some-2.field-0 place in
     let opens : is_opening s.flags ≡ false = sym c.is_opening.ensures ∙ c.if-is_opening.false in
     meets_reply _ h h _ (answer_at_listener s) _ _ (listener-answers h c.args.now c.args.isn.0 c.args.source s found.0 found.1 opens) c.answer_at_listener.ensures refl (c.answered-in-Some-2.ensures h)
-
--- the entries that are lent stand in order
-pub listener_at-requires-clause-order : goal.listener_at-requires-clause-order
-listener_at-requires-clause-order c = lent_in_order _ _ _ c.deref.ensures.0 c.self.invariant.1

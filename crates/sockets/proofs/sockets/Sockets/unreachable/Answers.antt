@@ -9,7 +9,7 @@ use Rattle.sockets.proofs.Roomy.{places_stay}
 use Rattle.sockets.proofs.Arrived.{entry_settled}
 use Rattle.sockets.proofs.Written.{found_lent, role_changed}
 use Rattle.sockets.proofs.Told.{told-found}
-use Rattle.sockets.proofs.Ascending.{ascends_written, ascends_settled, lent_in_order}
+use Rattle.sockets.proofs.Ascending.{ascends_written, ascends_settled}
 use Rattle.sockets.proofs.Filed.{index_written}
 use Rattle.sockets.proofs.KeptFiled.{filed_role, filed-unreachable}
 use Rattle.sockets.proofs.Outlooks.{outlook_written}
@@ -20,9 +20,8 @@ returns-in-Some c =
     let h : SocketsView = c.args.self.now in
     let number : ℕ = c.args.number.0 in
     let test : Entry → Bool = is_between c.args.local c.args.peer in
-    let entries = ap (λ (w : SocketsView). w.entries) c.self.view_is in
     let place : position test h.entries ≡ Some c.in-Some.place =
-    ap (λ (es : List Entry). position test es) (sym entries ∙ sym c.deref.ensures.0) ∙ sym c.connection_between.ensures ∙ c.in-Some.is
+    sym c.connection_between.ensures ∙ c.in-Some.is
     in
     let x : Entry = c.index-deref_mut-place.result in
     let found : find test h.entries ≡ Some x = found_lent _ h test _ _ x c.self.view_is place c.deref_mut.ensures.value c.index-deref_mut-place.is in
@@ -38,10 +37,6 @@ invariant_of-self c = ((c.self.invariant.0.0, places_stay c.settle.ensures.most.
 
 pub settle-requires-clause-index : goal.settle-requires-clause-index
 settle-requires-clause-index c = index_written _ _ _ _ _ c.index-deref_mut-place.result c.self.invariant.2 c.deref_mut.ensures.value (filed_role (role_after_unreachable c.args.number.0) _ _ (filed-unreachable _ _) c.unreachable-fate.ensures.after)
-
--- the entries that are lent stand in order
-pub connection_between-requires-clause-order : goal.connection_between-requires-clause-order
-connection_between-requires-clause-order c = lent_in_order _ _ _ c.deref.ensures.0 c.self.invariant.1
 
 pub settle-requires-clause-known : goal.settle-requires-clause-known
 settle-requires-clause-known c = (c.self.inside.sizes.entries, outlook_written _ _ _ _ _ _ (c.turn_to.ensures.known _ c.self.invariant.3) c.turn_to.ensures.at_hand c.deref_mut.ensures.value)

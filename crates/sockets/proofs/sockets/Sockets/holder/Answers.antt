@@ -6,11 +6,11 @@ use Rattle.sockets.specs.declared.entry.Entry.{Entry}
 use Rattle.sockets.specs.Entries.{is_between}
 use Rattle.sockets.specs.Outlook.{first_of}
 use Rattle.sockets.proofs.Either.{position-either}
-use Rattle.sockets.proofs.found.holder.Goals as goal
+use Rattle.sockets.proofs.sockets.Sockets.holder.Goals as goal
 
 pub returns : goal.returns
 returns c =
-    let xs : List Entry = c.args.entries.now in
+    let xs : List Entry = c.args.self.now.entries in
     let one : Endpoint = c.args.pair.first in
     let other : Endpoint = c.args.pair.second in
     let there : c.connection_between-there.result ≡ position (is_between one other) xs =
