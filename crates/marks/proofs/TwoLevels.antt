@@ -1,12 +1,19 @@
 -- What a summary says of the words below it.
-use Rattle.std.proofs.Common.{◌≡◌, ℕ, ◌+◌, ◌*◌, ◌/◌, ◌%◌, ◌^◌, ◌<◌, ◌≤◌, inl, inr, true, false, List, get_or, sym, ◌∙◌, ap, w64, arith, Option, Some, None, MatchOption}
+use Rattle.std.proofs.Common.{◌≡◌, ℕ, ◌+◌, ◌*◌, ◌/◌, ◌%◌, ◌^◌, ◌<◌, ◌≤◌, inl, inr, true, false, List, length, get_or, sym, ◌∙◌, ap, w64, arith, Option, Some, None, MatchOption}
 use Rattle.std.specs.Int.{trailing_zeros}
 use Rattle.std.proofs.lemmas.Nat.{div-mul-add, mod-mul-add}
 use Rattle.std.proofs.lemmas.Nat.Bits.{bit_at-trailing_zeros}
 use Rattle.std.proofs.lemmas.Bool.{cases_lt, ltb-true, ltb-false, true≢false}
 use Rattle.marks.specs.Bits.{has_bit, has, IsFirst, Summarizes}
 use Rattle.marks.proofs.OneWord.{bit_is_set}
-use Rattle.marks.proofs.ByPlace.{has_at, none_in_zero}
+use Rattle.marks.proofs.ByPlace.{has_at, none_in_zero, none_past}
+
+-- where each word is 0
+none_in_zeros : (words : List ℕ) → ((at : ℕ) → at < length words → get_or words at 0 ≡ 0) → (k : ℕ) → has words k ≡ false
+none_in_zeros words zero k = elim (cases_lt (k / 64) (length words)) [
+  | inl within ↦ none_in_zero words k (zero (k / 64) within)
+  | inr past ↦ none_past words k past
+]
 
 -- a word that isn't 0 has a bit that is set
 some_bit : (word : ℕ) → 0 < word → word < 2 ^ 64 → (at : ℕ) × (at < 64) × (has_bit word at ≡ true)
@@ -20,6 +27,10 @@ module _ (words summary : List ℕ) (sums : Summarizes summary words) where
   none_under k clear =
       let low : get_or words (k / 64) 0 ≤ 0 = ltb-false _ _ (sym (sums (k / 64)) ∙ clear) in
       none_in_zero words k (omega arith)
+
+  -- none is set where each word of the summary is 0
+  pub none_at_all : ((at : ℕ) → at < length summary → get_or summary at 0 ≡ 0) → (k : ℕ) → has words k ≡ false
+  none_at_all zero k = none_under k (none_in_zeros summary zero (k / 64))
 
   -- and one whose bit is set has one
   some_under : (j : ℕ) → has summary j ≡ true → get_or words j 0 < 2 ^ 64 → ((k : ℕ) → j * 64 ≤ k → k / 64 ≡ j * 64 / 64 → has words k ≡ false) → ⊥

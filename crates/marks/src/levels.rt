@@ -5,7 +5,7 @@ ghost use Rattle.marks.specs.Bits.{has, IsFirst, Summarizes};
 
 use crate::MOST;
 use crate::bits::{with_bit, without_bit};
-use crate::words::{first, first_in_word, word_at, write};
+use crate::words::{first, first_in_word, next_marked, word_at, write};
 
 /// Sets the bit of a place, or clears it.
 pub(crate) fn put(words: &mut [u64], summary: &mut [u64], place: usize, is_set: bool)
@@ -39,13 +39,16 @@ pub(crate) fn take_out(words: &mut [u64], summary: &mut [u64], place: usize, use
     }
 }
 
-/// The first place from this one on whose bit is set.
+/// The first place from this one on whose bit is set. Where none is the summary alone tells it.
 pub(crate) fn first_from(words: &[u64], summary: &[u64], from: usize) -> Option<usize>
     requires most { length words.now ≤ MOST }
     requires little { length summary.now ≤ MOST }
     requires summary { Summarizes summary.now words.now }
     ensures { MatchOption result ((k : ℕ) → from ≤ k → has words.now k ≡ false) (λ place. IsFirst words.now from place) }
 {
+    if next_marked(summary, 0) == summary.len() {
+        return None;
+    }
     let at = from / 64;
     if at >= words.len() {
         return None;

@@ -48,7 +48,7 @@ pub(crate) fn first(words: &[u64], mut from: usize) -> Option<usize>
 }
 
 /// The first word from this one on that isn't 0, or how many words there are where none is.
-fn next_marked(words: &[u64], mut at: usize) -> usize
+pub(crate) fn next_marked(words: &[u64], mut at: usize) -> usize
     requires { at ≤ length words.now }
     ensures behind { at ≤ result }
     ensures within { result ≤ length words.now }

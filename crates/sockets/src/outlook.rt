@@ -46,7 +46,8 @@ impl Outlook {
         self.at_hand
     }
 
-    /// Something is about to happen to the entry in this place, and to no other.
+    /// Something is about to happen to the entry in this place, and to no other. Mostly something did last.
+    #[inline(always)]
     pub(crate) fn turn_to(&mut self, entries: &FixedVec<Entry>, place: usize)
         requires known { (most : ℕ) × IsOutlook self.old most entries.now.items }
         requires within { place < length entries.now.items }
@@ -54,12 +55,23 @@ impl Outlook {
         ensures known { (most : ℕ) → IsOutlook self.old most entries.now.items → IsOutlook self.new most entries.now.items }
     {
         if self.at_hand != Some(place) {
-            self.turn_away(entries);
-            self.busy.set(place, false);
-            self.pending.set(place, false);
-            self.deadlines.set(place, None);
-            self.at_hand = Some(place);
+            self.turn_over(entries, place);
         }
+    }
+
+    /// The same where something happened to another entry last.
+    #[inline(never)]
+    fn turn_over(&mut self, entries: &FixedVec<Entry>, place: usize)
+        requires known { (most : ℕ) × IsOutlook self.old most entries.now.items }
+        requires within { place < length entries.now.items }
+        ensures at_hand { self.new.at_hand ≡ Some place }
+        ensures known { (most : ℕ) → IsOutlook self.old most entries.now.items → IsOutlook self.new most entries.now.items }
+    {
+        self.turn_away(entries);
+        self.busy.set(place, false);
+        self.pending.set(place, false);
+        self.deadlines.set(place, None);
+        self.at_hand = Some(place);
     }
 
     /// Notes what is true of the entry at hand, and no entry is at hand.

@@ -61,6 +61,7 @@ impl Stretch {
 
 impl Connection {
     /// The segment that is due first.
+    #[inline(always)]
     pub fn due(&self) -> Option<Due>
         ensures first { result ≡ first_due self.now }
         ensures may { IfSome result (MayGoOut self.now) }
@@ -71,6 +72,16 @@ impl Connection {
         if self.is_idle() {
             return self.ack_due();
         }
+        self.due_with_more()
+    }
+
+    /// The segment that is due first, of a connection that owes no reset, and where more may be due than an acknowledgement.
+    #[inline(never)]
+    fn due_with_more(&self) -> Option<Due>
+        requires { self.now.owes_reset ≡ false }
+        ensures first { result ≡ first_due self.now }
+        ensures may { IfSome result (MayGoOut self.now) }
+    {
         if self.state.is_opening() {
             return self.opening_due();
         }
