@@ -36,6 +36,7 @@ pub enum Leave {
 }
 
 /// What an entry is.
+#[derive(Drop)]
 pub(crate) enum Role {
     /// A TCP socket that has had no connection, with the room of one, bound or not.
     Idle {
@@ -57,30 +58,6 @@ pub(crate) enum Role {
         bound: Option<Endpoint>,
         socket: UdpSocket,
     },
-}
-
-// Written out: the proof of what lets a role go then has one call, and not each part of it.
-impl Drop for Role {
-    fn drop(self) {
-        match self {
-            Role::Idle {
-                buffers: _,
-                bound: _,
-            } => {}
-            Role::Listener {
-                local: _,
-                backlog: _,
-            } => {}
-            Role::Connected {
-                connection: _,
-                listener: _,
-            } => {}
-            Role::Datagrams {
-                bound: _,
-                socket: _,
-            } => {}
-        }
-    }
 }
 
 impl Default for Role {
@@ -525,21 +502,13 @@ impl Role {
     pub(crate) fn connect(&mut self, now: Moment, local: Endpoint, peer: Endpoint, isn: Seq)
         ensures { self.new ≡ role_after_connect local peer isn.0 now self.old }
     {
-        *self = mem::take(self).connected(now, local, peer, isn);
-    }
-
-    /// What an idle socket is with a connection that it opens at this moment.
-    #[inline(always)]
-    fn connected(self, now: Moment, local: Endpoint, peer: Endpoint, isn: Seq) -> Role
-        ensures { result ≡ role_after_connect local peer isn.0 now self }
-    {
-        match self {
-            Role::Idle { buffers, bound: _ } => Role::Connected {
+        *self = match mem::take(self) {
+            Role::Idle { buffers, .. } => Role::Connected {
                 connection: Connection::active(buffers, local, peer, isn, now),
                 listener: None,
             },
             other => other,
-        }
+        };
     }
 
     /// Lets a connection leave its listener.
