@@ -1,4 +1,5 @@
 pub mod ByPlace
+pub mod Counted
 pub mod Kept
 pub mod OneWord
 pub mod Stored

@@ -13,7 +13,7 @@ use Rattle.marks.specs.Marked.{marked}
 pub length_marked : (words : List ℕ) (n : ℕ) → length (marked words n) ≡ n
 length_marked words n = length-map-range_with_len (has words) 0 n
 
-mark_at : (words : List ℕ) (n k : ℕ) (d : Bool) → k < n → get_or (marked words n) k d ≡ has words k
+pub mark_at : (words : List ℕ) (n k : ℕ) (d : Bool) → k < n → get_or (marked words n) k d ≡ has words k
 mark_at words n k d within = get_or-map-range_with_len (has words) 0 n k k d within (omega arith)
 
 -- the marks of these places are those of a list

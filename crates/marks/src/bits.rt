@@ -3,6 +3,14 @@
 ghost use Rattle.std.specs.Prelude.{◌≡◌, ◌≢◌, ℕ, ◌+◌, ◌/◌, ◌%◌, ◌<◌, ◌≤◌, Bool, true, false, length, MatchOption};
 ghost use Rattle.marks.specs.Bits.{has, has_bit};
 
+/// Whether this bit of a word is set.
+pub(crate) fn is_bit_set(word: u64, at: usize) -> bool
+    requires { at < 64 }
+    ensures { result ≡ has_bit word at }
+{
+    (word >> at) % 2 == 1
+}
+
 /// The word with this bit set or not, and the others as they are.
 pub(crate) fn with_bit(word: u64, at: usize, is_set: bool) -> u64
     requires { at < 64 }

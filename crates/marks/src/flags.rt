@@ -1,8 +1,10 @@
 //! Marks by place.
 
-ghost use Rattle.std.specs.Prelude.{Bool, ◌≡◌, ◌<◌, ◌≤◌, ◌++◌, [], ◌∷◌, length, set, IfOk, remove};
+ghost use Rattle.std.specs.Prelude.{Bool, not, if◌then◌else◌, ◌≡◌, ◌<◌, ◌≤◌, ◌++◌, [], ◌∷◌, length, set, IfOk, remove};
+ghost use Rattle.std.specs.List.{list_any};
 ghost use Rattle.marks.specs.First.{first_from};
 
+use crate::words::has;
 use crate::{MOST, levels};
 use std::alloc::{AllocError, Global};
 use std::marker::Model;
@@ -12,6 +14,8 @@ use std::marker::Model;
 pub struct Marks {
     len: usize,
     most: usize,
+    /// How many of the places are marked.
+    count: usize,
     /// Of each place one bit. All room is taken where the marks are made.
     words: Vec<u64>,
     /// Of each word one bit, which says whether it isn't 0.
@@ -19,7 +23,7 @@ pub struct Marks {
 }
 
 impl Model for Marks {
-    ghost use Rattle.std.specs.Prelude.{Bool};
+    ghost use Rattle.std.specs.Prelude.{◌≡◌, Bool, count_by};
     ghost use Rattle.fixed_vec.specs.FixedVec.{FixedVec as Items};
     ghost use Rattle.marks.specs.Marked.{marked, IsStored};
 
@@ -27,7 +31,15 @@ impl Model for Marks {
 
     ghost view = { λ m. record { items = marked m.words.items m.len; most = m.most } };
 
-    ghost invariant = { λ m. IsStored m.words.items m.summary.items m.len m.most };
+    ghost invariant = { λ m. IsStored m.words.items m.summary.items m.len m.most × (m.count ≡ count_by (λ is_marked. is_marked) (marked m.words.items m.len)) };
+}
+
+/// How many marks this is: 1 or 0.
+#[inline(always)]
+fn count_of(is_marked: bool) -> usize
+    ensures { result ≡ (if is_marked then 1 else 0) }
+{
+    usize::from(is_marked)
 }
 
 impl Marks {
@@ -41,6 +53,7 @@ impl Marks {
         Ok(Marks {
             len: 0,
             most,
+            count: 0,
             words,
             summary,
         })
@@ -54,6 +67,7 @@ impl Marks {
     {
         let place = self.len;
         self.len += 1;
+        self.count += count_of(is_marked);
         levels::put(
             self.words.as_mut_slice(),
             self.summary.as_mut_slice(),
@@ -68,6 +82,8 @@ impl Marks {
         ensures items { self.new.items ≡ set self.old.items place is_marked }
         ensures most { self.new.most ≡ self.old.most }
     {
+        let was_marked = has(self.words.as_slice(), place);
+        self.count = self.count + count_of(is_marked) - count_of(was_marked);
         levels::put(
             self.words.as_mut_slice(),
             self.summary.as_mut_slice(),
@@ -82,6 +98,8 @@ impl Marks {
         ensures items { self.new.items ≡ remove self.old.items place }
         ensures most { self.new.most ≡ self.old.most }
     {
+        let was_marked = has(self.words.as_slice(), place);
+        self.count -= count_of(was_marked);
         let used = self.len.div_ceil(64);
         levels::take_out(
             self.words.as_mut_slice(),
@@ -90,6 +108,14 @@ impl Marks {
             used,
         );
         self.len -= 1;
+    }
+
+    /// Whether no place is marked.
+    #[inline(always)]
+    pub fn is_clear(&self) -> bool
+        ensures { result ≡ not (list_any (λ is_marked. is_marked) self.now.items) }
+    {
+        self.count == 0
     }
 
     /// The first marked place from `from` on.

@@ -4,7 +4,15 @@ ghost use Rattle.std.specs.Prelude.{◌≡◌, ◌≢◌, ℕ, ◌+◌, ◌*◌,
 ghost use Rattle.marks.specs.Bits.{has, IsFirst};
 
 use crate::MOST;
-use crate::bits::{first_bit, with_bit};
+use crate::bits::{first_bit, is_bit_set, with_bit};
+
+/// Whether the bit of a place is set.
+pub(crate) fn has(words: &[u64], place: usize) -> bool
+    requires { place / 64 < length words.now }
+    ensures { result ≡ has words.now place }
+{
+    is_bit_set(words[place / 64], place % 64)
+}
 
 /// Sets the bit of a place, or clears it.
 pub(crate) fn write(words: &mut [u64], place: usize, is_set: bool)
