@@ -1,3 +1,4 @@
+pub mod Calm
 pub mod Firsts
 pub mod Ascending
 pub mod Written

@@ -49,8 +49,31 @@ impl Sockets {
     ghost use Rattle.sockets.specs.Outlook.{has_due};
     ghost use Rattle.marks.specs.First.{first_from};
 
-    /// What the first entry from the place `from` on that has something to send sends first; None where none has.
-    pub fn next_due(&self, mut from: usize) -> Option<NextDue>
+    /// What the first entry from the place `from` on that has something to send sends first; None where none has. Where none is noted as busy only the
+    /// entry at hand may have something, and it is asked alone.
+    #[inline(always)]
+    pub fn next_due(&self, from: usize) -> Option<NextDue>
+        ensures place { option_map (λ due. due.place) result ≡ first_from has_due from self.now.entries }
+        ensures due { IfSome result (λ due. (e : Entry) → slice_get self.now.entries due.place ≡ Some e → slice_get (dues_of e.role) 0 ≡ Some (due.peer, due.outgoing)) }
+    {
+        if self.outlook.is_calm() {
+            let place = self.outlook.at_hand()?;
+            if place < from {
+                return None;
+            }
+            let (peer, outgoing) = self.entries[place].due_at(0)?;
+            return Some(NextDue {
+                place,
+                peer,
+                outgoing,
+            });
+        }
+        self.next_due_among(from)
+    }
+
+    /// The same where some may be noted as busy: these and the entry at hand are asked in turn, until one has something to send.
+    #[inline(never)]
+    fn next_due_among(&self, mut from: usize) -> Option<NextDue>
         ensures place { option_map (λ due. due.place) result ≡ first_from has_due from self.now.entries }
         ensures due { IfSome result (λ due. (e : Entry) → slice_get self.now.entries due.place ≡ Some e → slice_get (dues_of e.role) 0 ≡ Some (due.peer, due.outgoing)) }
     {

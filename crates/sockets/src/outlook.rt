@@ -1,6 +1,7 @@
 //! What the table knows of its entries without a walk over them: which are busy, which nobody has accepted, and the least of their deadlines.
 
-ghost use Rattle.std.specs.Prelude.{◌≡◌, ◌<◌, ◌≤◌, ◌++◌, [], ◌∷◌, ℕ, List, length, remove, fold, count_by, None, Some, IfOk, MatchOption};
+ghost use Rattle.std.specs.Prelude.{◌≡◌, ◌<◌, ◌≤◌, ◌++◌, [], ◌∷◌, ℕ, not, List, length, remove, fold, count_by, None, Some, IfOk, MatchOption};
+ghost use Rattle.std.specs.List.{list_any};
 ghost use Rattle.clock.specs.Moments.{has_come, sooner};
 ghost use Rattle.marks.specs.First.{first_from};
 ghost use Rattle.marks.specs.declared.TheConstants.{MOST};
@@ -108,6 +109,14 @@ impl Outlook {
         self.pending.remove(place);
         self.deadlines.remove(place);
         self.at_hand = at_without(self.at_hand, place);
+    }
+
+    /// Whether no entry is noted as busy: none is then, but perhaps the one at hand.
+    #[inline(always)]
+    pub(crate) fn is_calm(&self) -> bool
+        ensures { result ≡ not (list_any (λ is_noted. is_noted) self.now.busy.items) }
+    {
+        self.busy.is_clear()
     }
 
     /// The place of the first entry from the place `from` on that is busy.

@@ -3,7 +3,7 @@ use Rattle.std.proofs.Common.{◌≡◌, ◌-◌, ◌≤◌, false, length}
 use Rattle.std.specs.List.{AllWithin}
 use Rattle.sockets.specs.declared.entry.Entry.{Entry}
 use Rattle.sockets.specs.Outlook.{has_due}
-use Rattle.sockets.proofs.sockets.Sockets.next_due.Given as goal
+use Rattle.sockets.proofs.sockets.Sockets.next_due_among.Given as goal
 
 abbrev pub invariant-loop-place : goal.invariant-loop-place
 invariant-loop-place l = (l.fn.from ≤ l.from) × AllWithin (λ (e : Entry). has_due e ≡ false) l.entries l.fn.from l.from

@@ -1,0 +1,56 @@
+-- Where no entry is noted as busy, only the one at hand may have something to send.
+use Rattle.std.proofs.Common.{◌≡◌, ℕ, ◌+◌, ◌<◌, ◌≤◌, Bool, true, false, not, List, length, get_or, Some, None, sym, ◌∙◌, ap, arith}
+use Rattle.std.specs.Prelude.{slice_get}
+use Rattle.std.specs.List.{list_any, AllWithin}
+use Rattle.std.proofs.lemmas.List.Folds.{list_any_at}
+use Rattle.ipv4.specs.declared.addr.Endpoint.{Endpoint}
+use Rattle.marks.specs.First.{first_from}
+use Rattle.sockets.specs.declared.emission.Outgoing.{Outgoing}
+use Rattle.sockets.specs.declared.entry.Entry.{Entry}
+use Rattle.sockets.specs.declared.outlook.Outlook.{Outlook}
+use Rattle.sockets.specs.Entries.{dues_of}
+use Rattle.sockets.specs.Outlook.{has_due, IsOutlook}
+use Rattle.sockets.proofs.Followed.{by_test}
+use Rattle.sockets.proofs.NextDues.{first_from-none, passed_on, due_found, due_there, due_missed}
+use Rattle.sockets.proofs.Quiet.{IsTold, told_none_at_hand, told_behind, told_beside}
+
+abbrev is_noted : Bool → Bool
+is_noted b = b
+
+-- none is noted from any place on
+none_noted : (notes : List Bool) → not (list_any is_noted notes) ≡ true → (from : ℕ) → None ≡ first_from is_noted from notes
+none_noted notes calm from = sym (first_from-none is_noted from notes (λ k d low high. by_test (get_or notes k d)
+    (λ noted. let some : list_any is_noted notes ≡ true = list_any_at is_noted notes k d high noted in let bad : false ≡ true = sym (ap not some) ∙ calm in cc)
+    (λ unnoted. unnoted)))
+
+module _ (o : Outlook) (most : ℕ) (xs : List Entry) (known : IsOutlook o most xs) (calm : not (list_any is_noted o.busy.items) ≡ true) where
+  nothing_before : (from : ℕ) → AllWithin (λ (e : Entry). has_due e ≡ false) xs from from
+  nothing_before from k d low high = absurd (omega (arith, low, high))
+
+  -- nothing is due where no entry is at hand ..
+  pub calm_alone : (from : ℕ) → o.at_hand ≡ None → None ≡ first_from has_due from xs
+  calm_alone from none =
+      sym (first_from-none has_due from xs (passed_on xs from from (length xs) (nothing_before from) (told_none_at_hand o most xs known from None (none_noted o.busy.items calm from) none)))
+
+  -- .. or it stands further in front
+  pub calm_behind : (from place : ℕ) → o.at_hand ≡ Some place → place < from → None ≡ first_from has_due from xs
+  calm_behind from place at before =
+      sym (first_from-none has_due from xs (passed_on xs from from (length xs) (nothing_before from) (told_behind o most xs known from None (none_noted o.busy.items calm from) place at before)))
+
+  module _ (from place : ℕ) (at : o.at_hand ≡ Some place) (low : from ≤ place) (x : Entry) (is : x ≡ get_or xs place x) where
+    there : IsTold xs from (Some place)
+    there = told_beside o most xs known from None (none_noted o.busy.items calm from) place at low
+
+    -- .. or has nothing due
+    pub calm_missed : slice_get (dues_of x.role) 0 ≡ None → None ≡ first_from has_due from xs
+    calm_missed none =
+        sym (first_from-none has_due from xs (passed_on xs from (place + 1) (length xs)
+        (due_missed xs from from place x (omega arith) (nothing_before from) there is none)
+        (told_behind o most xs known (place + 1) None (none_noted o.busy.items calm (place + 1)) place at (omega arith))))
+
+    -- and else its first is
+    pub calm_found : (due : Endpoint × Outgoing) → slice_get (dues_of x.role) 0 ≡ Some due → Some place ≡ first_from has_due from xs
+    calm_found due some = sym (due_found xs from from place x (omega arith) (nothing_before from) there is due some)
+
+    pub calm_there : (due : Endpoint × Outgoing) → slice_get (dues_of x.role) 0 ≡ Some due → (e : Entry) → slice_get xs place ≡ Some e → slice_get (dues_of e.role) 0 ≡ Some due
+    calm_there due some = due_there xs from from place x (omega arith) (nothing_before from) there is due some
