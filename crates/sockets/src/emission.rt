@@ -2,8 +2,11 @@
 
 ghost use Rattle.std.specs.Prelude.{◌≡◌, ◌≤◌, length, Bool, Some, IfSome, option_map, slice_get};
 ghost use Rattle.ipv4.specs.declared.addr.Addr.{Addr};
+ghost use Rattle.clock.specs.declared.moment.Moment.{Moment};
 ghost use Rattle.sockets.specs.Emission.{IsWithin, IsNextAt};
 ghost use Rattle.sockets.specs.Entries.{IsDueAt};
+ghost use Rattle.sockets.specs.declared.emission.Outgoing.TheVariants.{Segment as SegmentOf, Datagram as DatagramAt};
+ghost use Rattle.sockets.specs.declared.emission.Emitted.TheVariants.{Segment as SegmentOut, Datagram as PartOut};
 
 use crate::sockets::Sockets;
 use crate::table;
@@ -93,6 +96,7 @@ impl Sockets {
 
     /// Writes what the entry in this place has to send, a segment or a part of a datagram, from `out[0]` on, and answers what was written. The
     /// entry is taken out where it is over then. Whatever the test by which it is the first that may go out, this is the emission by that test.
+    #[inline(always)]
     pub fn emit_at(
         &mut self,
         place: usize,
@@ -108,11 +112,29 @@ impl Sockets {
         ensures after { (goes : Addr → Bool) → IsNextAt self.old goes place outgoing → self.new ≡ after_segment_sent self.old goes now }
         ensures frame { (goes : Addr → Bool) → IsNextAt self.old goes place outgoing → out.new ≡ emitted_front self.old goes out.old }
     {
+        match outgoing {
+            Outgoing::Segment(due) => {
+                Emitted::Segment(self.emit_segment_at(place, due, now, out))
+            }
+            Outgoing::Datagram(number) => {
+                Emitted::Datagram(self.emit_datagram_at(place, number, out))
+            }
+        }
+    }
+
+    /// Writes the segment that the connection in this place has to send, from `out[0]` on, and answers its length in octets.
+    fn emit_segment_at(&mut self, place: usize, due: Due, now: Moment, out: &mut [u8]) -> usize
+        requires due { IsDueAt self.old.entries place (SegmentOf due) }
+        requires room { MOST_SEGMENT ≤ length out.old }
+        ensures what { (goes : Addr → Bool) → IsNextAt self.old goes place (SegmentOf due) → Some (SegmentOut result) ≡ emitted self.old goes }
+        ensures bound { result ≤ MOST_SEGMENT }
+        ensures after { (goes : Addr → Bool) → IsNextAt self.old goes place (SegmentOf due) → self.new ≡ after_segment_sent self.old goes now }
+        ensures frame { (goes : Addr → Bool) → IsNextAt self.old goes place (SegmentOf due) → out.new ≡ emitted_front self.old goes out.old }
+    {
         let now = self.later_moment(now);
-        let own = self.addr;
         self.outlook.turn_to(&self.entries, place);
         let entry = &mut self.entries[place];
-        let emitted = entry.role.emit(outgoing, own, now, out);
+        let len = entry.role.emit_segment(due, now, out);
         let fate = entry.role.emission_fate_of();
         table::settle(
             &mut self.entries,
@@ -121,6 +143,32 @@ impl Sockets {
             place,
             fate,
         );
-        emitted
+        len
+    }
+
+    /// Writes the next part of the datagram with this number, of those that the UDP socket in this place has to send, from `out[0]` on, and answers what the
+    /// header of IPv4 has to tell of it.
+    #[inline(never)]
+    fn emit_datagram_at(&mut self, place: usize, number: usize, out: &mut [u8]) -> Part
+        requires due { IsDueAt self.old.entries place (DatagramAt number) }
+        requires room { MOST_IN_FRAGMENT ≤ length out.old }
+        ensures what { (goes : Addr → Bool) → IsNextAt self.old goes place (DatagramAt number) → Some (PartOut result) ≡ emitted self.old goes }
+        ensures bound { IsWithin (PartOut result) }
+        ensures after { (goes : Addr → Bool) (now : Moment) → IsNextAt self.old goes place (DatagramAt number) → self.new ≡ after_segment_sent self.old goes now }
+        ensures frame { (goes : Addr → Bool) → IsNextAt self.old goes place (DatagramAt number) → out.new ≡ emitted_front self.old goes out.old }
+    {
+        let own = self.addr;
+        self.outlook.turn_to(&self.entries, place);
+        let entry = &mut self.entries[place];
+        let part = entry.role.emit_datagram(number, own, out);
+        let fate = entry.role.emission_fate_of();
+        table::settle(
+            &mut self.entries,
+            &mut self.ends,
+            &mut self.outlook,
+            place,
+            fate,
+        );
+        part
     }
 }

@@ -5,10 +5,13 @@ ghost use Rattle.std.specs.Result.{result_err};
 ghost use Rattle.ipv4.specs.declared.addr.Addr.{Addr};
 ghost use Rattle.sockets.specs.Calls.{own_end};
 ghost use Rattle.sockets.specs.Emission.{IsWithin};
+ghost use Rattle.clock.specs.declared.moment.Moment.{Moment};
+ghost use Rattle.sockets.specs.declared.emission.Outgoing.TheVariants.{Segment as SegmentOf, Datagram as DatagramAt};
+ghost use Rattle.sockets.specs.declared.emission.Emitted.TheVariants.{Segment as SegmentOut, Datagram as PartOut};
 ghost use Rattle.sockets.specs.Lost.{is_hopless, waits_until};
 ghost use Rattle.sockets.specs.Entries.{is_closed_by, is_pending, is_left, has_socket, is_live_between, uses_port, uses_datagram_port, waits_at, is_in_syn_received, peer_of, shown_state, deadline_of, dues_of, HasOutgoing, reset_wait, backlog_of, listens_at, is_kept, source_of};
 
-use crate::emission::{Emitted, Outgoing};
+use crate::emission::Outgoing;
 use crate::entry::SocketId;
 use crate::refusal::Refusal;
 use crate::state::SocketState;
@@ -16,8 +19,8 @@ use clock::{HOP_WAIT, Moment};
 use ipv4::{Addr, Endpoint, Pair};
 use std::mem;
 use tcp_segment::{Seq, TcpView};
-use tcp_state::{Buffers, Connection, Fate, MOST_SEGMENT, Received, State};
-use udp::MOST_IN_FRAGMENT;
+use tcp_state::{Buffers, Connection, Due, Fate, MOST_SEGMENT, Received, State};
+use udp::{MOST_IN_FRAGMENT, Part};
 use udp_socket::{MOST_OCTETS, UdpSocket};
 
 /// Where a socket is that is not bound: at 0.0.0.0 and port 0.
@@ -740,29 +743,34 @@ impl Role {
         }
     }
 
-    /// Writes what it has to send, from our address, from `out[0]` on, and answers what was written.
-    pub(crate) fn emit(
-        &mut self,
-        outgoing: Outgoing,
-        own: Addr,
-        now: Moment,
-        out: &mut [u8],
-    ) -> Emitted
-        requires due { HasOutgoing self.old outgoing }
-        requires segment { MOST_SEGMENT ≤ length out.old }
-        requires part { MOST_IN_FRAGMENT ≤ length out.old }
-        ensures what { Some result ≡ due_emitted outgoing self.old }
-        ensures bound { IsWithin result }
-        ensures after { self.new ≡ role_after_emission now outgoing self.old }
-        ensures frame { out.new ≡ due_front own outgoing self.old out.old }
+    /// Writes the segment that a connection has to send, from `out[0]` on, and answers its length in octets.
+    #[inline(always)]
+    pub(crate) fn emit_segment(&mut self, due: Due, now: Moment, out: &mut [u8]) -> usize
+        requires due { HasOutgoing self.old (SegmentOf due) }
+        requires room { MOST_SEGMENT ≤ length out.old }
+        ensures what { Some (SegmentOut result) ≡ due_emitted (SegmentOf due) self.old }
+        ensures bound { result ≤ MOST_SEGMENT }
+        ensures after { self.new ≡ role_after_emission now (SegmentOf due) self.old }
+        ensures frame { (own : Addr) → out.new ≡ due_front own (SegmentOf due) self.old out.old }
     {
-        match (self, outgoing) {
-            (Role::Connected { connection, .. }, Outgoing::Segment(due)) => {
-                Emitted::Segment(connection.emit(due, now, out))
-            }
-            (Role::Datagrams { bound, socket }, Outgoing::Datagram(place)) => {
-                Emitted::Datagram(socket.emit(place, source_of(own, *bound), out))
-            }
+        match self {
+            Role::Connected { connection, .. } => connection.emit(due, now, out),
+            _ => unreachable!(),
+        }
+    }
+
+    /// Writes the next part of the datagram with this number, of those that a UDP socket has to send, from our address, from `out[0]` on, and answers what the
+    /// header of IPv4 has to tell of it.
+    pub(crate) fn emit_datagram(&mut self, number: usize, own: Addr, out: &mut [u8]) -> Part
+        requires due { HasOutgoing self.old (DatagramAt number) }
+        requires room { MOST_IN_FRAGMENT ≤ length out.old }
+        ensures what { Some (PartOut result) ≡ due_emitted (DatagramAt number) self.old }
+        ensures bound { IsWithin (PartOut result) }
+        ensures after { (now : Moment) → self.new ≡ role_after_emission now (DatagramAt number) self.old }
+        ensures frame { out.new ≡ due_front own (DatagramAt number) self.old out.old }
+    {
+        match self {
+            Role::Datagrams { bound, socket } => socket.emit(number, source_of(own, *bound), out),
             _ => unreachable!(),
         }
     }

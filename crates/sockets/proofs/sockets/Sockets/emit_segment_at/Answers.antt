@@ -3,6 +3,7 @@ use Rattle.std.proofs.Common.{◌≡◌, ◌∙◌, List, get_or, Bool, refl, ap
 use Rattle.tcp_state.specs.declared.connection.Fate.{Fate}
 use Rattle.clock.specs.declared.moment.Moment.{Moment}
 use Rattle.sockets.specs.declared.emission.Outgoing.{Outgoing}
+use Rattle.sockets.specs.declared.emission.Outgoing.TheVariants.{Segment}
 use Rattle.sockets.specs.declared.entry.Entry.{Entry}
 use Rattle.sockets.specs.Entries.{sends, due_emitted, due_front, role_after_emission, emission_fate_of, entries_after_step}
 use Rattle.sockets.specs.SocketsView.{SocketsView, later_moment}
@@ -14,7 +15,7 @@ use Rattle.sockets.proofs.Ascending.{ascends_written, ascends_settled}
 use Rattle.sockets.proofs.Filed.{index_written}
 use Rattle.sockets.proofs.KeptFiled.{filed_role, filed-emission}
 use Rattle.sockets.proofs.Outlooks.{outlook_written}
-use Rattle.sockets.proofs.sockets.Sockets.emit_at.Goals as goal
+use Rattle.sockets.proofs.sockets.Sockets.emit_segment_at.Goals as goal
 
 pub returns-clause-what : goal.returns-clause-what
 returns-clause-what c = λ goes next.
@@ -24,9 +25,9 @@ returns-clause-what c = λ goes next.
     let at : x ≡ get_or h.entries c.args.place x =
     c.index-deref_mut-place.is ∙ ap (λ (es : List Entry). get_or es c.args.place x) (c.deref_mut.ensures.value ∙ entries)
     in
-    let it = next-at h goes c.args.place c.args.outgoing x next at in
-    c.emit-emitted.ensures.what
-    ∙ ap (λ (e : Entry). due_emitted c.args.outgoing e.role) (sym c.index-deref_mut-place.is)
+    let it = next-at h goes c.args.place (Segment c.args.due) x next at in
+    c.emit_segment-len.ensures.what
+    ∙ ap (λ (e : Entry). due_emitted (Segment c.args.due) e.role) (sym c.index-deref_mut-place.is)
     ∙ ap (λ (what : Outgoing). due_emitted what x.role) (sym it.same)
     ∙ sym (emitted-found h goes x it.due it.found it.is)
 
@@ -38,10 +39,10 @@ returns-clause-frame c = λ goes next.
     let at : x ≡ get_or h.entries c.args.place x =
     c.index-deref_mut-place.is ∙ ap (λ (es : List Entry). get_or es c.args.place x) (c.deref_mut.ensures.value ∙ entries)
     in
-    let it = next-at h goes c.args.place c.args.outgoing x next at in
-    c.emit-emitted.ensures.frame
-    ∙ ap (λ (e : Entry). due_front c.self.inside.addr c.args.outgoing e.role c.args.out.now) (sym c.index-deref_mut-place.is)
-    ∙ ap (λ (g : SocketsView). due_front g.addr c.args.outgoing x.role c.args.out.now) c.self.view_is
+    let it = next-at h goes c.args.place (Segment c.args.due) x next at in
+    c.emit_segment-len.ensures.frame c.self.inside.addr
+    ∙ ap (λ (e : Entry). due_front c.self.inside.addr (Segment c.args.due) e.role c.args.out.now) (sym c.index-deref_mut-place.is)
+    ∙ ap (λ (g : SocketsView). due_front g.addr (Segment c.args.due) x.role c.args.out.now) c.self.view_is
     ∙ ap (λ (what : Outgoing). due_front h.addr what x.role c.args.out.now) (sym it.same)
     ∙ sym (emitted_front-found h goes c.args.out.now x it.due it.found it.is)
 
@@ -55,11 +56,11 @@ returns-clause-after c = λ goes next.
     let at : x ≡ get_or h.entries c.args.place x =
     c.index-deref_mut-place.is ∙ ap (λ (es : List Entry). get_or es c.args.place x) (c.deref_mut.ensures.value ∙ entries)
     in
-    let it = next-at h goes c.args.place c.args.outgoing x next at in
+    let it = next-at h goes c.args.place (Segment c.args.due) x next at in
     let what : Outgoing = it.due.1 in
     let there : Entry = get_or c.deref_mut.result.now c.args.place x in
-    let sent : c.emit-emitted.new.self ≡ role_after_emission now what there.role =
-    c.emit-emitted.ensures.after ∙ ap (λ (m : Moment). role_after_emission m c.args.outgoing there.role) c.later_moment-now.ensures ∙ ap (λ (o : Outgoing). role_after_emission now o there.role) (sym it.same)
+    let sent : c.emit_segment-len.new.self ≡ role_after_emission now what there.role =
+    c.emit_segment-len.ensures.after ∙ ap (λ (m : Moment). role_after_emission m (Segment c.args.due) there.role) c.later_moment-now.ensures ∙ ap (λ (o : Outgoing). role_after_emission now o there.role) (sym it.same)
     in
     entry_settled _ _ test (role_after_emission now what) _ _ _ _ _ c.emission_fate_of-fate.result c.self.view_is next.0 c.deref_mut.ensures.value c.index-deref_mut-place.is (role_changed (role_after_emission now what) there _ sent) c.settle.ensures.entries
     ∙ ap (λ (r : Fate). let w : SocketsView = record h { entries = entries_after_step r test (role_after_emission now what) h.entries } in w) (c.emission_fate_of-fate.ensures ∙ ap emission_fate_of sent ∙ ap (λ (e : Entry). emission_fate_of (role_after_emission now what e.role)) (sym c.index-deref_mut-place.is))
@@ -72,7 +73,7 @@ invariant_of-self c = ((c.self.invariant.0.0, places_stay c.settle.ensures.most.
 -- its connection stays filed by its ends
 
 pub settle-requires-clause-index : goal.settle-requires-clause-index
-settle-requires-clause-index c = index_written _ _ _ _ _ c.index-deref_mut-place.result c.self.invariant.2 c.deref_mut.ensures.value (filed_role (role_after_emission c.later_moment-now.result c.args.outgoing) _ _ (filed-emission _ c.args.outgoing _) c.emit-emitted.ensures.after)
+settle-requires-clause-index c = index_written _ _ _ _ _ c.index-deref_mut-place.result c.self.invariant.2 c.deref_mut.ensures.value (filed_role (role_after_emission c.later_moment-now.result (Segment c.args.due)) _ _ (filed-emission _ (Segment c.args.due) _) c.emit_segment-len.ensures.after)
 
 pub settle-requires-clause-known : goal.settle-requires-clause-known
 settle-requires-clause-known c = (c.self.inside.sizes.entries, outlook_written _ _ _ _ _ _ (c.turn_to.ensures.known _ c.self.invariant.3) c.turn_to.ensures.at_hand c.deref_mut.ensures.value)
