@@ -52,6 +52,7 @@ pub mod Sought
 mod Either
 pub mod FirstFrom
 mod AtHand
+mod BeginsAt
 pub mod Visits
 mod Outlooks
 mod Quiet

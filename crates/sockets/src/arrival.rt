@@ -30,7 +30,7 @@ impl Sockets {
         ensures { Meets (arrival self.old now isn.0 source segment.now) self.old result self.new }
     {
         let (local, peer) = self.ends(source, segment);
-        match self.connection_between(local, peer) {
+        match self.find_connection(local, peer) {
             Some(place) => self.take_at(now, place, source, segment),
             None => self.take_alone(self.later_moment(now), isn, source, segment),
         }

@@ -1,10 +1,12 @@
 //! What the table has at a local port or between two ends, found by the index: nothing here walks over all entries.
 
-ghost use Rattle.std.specs.Prelude.{◌≡◌, Bool, is_some, position};
-ghost use Rattle.std.specs.List.{list_any};
+ghost use Rattle.std.specs.Prelude.{◌≡◌, ◌<◌, ◌≤◌, ◌-◌, Bool, true, false, nat_lt, length, Some, IfSome, is_some, position};
+ghost use Rattle.std.specs.List.{list_any, slice_index_or};
+ghost use Rattle.std.specs.List.Sorted.{IsPartitionPoint};
 ghost use Rattle.sockets.specs.Entries.{is_between, is_of_pair, has_port, is_bound_at, is_datagrams_at, is_listening_at};
 ghost use Rattle.sockets.specs.Ids.{AreInOrder};
-ghost use Rattle.sockets.specs.Index.{index_of, is_sought_in, is_sought_as, low_key, high_key};
+ghost use Rattle.sockets.specs.Index.{key_of, index_of, is_sought_in, is_sought_as, low_key, high_key};
+ghost use Rattle.sockets.specs.declared.index.Filed.{Filed};
 
 use crate::entry::{Entry, SocketId};
 use crate::index::{Filed, PEERS, key_at, key_of};
@@ -75,6 +77,53 @@ impl Sockets {
         self.sought(Sought::Connection { local, peer })
     }
 
+    /// The same place; where such a connection is filed, or would be, is kept for the next time.
+    pub(crate) fn find_connection(&mut self, local: Endpoint, peer: Endpoint) -> Option<usize>
+        ensures found { result ≡ position (is_between local peer) self.old.entries }
+        ensures same { self.new ≡ self.old }
+    {
+        self.filed = self.first_filed(key_of(local.port, peer));
+        match self.at_hand_from(self.filed, local, peer) {
+            Some(place) => Some(place),
+            None => self.sought_from(self.filed, Sought::Connection { local, peer }),
+        }
+    }
+
+    /// The place of the connection from `local` to `peer`, where that is the entry at hand; in `first` stands what is filed first as such connections are.
+    #[inline(always)]
+    fn at_hand_from(&self, first: usize, local: Endpoint, peer: Endpoint) -> Option<usize>
+        requires first { IsPartitionPoint (λ filed. nat_lt filed.key (key_of local.port peer) ≡ true) (λ filed. nat_lt filed.key (key_of local.port peer) ≡ false) (index_of self.now.entries) first }
+        ensures { IfSome result (λ place. position (is_between local peer) self.now.entries ≡ Some place) }
+    {
+        let place = self.outlook.at_hand()?;
+        let is_it = is_first_between(&self.entries, &self.ends, first, place, local, peer);
+        is_it.then_some(place)
+    }
+
+    /// Where what has this key or a greater one is filed first, which is looked for first where the last one was.
+    fn first_filed(&self, key: u64) -> usize
+        ensures first { IsPartitionPoint (λ filed. nat_lt filed.key key ≡ true) (λ filed. nat_lt filed.key key ≡ false) (index_of self.now.entries) result }
+        ensures within { result ≤ length (index_of self.now.entries) }
+    {
+        first_filed(&self.entries, &self.ends, self.filed, key)
+    }
+
+    /// The place of the first entry that is what is looked for, which has one key, and of which the first is filed in this place.
+    fn sought_from(&self, first: usize, what: Sought) -> Option<usize>
+        requires first { IsPartitionPoint (λ filed. nat_lt filed.key (low_key what) ≡ true) (λ filed. nat_lt filed.key (low_key what) ≡ false) (index_of self.now.entries) first }
+        requires within { first ≤ length (index_of self.now.entries) }
+        requires one { low_key what ≡ high_key what }
+        ensures { result ≡ position (is_sought_in what) self.now.entries }
+    {
+        search_from(
+            &self.entries,
+            &self.ends,
+            first,
+            self.outlook.at_hand(),
+            what,
+        )
+    }
+
     /// The place of the connection of `pair`, in any state but CLOSED: from the one end or from the other, whichever stands first.
     pub(crate) fn holder(&self, pair: Pair) -> Option<usize>
         ensures { result ≡ position (is_of_pair pair) self.now.entries }
@@ -103,8 +152,34 @@ impl Sockets {
         requires { low_key what ≡ high_key what }
         ensures { result ≡ position (is_sought_in what) self.now.entries }
     {
-        search(&self.entries, &self.ends, self.outlook.at_hand(), what)
+        let (low, _) = what.keys();
+        self.sought_from(self.first_filed(low), what)
     }
+}
+
+/// Whether the entry in this place is the first connection from `local` to `peer`, in any state but CLOSED, and the first that is filed as such: in `first` stands
+/// that.
+#[inline(always)]
+fn is_first_between(
+    entries: &[Entry],
+    index: &[Filed],
+    first: usize,
+    place: usize,
+    local: Endpoint,
+    peer: Endpoint,
+) -> bool
+    requires order { AreInOrder entries.now }
+    requires index { index.now ≡ index_of entries.now }
+    requires first { IsPartitionPoint (λ filed. nat_lt filed.key (key_of local.port peer) ≡ true) (λ filed. nat_lt filed.key (key_of local.port peer) ≡ false) index.now first }
+    requires place { place < length entries.now }
+    ensures { result ≡ true → position (is_between local peer) entries.now ≡ Some place }
+{
+    if first >= index.len() {
+        return false;
+    }
+    let entry = &entries[place];
+    let filed = &index[first];
+    filed.id == entry.id && entry.role.is_live_between(local, peer)
 }
 
 /// Whether there is a connection from `local` to `peer`, in any state but CLOSED.
@@ -148,17 +223,57 @@ pub(crate) fn is_port_bound(entries: &[Entry], index: &[Filed], port: u16) -> bo
     search(entries, index, None, Sought::Socket { port }).is_some()
 }
 
-/// The place of an entry that is what is looked for, and of the first where that has one key: a binary search finds what is filed first from the least key on,
-/// and from there up to the greatest key each entry is tested, which is looked for in the place `near` first. At one key they are filed in order of id, as they
-/// stand in the table.
+/// The place of an entry that is what is looked for, and of the first where that has one key: a binary search finds what is filed first from the least key on.
+/// Each entry is looked for in the place `near` first.
 fn search(entries: &[Entry], index: &[Filed], near: Option<usize>, what: Sought) -> Option<usize>
     requires order { AreInOrder entries.now }
     requires index { index.now ≡ index_of entries.now }
     ensures any { is_some result ≡ list_any (is_sought_in what) entries.now }
     ensures first { low_key what ≡ high_key what → result ≡ position (is_sought_in what) entries.now }
 {
-    let (low, high) = what.keys();
-    let first = index.partition_point(|filed| filed.key < low);
+    let (low, _) = what.keys();
+    let first = first_filed(entries, index, 0, low);
+    search_from(entries, index, first, near, what)
+}
+
+/// Where what has this key or a greater one is filed first: in the place `near`, where that is so, and else by binary search.
+fn first_filed(entries: &[Entry], index: &[Filed], near: usize, key: u64) -> usize
+    requires index { index.now ≡ index_of entries.now }
+    ensures first { IsPartitionPoint (λ filed. nat_lt filed.key key ≡ true) (λ filed. nat_lt filed.key key ≡ false) index.now result }
+    ensures within { result ≤ length index.now }
+{
+    if begins_at(index, near, key) {
+        return near;
+    }
+    index.partition_point(|filed| filed.key < key)
+}
+
+/// Whether what is filed in this place has this key or a greater one, and what is filed before it has not.
+fn begins_at(index: &[Filed], place: usize, key: u64) -> bool
+    ensures within { result ≡ true → place < length index.now }
+    ensures here { result ≡ true → (d : Filed) → nat_lt (slice_index_or index.now place d).key key ≡ false }
+    ensures before { result ≡ true → (d : Filed) → 0 < place → nat_lt (slice_index_or index.now (place - 1) d).key key ≡ true }
+{
+    place < index.len() && key <= index[place].key && (place == 0 || index[place - 1].key < key)
+}
+
+/// The same as `search`, where `first` is the place of what is filed first from the least key on: from there up to the greatest key each entry is tested. At
+/// one key they are filed in order of id, as they stand in the table.
+fn search_from(
+    entries: &[Entry],
+    index: &[Filed],
+    first: usize,
+    near: Option<usize>,
+    what: Sought,
+) -> Option<usize>
+    requires order { AreInOrder entries.now }
+    requires index { index.now ≡ index_of entries.now }
+    requires first { IsPartitionPoint (λ filed. nat_lt filed.key (low_key what) ≡ true) (λ filed. nat_lt filed.key (low_key what) ≡ false) index.now first }
+    requires within { first ≤ length index.now }
+    ensures any { is_some result ≡ list_any (is_sought_in what) entries.now }
+    ensures first { low_key what ≡ high_key what → result ≡ position (is_sought_in what) entries.now }
+{
+    let (_, high) = what.keys();
     for at in first..index.len() {
         let filed = &index[at];
         if filed.key > high {

@@ -26,6 +26,8 @@ pub struct Sockets {
     pub(crate) sizes: Sizes,
     pub(crate) entries: FixedVec<Entry>,
     pub(crate) ends: FixedVec<Filed>,
+    /// Where the connection that a segment was for last was filed then, or would have been: so the next one is mostly found without a search.
+    pub(crate) filed: usize,
     pub(crate) outlook: Outlook,
     pub(crate) offered: FixedVec<SocketId>,
 }
@@ -72,6 +74,7 @@ impl Drop for Sockets {
             sizes: _,
             entries: _,
             ends: _,
+            filed: _,
             outlook: _,
             offered: _,
         } = self;
@@ -110,6 +113,7 @@ impl Sockets {
             sizes,
             entries: FixedVec::new(alloc, sizes.entries)?,
             ends: FixedVec::new(alloc, sizes.entries)?,
+            filed: 0,
             outlook: Outlook::new(alloc, sizes.entries)?,
             offered: FixedVec::new(alloc, sizes.entries)?,
         })

@@ -1,15 +1,14 @@
 -- The first that is what is looked for, among those filed by the keys of that.
-use Rattle.std.proofs.Common.{rules, ◌≡◌, ◌∙◌, ◌<◌, ◌≤◌, List, false, ap, sym, nat_lt, length, get_or, arith, subst}
+use Rattle.std.proofs.Common.{◌≡◌, ◌∙◌, ◌<◌, ◌≤◌, List, false, ap, refl, sym, nat_lt, length, get_or, arith, subst}
 use Rattle.std.specs.List.{AllByRecursion, AllWithin, position}
 use Rattle.std.proofs.lemmas.Bool.Decides.{nat_tests}
 use Rattle.std.proofs.lemmas.List.{get_or_default}
-use Rattle.std.proofs.lemmas.List.Sorted.{IsPartitionPoint-from_clause}
 use Rattle.std.proofs.lemmas.List.Elements.{AllWithin-more, recursion_from_All}
 use Rattle.sockets.specs.declared.index.Filed.{Filed}
 use Rattle.sockets.specs.Index.{AreSorted, low_key, high_key, is_sought_as}
-use Rattle.sockets.proofs.Filed.{sorted_index, parted_by_key}
+use Rattle.sockets.proofs.Filed.{sorted_index}
 use Rattle.sockets.proofs.Sought.{IsPassed, passed_below, all_passed, all_lower, found_none, found_nothing, found_any, found_first}
-use Rattle.sockets.proofs.found.search.Goals as goal
+use Rattle.sockets.proofs.found.search_from.Goals as goal
 
 -- what stands where nothing does
 abbrev nothing : Filed
@@ -17,16 +16,13 @@ nothing = record { key = 0; id = record { 0 = 0 } }
 
 pub loop-at-init : goal.loop-at-init
 loop-at-init c =
-    let sorted : AreSorted c.args.index.now = subst AreSorted (sym c.requires.index) (sorted_index c.args.entries.now) in
-    passed_below c.args.entries.now c.args.what c.keys-low.result.0 c.args.index.now c.partition_point-first.result c.keys-low.ensures.low
-    (IsPartitionPoint-from_clause (λ (y : Filed). nat_lt y.key c.keys-low.result.0) c.args.index.now c.partition_point-first.result c.partition_point-first.ensures.partitioned
-    (parted_by_key c.keys-low.result.0 c.args.index.now sorted) (λ a r f' called. search rules)).0
+    passed_below c.args.entries.now c.args.what (low_key c.args.what) c.args.index.now c.args.first refl c.requires.first.0
 
 pub returns-then-filed-high-clause-any : goal.returns-then-filed-high-clause-any
 returns-then-filed-high-clause-any c =
     let sorted : AreSorted c.args.index.now = subst AreSorted (sym c.requires.index) (sorted_index c.args.entries.now) in
     let here : Filed = get_or c.args.index.now c.loop-at.at nothing in
-    let higher : high_key c.args.what < here.key = subst (λ k. k < here.key) c.keys-low.ensures.high c.if-filed-high.true in
+    let higher : high_key c.args.what < here.key = subst (λ k. k < here.key) c.keys-high.ensures.high c.if-filed-high.true in
     found_nothing c.args.entries.now c.requires.order c.args.what
     (subst (λ (l : List Filed). AllByRecursion (IsPassed c.args.entries.now c.args.what) l) c.requires.index
     (all_passed c.args.entries.now c.args.what c.args.index.now sorted c.loop-at.at here (get_or_default c.args.index.now c.loop-at.at nothing here c.loop-at-test.true) c.loop-at-test.true c.loop-at.invariant higher))
@@ -35,7 +31,7 @@ pub returns-then-filed-high-clause-first : goal.returns-then-filed-high-clause-f
 returns-then-filed-high-clause-first c = λ one.
     let sorted : AreSorted c.args.index.now = subst AreSorted (sym c.requires.index) (sorted_index c.args.entries.now) in
     let here : Filed = get_or c.args.index.now c.loop-at.at nothing in
-    let higher : high_key c.args.what < here.key = subst (λ k. k < here.key) c.keys-low.ensures.high c.if-filed-high.true in
+    let higher : high_key c.args.what < here.key = subst (λ k. k < here.key) c.keys-high.ensures.high c.if-filed-high.true in
     sym (found_none c.args.entries.now c.requires.order c.args.what
     (subst (λ (l : List Filed). AllByRecursion (IsPassed c.args.entries.now c.args.what) l) c.requires.index
     (all_passed c.args.entries.now c.args.what c.args.index.now sorted c.loop-at.at here (get_or_default c.args.index.now c.loop-at.at nothing here c.loop-at-test.true) c.loop-at-test.true c.loop-at.invariant higher)))
@@ -49,12 +45,8 @@ pub returns-in-Some-clause-first : goal.returns-in-Some-clause-first
 returns-in-Some-clause-first c = λ one.
     let sorted : AreSorted c.args.index.now = subst AreSorted (sym c.requires.index) (sorted_index c.args.entries.now) in
     let here : Filed = get_or c.args.index.now c.loop-at.at nothing in
-    let not_below : AllWithin (λ (y : Filed). nat_lt y.key c.keys-low.result.0 ≡ false) c.args.index.now c.partition_point-first.result (length c.args.index.now) =
-    (IsPartitionPoint-from_clause (λ (y : Filed). nat_lt y.key c.keys-low.result.0) c.args.index.now c.partition_point-first.result c.partition_point-first.ensures.partitioned
-    (parted_by_key c.keys-low.result.0 c.args.index.now sorted) (λ a r f' called. search rules)).1
-    in
-    let above : nat_lt here.key c.keys-low.result.0 ≡ false = not_below c.loop-at.at nothing c.loop-at.auto.at c.loop-at-test.true in
-    let low : low_key c.args.what ≤ here.key = subst (λ k. k ≤ here.key) c.keys-low.ensures.low (grind (arith, nat_tests, above)) in
+    let above : nat_lt here.key (low_key c.args.what) ≡ false = c.requires.first.1 c.loop-at.at nothing c.loop-at.auto.at c.loop-at-test.true in
+    let low : low_key c.args.what ≤ here.key = grind (arith, nat_tests, above) in
     sym (found_first c.args.entries.now c.requires.order c.args.what c.in-Some.place here.id (sym c.sought_as.ensures ∙ c.in-Some.is)
     (subst (λ (l : List Filed). AllByRecursion (λ (z : Filed). z.id.0 < here.id.0 → IsPassed c.args.entries.now c.args.what z) l) c.requires.index
     (all_lower c.args.entries.now c.args.what c.args.index.now sorted c.loop-at.at here (get_or_default c.args.index.now c.loop-at.at nothing here c.loop-at-test.true) c.loop-at-test.true c.loop-at.invariant one low)))

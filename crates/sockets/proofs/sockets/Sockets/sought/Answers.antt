@@ -1,6 +1,0 @@
-use Rattle.sockets.proofs.Ascending.{lent_in_order}
-use Rattle.sockets.proofs.sockets.Sockets.sought.Goals as goal
-
--- the entries that are lent stand in order
-pub search-requires-clause-order : goal.search-requires-clause-order
-search-requires-clause-order c = lent_in_order _ _ _ c.deref.ensures.0 c.self.invariant.1
