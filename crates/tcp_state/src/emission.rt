@@ -331,6 +331,37 @@ impl Connection {
         ensures frame { out.new ≡ segment_octets self.old due ++ drop result out.old }
         ensures after { self.new ≡ after_emitted self.old due now }
     {
+        match due {
+            Due::Text(stretch) => self.emit_known(Due::Text(stretch), now, out),
+            Due::Ack => self.emit_known(Due::Ack, now, out),
+            _ => self.emit_seldom(due, now, out),
+        }
+    }
+
+    /// The same of what is seldom due.
+    #[cold]
+    #[inline(never)]
+    fn emit_seldom(&mut self, due: Due, now: Moment, out: &mut [u8]) -> usize
+        requires due { first_due self.old ≡ Some due }
+        requires room { MOST_SEGMENT ≤ length out.old }
+        ensures len { result ≡ emitted_len self.old due }
+        ensures bound { result ≤ MOST_SEGMENT }
+        ensures frame { out.new ≡ segment_octets self.old due ++ drop result out.old }
+        ensures after { self.new ≡ after_emitted self.old due now }
+    {
+        self.emit_known(due, now, out)
+    }
+
+    /// The same, as a part of each caller: one that knows which kind of segment is due lays out a header of that kind alone.
+    #[inline(always)]
+    fn emit_known(&mut self, due: Due, now: Moment, out: &mut [u8]) -> usize
+        requires due { first_due self.old ≡ Some due }
+        requires room { MOST_SEGMENT ≤ length out.old }
+        ensures len { result ≡ emitted_len self.old due }
+        ensures bound { result ≤ MOST_SEGMENT }
+        ensures frame { out.new ≡ segment_octets self.old due ++ drop result out.old }
+        ensures after { self.new ≡ after_emitted self.old due now }
+    {
         let len = self.write(due, out);
         self.note_emitted(due, now);
         self.update_timers(false, now);
@@ -338,6 +369,7 @@ impl Connection {
     }
 
     /// Writes the segment that is due first to the front of `out`.
+    #[inline(always)]
     fn write(&self, due: Due, out: &mut [u8]) -> usize
         requires due { first_due self.now ≡ Some due }
         requires room { MOST_SEGMENT ≤ length out.old }
@@ -366,6 +398,7 @@ impl Connection {
     }
 
     /// How many octets the segment for what is due brings.
+    #[inline(always)]
     fn octet_count(&self, due: Due) -> usize
         requires { MayGoOut self.now due }
         ensures count { result ≡ length (octets_of self.now due) }
@@ -379,6 +412,7 @@ impl Connection {
     }
 
     /// Fills `out`, which has room for just them, with the octets of the segment for what is due, and answers their one's complement sum.
+    #[inline(always)]
     fn copy_octets(&self, due: Due, out: &mut [u8]) -> u16
         requires may { MayGoOut self.now due }
         requires room { length out.old ≡ length (octets_of self.now due) }
@@ -393,6 +427,7 @@ impl Connection {
     }
 
     /// The header of the segment for what is due.
+    #[inline(always)]
     fn head(&self, due: Due) -> Head
         requires { MayGoOut self.now due }
         ensures { result ≡ head_of self.now due }
@@ -416,6 +451,7 @@ impl Connection {
     }
 
     /// The number of the segment for what is due.
+    #[inline(always)]
     fn number(&self, due: Due) -> Seq
         requires { MayGoOut self.now due }
         ensures { result.0 ≡ number_of self.now due }
@@ -441,6 +477,7 @@ impl Connection {
     }
 
     /// The window that the segment for what is due advertises, as its header has it.
+    #[inline(always)]
     fn window(&self, due: Due) -> u16
         ensures { result ≡ window_of self.now due }
     {
@@ -452,6 +489,7 @@ impl Connection {
     }
 
     /// The control bits of the segment for what is due.
+    #[inline(always)]
     fn flags(&self, due: Due) -> Flags
         requires { MayGoOut self.now due }
         ensures { result ≡ flags_of self.now due }
@@ -483,6 +521,7 @@ impl Connection {
     }
 
     /// The segment for what was due went out at this moment.
+    #[inline(always)]
     fn note_emitted(&mut self, due: Due, now: Moment)
         requires { MayGoOut self.old due }
         ensures { self.new ≡ after_going_out self.old due now }
