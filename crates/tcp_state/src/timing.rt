@@ -1,7 +1,8 @@
 //! The timers: when each runs, and what a tick does (RFC 6298 section 5, RFC 9293 sections 3.8.1, 3.8.6 and 3.10.8).
 
-ghost use Rattle.std.specs.Prelude.{◌≡◌, ◌&&◌, ◌||◌, not, false, None, if◌then◌else◌};
+ghost use Rattle.std.specs.Prelude.{◌≡◌, ◌==◌, ◌&&◌, ◌||◌, not, true, false, None, if◌then◌else◌};
 ghost use Rattle.clock.specs.Moments.{has_come};
+ghost use Rattle.tcp_halves.specs.Stream.{outstanding};
 ghost use Rattle.tcp_halves.specs.Windows.{waits_for_more};
 ghost use Rattle.tcp_state.specs.New.{waits_no_longer};
 ghost use Rattle.tcp_state.specs.Selective.{allowance};
@@ -109,9 +110,51 @@ impl Connection {
     fn run_sending_timers(&mut self, moved: bool, now: Moment)
         ensures { self.new ≡ record self.old { resend = record self.old.resend { interval = interval_of self.old; owes_probe = self.old.resend.owes_probe && probes self.old }; timers = record self.old.timers { retransmission = retransmission_timer self.old moved now; probe = probe_timer self.old now; overriding = override_timer self.old now }; unheard = unheard_since self.old now } }
     {
+        if self.flows() {
+            self.note_flow(now);
+        } else {
+            self.update_waits(now);
+        }
+        self.run_expiry_timers(moved, now);
+    }
+
+    /// Whether new octets fill a segment that may go out, or none may and an acknowledgement is awaited: then none of them wait for more, and a segment
+    /// that takes numbers is due as long as nothing is outstanding.
+    fn flows(&self) -> bool
+        ensures more { result ≡ true → awaits_more self.now ≡ false }
+        ensures first { result ≡ true → awaits_first self.now ≡ (outstanding self.now.sending == 0) }
+    {
+        if self.state.is_opening() {
+            return false;
+        }
+        let sendable = self.sender.sendable(self.allowance());
+        if sendable == 0 {
+            self.sender.outstanding() > 0
+        } else {
+            self.sender.smss() <= sendable
+        }
+    }
+
+    /// Since when such a segment has been due, where that is told by whether anything is outstanding, and no new octets wait for more.
+    fn note_flow(&mut self, now: Moment)
+        requires more { awaits_more self.old ≡ false }
+        requires first { awaits_first self.old ≡ (outstanding self.old.sending == 0) }
+        ensures { self.new ≡ record self.old { timers = record self.old.timers { overriding = override_timer self.old now }; unheard = unheard_since self.old now } }
+    {
+        if self.sender.outstanding() > 0 {
+            self.unheard = None;
+        } else if self.unheard.is_none() {
+            self.unheard = Some(now);
+        }
+    }
+
+    /// Since when a segment that takes numbers has been due, and until when new octets wait for more.
+    #[inline(never)]
+    fn update_waits(&mut self, now: Moment)
+        ensures { self.new ≡ record self.old { timers = record self.old.timers { overriding = override_timer self.old now }; unheard = unheard_since self.old now } }
+    {
         self.update_unheard(now);
         self.start_override(now);
-        self.run_expiry_timers(moved, now);
     }
 
     /// The timer of what is outstanding, and that of the probe.
