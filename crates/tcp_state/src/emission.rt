@@ -105,6 +105,7 @@ impl Connection {
 
     /// An acknowledgement alone, where one is owed, or where the window to advertise has grown by enough and the connection has spoken; or
     /// else a probe of a silent peer.
+    #[inline(always)]
     fn ack_due(&self) -> Option<Due>
         ensures first { result ≡ ack_due self.now }
         ensures may { IfSome result (MayGoOut self.now) }
