@@ -68,7 +68,7 @@ impl ArpCache {
     {
         self.pairs
             .iter()
-            .find(|pair| pair.addr == addr && pair.is_live(now))
+            .find(|pair| pair.addr.is_same(addr) && pair.is_live(now))
             .map(|pair| pair.mac)
     }
 

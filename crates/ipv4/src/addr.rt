@@ -1,7 +1,7 @@
 //! Addresses, endpoints, and the pair of endpoints of a connection.
 
 ghost use Rattle.std.specs.Prelude.{◌≡◌, ◌≤◌, ◌+◌, ◌↔◌, IsTrue, length, take, drop};
-ghost use Rattle.ipv4.specs.Addresses.{IsUnicast, is_unicast, pair_of};
+ghost use Rattle.ipv4.specs.Addresses.{IsUnicast, is_unicast, same_addr, pair_of};
 
 use std::fmt::{Display, Error, Formatter, Write};
 
@@ -16,6 +16,15 @@ impl Addr {
         ensures host { IsTrue result ↔ IsUnicast self }
     {
         matches!(self.0[0], 1..=126 | 128..=223)
+    }
+
+    /// Whether both are one address, as by `==`. They are compared as numbers: so a processor compares once, not four times.
+    pub fn is_same(self, other: Addr) -> bool
+        ensures { result ≡ same_addr self other }
+    {
+        let [a0, a1, a2, a3] = self.0;
+        let [b0, b1, b2, b3] = other.0;
+        u32::from_le_bytes([a0, a1, a2, a3]) == u32::from_le_bytes([b0, b1, b2, b3])
     }
 
     /// The address in the four octets from a place on.
