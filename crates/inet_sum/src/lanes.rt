@@ -12,8 +12,9 @@ use std::simd::prelude::*;
 /// The octets that are summed at a time.
 pub(crate) const BLOCK: usize = 32;
 
-/// The octets of a stretch, whose blocks are summed with no look at how many are left.
-const STRETCH: usize = 128;
+/// The octets of a stretch, whose nine blocks are summed with no look at how many are left: the 1,460 of a full segment are five stretches,
+/// and 20 behind them.
+const STRETCH: usize = 288;
 
 /// The octets of most headers of a datagram, and of most segments without octets, whose words are added with no look at how many are left.
 const HEADER: usize = 20;
