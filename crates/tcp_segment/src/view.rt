@@ -19,14 +19,15 @@ use byteorder::{BigEndian, ByteOrder};
 use ipv4::Addr;
 use std::marker::Model;
 
-/// A segment that was received and is well-formed, its octets lent from the frame.
+/// A segment that was received and is well-formed, its octets lent from the frame. Its control bits stay one octet until they are
+/// asked for: six values would be copied one by one wherever a segment goes.
 #[derive(Drop)]
 pub struct TcpView<'a> {
     source: u16,
     destination: u16,
     number: Seq,
     acknowledgement: Seq,
-    flags: Flags,
+    control: u8,
     window: u16,
     urgent: u16,
     options: &'a [u8],
@@ -36,7 +37,7 @@ pub struct TcpView<'a> {
 impl<'a> Model for TcpView<'a> {
     ghost use Rattle.std.specs.Prelude.{◌<◌, ◌^◌, [], length, unwrap_or, IsSome};
     ghost use Rattle.tcp_segment.specs.Segment.{Segment};
-    ghost use Rattle.tcp_segment.specs.Reading.{options_behind};
+    ghost use Rattle.tcp_segment.specs.Reading.{options_behind, flags_in};
 
     ghost Value = { Segment };
 
@@ -45,7 +46,7 @@ impl<'a> Model for TcpView<'a> {
       destination = v.destination;
       number = v.number.0;
       acknowledgement = v.acknowledgement.0;
-      flags = v.flags;
+      flags = flags_in v.control;
       window = v.window;
       urgent = v.urgent;
       options = unwrap_or (options_behind v.options.now 0) [];
@@ -83,7 +84,7 @@ impl<'a> TcpView<'a> {
             destination: u16_at(segment, 2),
             number: Seq(u32_at(segment, 4)),
             acknowledgement: Seq(u32_at(segment, 8)),
-            flags: flags_of(segment[13]),
+            control: segment[13],
             window: u16_at(segment, 14),
             urgent: u16_at(segment, 18),
             options,
@@ -142,7 +143,7 @@ impl<'a> TcpView<'a> {
     pub fn flags(&self) -> Flags
         ensures { result ≡ self.now.flags }
     {
-        self.flags
+        flags_of(self.control)
     }
 
     /// The window field: how many octets the sender has room for; without SYN, where windows are scaled, how many units
@@ -220,7 +221,7 @@ impl<'a> TcpView<'a> {
         ensures scale { result.scale ≡ scale_option_of self.now }
         ensures sacks { result.sacks ≡ sack_permitted_of self.now }
     {
-        if self.flags.syn {
+        if self.flags().syn {
             self.told_by_options()
         } else {
             Told::NOTHING
@@ -248,7 +249,8 @@ impl<'a> TcpView<'a> {
         ensures value { result ≡ span_of self.now }
         ensures bound { result < 2 ^ 16 + 2 }
     {
-        self.payload.len() as u32 + u32::from(self.flags.syn) + u32::from(self.flags.fin)
+        let flags = self.flags();
+        self.payload.len() as u32 + u32::from(flags.syn) + u32::from(flags.fin)
     }
 }
 

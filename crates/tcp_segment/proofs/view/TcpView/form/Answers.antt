@@ -37,5 +37,5 @@ returns-clause-ok c =
     let rest : take (length xs - header) (drop header xs) ≡ drop header xs = take_all _ _ (omega (arith, length-drop header xs)) in
     fields_form xs header _ _ _ _ _ _ _ read.0 (unwrap_or (options_behind area 0) []) (take (length xs - header) (drop header xs))
     (λ i. omega (arith, c.type_inv.segment i)) is_header read.1
-    c.u16_at.ensures c.u16_at-2.ensures c.u32_at.ensures c.u32_at-2.ensures c.flags_of.ensures c.u16_at-3.ensures c.u16_at-4.ensures
+    c.u16_at.ensures c.u16_at-2.ensures c.u32_at.ensures c.u32_at-2.ensures refl c.u16_at-3.ensures c.u16_at-4.ensures
     (ap (λ (o : Option (List HeaderOption)). unwrap_or o []) read.1) rest
