@@ -2,3 +2,4 @@ pub mod Framing
 pub mod OneFrame
 pub mod Answering
 pub mod Reading
+pub mod Words

@@ -1,6 +1,7 @@
 //! Addresses of interfaces (RFC 894, IEEE 802).
 
-ghost use Rattle.std.specs.Prelude.{◌≡◌, length};
+ghost use Rattle.std.specs.Prelude.{◌≡◌, nat_eq, length};
+ghost use Rattle.std.specs.Cmp.Lexicographic.{pointwise};
 
 use std::fmt;
 
@@ -11,6 +12,17 @@ pub struct Mac(pub [u8; 6]);
 impl Mac {
     /// The address of every interface on a link.
     pub const BROADCAST: Mac = Mac([0xff; 6]);
+
+    /// Whether both are the address of one interface, as by `==`. Four octets are compared as one number and two as another: so a
+    /// processor compares twice, not six times.
+    pub fn is_same(self, other: Mac) -> bool
+        ensures { result ≡ pointwise nat_eq self.0 other.0 }
+    {
+        let [a0, a1, a2, a3, a4, a5] = self.0;
+        let [b0, b1, b2, b3, b4, b5] = other.0;
+        u32::from_le_bytes([a0, a1, a2, a3]) == u32::from_le_bytes([b0, b1, b2, b3])
+            && u16::from_le_bytes([a4, a5]) == u16::from_le_bytes([b4, b5])
+    }
 }
 
 impl fmt::Display for Mac {

@@ -41,7 +41,7 @@ fn is_for(mac: Mac, frame: &EtherView<'_>) -> bool
     ensures { result ≡ is_for mac frame.now }
 {
     let destination = frame.destination();
-    destination == mac || (destination == Mac::BROADCAST && frame.kind() == ETHERTYPE_ARP)
+    destination.is_same(mac) || (destination == Mac::BROADCAST && frame.kind() == ETHERTYPE_ARP)
 }
 
 /// What the payload of a frame for us is.
