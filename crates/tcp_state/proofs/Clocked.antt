@@ -209,7 +209,7 @@ settles v owes since alive guard mark now keeps marked =
 
 -- Segments.
 
-equal : (n : ℕ) → (n == n) ≡ true
+pub equal : (n : ℕ) → (n == n) ≡ true
 equal n = elim (eqb_tells n n) [ inl same ↦ same.0 | inr other ↦ absurd (other.1 refl) ]
 
 begins_none : (t : State) → begins_wait t t ≡ false

@@ -112,3 +112,4 @@ pub mod KeptTold
 pub mod TailProbes
 pub mod TailEnds
 pub mod Undoing
+pub mod PlainSegments

@@ -106,7 +106,7 @@ acknowledged v ack sound fits =
 acknowledged_nxt : (v : View) (ack : ℕ) → (after_ack v ack).sending.nxt ≡ v.sending.nxt
 acknowledged_nxt v ack = by_ack (λ w. w.sending.nxt ≡ v.sending.nxt) v ack (record { old = refl; beyond = refl; opens = λ received new. refl; octets = λ new. refl; fin = λ new fin. refl })
 
-told_una : (s : Sending) (number ack window : ℕ) → (after_window_update s number ack window).una ≡ s.una
+pub told_una : (s : Sending) (number ack window : ℕ) → (after_window_update s number ack window).una ≡ s.una
 told_una s number ack window = either Sending (λ t. t.una ≡ s.una) (updates_window s number ack) _ s (λ tells. refl) (λ none. refl)
 
 told_nxt : (s : Sending) (number ack window : ℕ) → (after_window_update s number ack window).nxt ≡ s.nxt

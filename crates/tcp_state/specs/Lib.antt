@@ -19,6 +19,7 @@ pub mod Names
 pub mod Calls
 pub mod Asking
 pub mod Arrival
+pub mod Plain
 pub mod Due
 pub mod Most
 pub mod Unreachable

@@ -63,6 +63,18 @@ impl Connection {
         ensures fate { result ≡ fate self.old segment.now }
         ensures after { self.new ≡ after_segment_at self.old segment.now now }
     {
+        if self.brings_octets(segment) {
+            return self.take_octets(now, segment);
+        }
+        self.take_any(now, segment)
+    }
+
+    /// The same of any segment, step by step.
+    #[inline(never)]
+    fn take_any(&mut self, now: Moment, segment: &TcpView<'_>) -> Fate
+        ensures fate { result ≡ fate self.old segment.now }
+        ensures after { self.new ≡ after_segment_at self.old segment.now now }
+    {
         if self.state == State::Closed {
             return Fate::Stays;
         }
@@ -504,7 +516,7 @@ impl Connection {
     }
 
     /// Takes the window of the segment, where it is no older than the one that is known.
-    fn hear_window(&mut self, segment: &TcpView<'_>)
+    pub(crate) fn hear_window(&mut self, segment: &TcpView<'_>)
         ensures { self.new ≡ after_window self.old segment.now }
     {
         let window = self.sender.window_in(segment.window());
@@ -675,7 +687,7 @@ impl Connection {
     }
 
     /// Takes the octets, those ahead of a gap to be kept, and owes an ACK for any, at once or later.
-    fn hear_octets(&mut self, segment: &TcpView<'_>)
+    pub(crate) fn hear_octets(&mut self, segment: &TcpView<'_>)
         requires { is_opening self.old.state ≡ false }
         ensures { self.new ≡ after_text self.old segment.now }
     {

@@ -10,7 +10,7 @@ use Rattle.tcp_state.specs.View.{View, is_closed}
 use Rattle.tcp_state.specs.Arrival.{after_heard, is_rejected, before, timed_by, fate}
 use Rattle.tcp_state.proofs.Rejecting.{heard_at}
 use Rattle.tcp_state.proofs.Unchanged.{rejected_leaves, rejected_leaves_at}
-use Rattle.tcp_state.proofs.connection.Connection.segment.Goals as goal
+use Rattle.tcp_state.proofs.connection.Connection.take_any.Goals as goal
 
 -- no other state is CLOSED
 going : (t : State) → sameb the_type t Closed ≡ false → is_closed t ≡ false

@@ -1,0 +1,72 @@
+//! What an open connection hears most of the time, in few steps: octets that stand next in order, or an acknowledgement of octets, and nothing beside them.
+
+ghost use Rattle.std.specs.Prelude.{◌≡◌, true};
+ghost use Rattle.tcp_state.specs.View.{IsSound};
+ghost use Rattle.tcp_state.specs.Arrival.{fate, after_segment_at};
+ghost use Rattle.tcp_state.specs.Plain.{is_steady, has_ack_alone, reports_nothing, is_plain, brings_octets};
+
+use crate::connection::{Connection, Fate};
+use crate::state::State;
+use clock::Moment;
+use tcp_segment::{Flags, TcpView};
+
+/// Which segments are plain. What tells them from others at most connections is asked first.
+impl Connection {
+    /// Whether a segment brings octets that stand next in order, and tells nothing else but the window.
+    pub(crate) fn brings_octets(&self, segment: &TcpView<'_>) -> bool
+        ensures value { result ≡ brings_octets self.now segment.now }
+        ensures sound { IsSound self.now }
+    {
+        self.is_plain(segment)
+            && !segment.payload().is_empty()
+            && segment.acknowledgement() == self.sender.una()
+    }
+
+    /// Whether a segment comes at RCV.NXT with ACK alone and reports nothing, while the connection is open.
+    fn is_plain(&self, segment: &TcpView<'_>) -> bool
+        ensures { result ≡ is_plain self.now segment.now }
+    {
+        self.is_steady()
+            && has_ack_alone(segment.flags())
+            && segment.number() == self.receiver.rnext()
+            && self.reports_nothing(segment)
+    }
+
+    /// Whether both sides are open, and both windows.
+    fn is_steady(&self) -> bool
+        ensures { result ≡ is_steady self.now }
+    {
+        self.state == State::Established && self.sender.window() != 0 && self.receiver.window() > 0
+    }
+
+    /// Whether a segment reports no octets that are kept ahead of a gap, or isn't asked.
+    fn reports_nothing(&self, segment: &TcpView<'_>) -> bool
+        ensures { result ≡ reports_nothing self.now segment.now }
+    {
+        !self.selects() || segment.blocks().is_empty()
+    }
+}
+
+/// What they leave: all but these steps changes nothing then.
+impl Connection {
+    /// Takes octets that stand next in order, and the window.
+    pub(crate) fn take_octets(&mut self, now: Moment, segment: &TcpView<'_>) -> Fate
+        requires plain { brings_octets self.old segment.now ≡ true }
+        requires sound { IsSound self.old }
+        ensures fate { result ≡ fate self.old segment.now }
+        ensures after { self.new ≡ after_segment_at self.old segment.now now }
+    {
+        self.hear_window(segment);
+        self.hear_octets(segment);
+        self.note_peer(now);
+        self.update_timers(false, now);
+        Fate::Stays
+    }
+}
+
+/// Whether ACK is set, and of the other control bits none that acts.
+fn has_ack_alone(flags: Flags) -> bool
+    ensures { result ≡ has_ack_alone flags }
+{
+    flags.ack && !flags.syn && !flags.fin && !flags.rst
+}
