@@ -306,7 +306,7 @@ recover_kept b w now moves quiet =
 pub reports_none : (b : Before) (w : View) → b.blocks ≡ [] → reports_more b w ≡ false
 reports_none b w silent = ap (λ bs. b.counts_reports && nat_lt (covered w.resend.reported) (covered (with_blocks w.resend.reported w.sending bs))) silent ∙ ap (λ t. b.counts_reports && t) (le-ltb (covered w.resend.reported) (covered w.resend.reported) (omega arith)) ∙ and_false b.counts_reports
 
-told_none : (b : Before) (w : View) (now : Moment) → b.blocks ≡ [] → resend_told b w now ≡ resend_heard b w now
+pub told_none : (b : Before) (w : View) (now : Moment) → b.blocks ≡ [] → resend_told b w now ≡ resend_heard b w now
 told_none b w now silent =
     ap (λ bs. let p : Resend = record (resend_heard b w now) { reported = with_blocks w.resend.reported w.sending bs } in p) silent
     ∙ heard_paced b w now (λ p. record p { reported = w.resend.reported } ≡ p) refl refl refl

@@ -113,3 +113,4 @@ pub mod TailProbes
 pub mod TailEnds
 pub mod Undoing
 pub mod PlainSegments
+pub mod PlainAcks

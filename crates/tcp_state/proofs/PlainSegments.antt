@@ -44,7 +44,7 @@ is_it : (t : State) → is_established t ≡ true → t ≡ Established
 is_it Established e = refl
 is_it _ e = cc
 
-same_number : (m n : ℕ) → (m == n) ≡ true → m ≡ n
+pub same_number : (m n : ℕ) → (m == n) ≡ true → m ≡ n
 same_number m n e = elim (eqb_tells m n) [ inl same ↦ same.1 | inr other ↦ clash (m == n) e other.0 ]
 
 held_by_caller : (released : Bool) (t : State) → t ≡ Established → (released && not (is_write_closed t)) ≡ false → released ≡ false
@@ -145,14 +145,14 @@ plain_stays v w s p read heard same =
 
 -- It begins no wait, and nothing is kept of it on guard.
 
-no_wait : (v w : View) (s : Segment) (now : Moment) → IsPlain v s → w.state ≡ v.state → w.owes_reset ≡ v.owes_reset → since_after (before v s) w now ≡ w.since
+pub no_wait : (v w : View) (s : Segment) (now : Moment) → IsPlain v s → w.state ≡ v.state → w.owes_reset ≡ v.owes_reset → since_after (before v s) w now ≡ w.since
 no_wait v w s now p state owes =
     ap (λ t. if is_time_wait t && not s.flags.rst && not (is_acceptable_to v s) && s.flags.fin && ((s.number + span_of s) % 2 ^ 32 == v.receiving.rnext) || begins_wait v.state w.state || (w.owes_reset && not v.owes_reset) then now else w.since) p.state
     ∙ ap (λ t. if begins_wait v.state t || (w.owes_reset && not v.owes_reset) then now else w.since) state
     ∙ ap (λ o. if begins_wait v.state v.state || (o && not v.owes_reset) then now else w.since) owes
     ∙ ap (λ b. if b then now else w.since) (starts_none v)
 
-unguarded : (b : Before) (x : View) (now : Moment) → b.draws_one ≡ false → b.asks_again ≡ false → guarded b x now ≡ x
+pub unguarded : (b : Before) (x : View) (now : Moment) → b.draws_one ≡ false → b.asks_again ≡ false → guarded b x now ≡ x
 unguarded b x now none quiet = ap₂ (λ d a. let held = d && is_spent x.guard now in record x {
   owes_ack = if held || a then false else x.owes_ack;
   resend = record x.resend { mark = if a && not held then mark_past 0 (outstanding x.sending) else x.resend.mark };
@@ -166,18 +166,18 @@ pub record IsOctets (v : View) (s : Segment) : Type 0 where
   pub some : (length s.octets == 0) ≡ false
   pub same : s.acknowledgement ≡ v.sending.una
 
-pub octets_tell : (v : View) (s : Segment) → IsSound v → brings_octets v s ≡ true → IsOctets v s
-octets_tell v s sound e =
+pub octets_tell : (v : View) (s : Segment) → IsSound v → is_plain v s ≡ true → brings_octets v s ≡ true → IsOctets v s
+octets_tell v s sound plain e =
     let some = not (length s.octets == 0) in
-    let first = and_left (is_plain v s && some) (s.acknowledgement == v.sending.una) e in
+    let same = s.acknowledgement == v.sending.una in
     record {
-      plain = plain_tells v s sound (and_left (is_plain v s) some first);
-      some = not_true (length s.octets == 0) (and_right (is_plain v s) some first);
-      same = same_number s.acknowledgement v.sending.una (and_right (is_plain v s && some) (s.acknowledgement == v.sending.una) e);
+      plain = plain_tells v s sound plain;
+      some = not_true (length s.octets == 0) (and_left some same e);
+      same = same_number s.acknowledgement v.sending.una (and_right some same e);
     }
 
 -- SND.UNA itself is no new acknowledgement, and in reach
-not_new : (v : View) → IsSound v → is_new_ack v.sending v.sending.una ≡ false
+pub not_new : (v : View) → IsSound v → is_new_ack v.sending v.sending.una ≡ false
 not_new v sound = ap (λ d. nat_lt 0 d && nat_le d (outstanding v.sending)) (past_itself v.sending.una sound.una)
 
 not_off : (v : View) → IsSound v → is_off v v.sending.una ≡ false

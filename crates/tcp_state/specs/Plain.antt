@@ -25,14 +25,14 @@ has_ack_alone flags = flags.ack && not flags.syn && not flags.fin && not flags.r
 abbrev pub reports_nothing : View → Segment → Bool
 reports_nothing v s = not (selects v) || (length (blocks_of s) == 0)
 
--- a segment with ACK alone comes at RCV.NXT
+-- A segment with ACK alone comes at RCV.NXT, and reports nothing.
 abbrev pub is_plain : View → Segment → Bool
 is_plain v s = is_steady v && has_ack_alone s.flags && (s.number == v.receiving.rnext) && reports_nothing v s
 
--- it brings octets, and acknowledges what is acknowledged
+-- Such a segment brings octets, and acknowledges what is acknowledged;
 abbrev pub brings_octets : View → Segment → Bool
-brings_octets v s = is_plain v s && not (length s.octets == 0) && (s.acknowledgement == v.sending.una)
+brings_octets v s = not (length s.octets == 0) && (s.acknowledgement == v.sending.una)
 
--- it brings none, and acknowledges some, which ends no recovery and answers no probe of the tail
+-- or it brings none, and acknowledges some, which ends no recovery and answers no probe of the tail.
 abbrev pub acknowledges_octets : View → Segment → Bool
-acknowledges_octets v s = is_plain v s && (length s.octets == 0) && is_new_ack v.sending s.acknowledgement && not (is_recovering v.congestion) && (v.resend.tail == 0)
+acknowledges_octets v s = (length s.octets == 0) && is_new_ack v.sending s.acknowledgement && not (is_recovering v.congestion) && (v.resend.tail == 0)

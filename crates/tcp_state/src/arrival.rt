@@ -63,8 +63,13 @@ impl Connection {
         ensures fate { result ≡ fate self.old segment.now }
         ensures after { self.new ≡ after_segment_at self.old segment.now now }
     {
-        if self.brings_octets(segment) {
-            return self.take_octets(now, segment);
+        if self.is_plain(segment) {
+            if self.brings_octets(segment) {
+                return self.take_octets(now, segment);
+            }
+            if self.acknowledges_octets(segment) {
+                return self.take_ack(now, segment);
+            }
         }
         self.take_any(now, segment)
     }
@@ -649,7 +654,7 @@ impl Connection {
     }
 
     /// SND.UNA moves to an acknowledgement.
-    fn move_una(&mut self, acknowledgement: Seq)
+    pub(crate) fn move_una(&mut self, acknowledgement: Seq)
         requires opened { is_opening self.old.state ≡ false }
         requires new { is_new_ack self.old.sending acknowledgement.0 ≡ true }
         ensures after { self.new ≡ after_new_ack self.old acknowledgement.0 }

@@ -9,11 +9,11 @@ use Rattle.tcp_state.proofs.connection.Connection.take_octets.Goals as goal
 pub returns-clause-fate : goal.returns-clause-fate
 returns-clause-fate c =
     let v : View = c.args.self.now in
-    sym (octets_stay v c.args.segment.now c.requires.sound (octets_tell v c.args.segment.now c.requires.sound c.requires.plain))
+    sym (octets_stay v c.args.segment.now c.requires.sound (octets_tell v c.args.segment.now c.requires.sound c.requires.plain c.requires.octets))
 
 pub returns-clause-after : goal.returns-clause-after
 returns-clause-after c =
     let v : View = c.args.self.now in
     c.update_timers.ensures
     ∙ ap (λ w. clocked false w c.args.now) (c.note_peer.ensures ∙ ap (λ (w : View). record w { alive = heard_now w.alive c.args.now }) (c.hear_octets.ensures ∙ ap (λ w. after_text w c.args.segment.now) c.hear_window.ensures))
-    ∙ sym (octets_taken v c.args.segment.now c.args.now c.requires.sound (octets_tell v c.args.segment.now c.requires.sound c.requires.plain))
+    ∙ sym (octets_taken v c.args.segment.now c.args.now c.requires.sound (octets_tell v c.args.segment.now c.requires.sound c.requires.plain c.requires.octets))
