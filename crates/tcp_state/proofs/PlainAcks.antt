@@ -18,35 +18,31 @@ use Rattle.tcp_state.specs.Congestion.Signal.{Begins, Counts, Both, Nothing}
 use Rattle.tcp_state.specs.Resend.{Resend, resend_acknowledged, resend_ends, excused_by, gives_back}
 use Rattle.tcp_state.specs.Selective.{selects}
 use Rattle.tcp_state.specs.Timing.{clocked}
-use Rattle.tcp_state.specs.Arrival.{is_receiving, is_off, after_ack, after_establishment, after_new_ack, fin_acknowledged, owing_ack, after_window, after_text, after_segment, fate, came_twice, before, since_after, is_moved, told, reports_more, resend_told, report_event, behind_ack, ends_tail, whole_signal, acknowledged_signal, report_signal, congestion_event_of, resend_signalled, resend_after, congestion_after, resend_left, given_back, congestion_left, guarded, after_segment_at}
+use Rattle.tcp_state.specs.Arrival.{is_off, after_ack, after_establishment, after_new_ack, fin_acknowledged, owing_ack, after_window, after_text, after_segment, fate, came_twice, before, since_after, is_moved, told, reports_more, resend_told, report_event, behind_ack, ends_tail, whole_signal, acknowledged_signal, report_signal, congestion_event_of, resend_signalled, resend_after, congestion_after, resend_left, given_back, congestion_left, guarded, after_segment_at}
 use Rattle.tcp_state.specs.Plain.{is_plain, acknowledges_octets}
-use Rattle.tcp_halves.proofs.Choices.{either, by, clash, and_left, and_right, and_false, or_left, not_true}
+use Rattle.tcp_halves.proofs.Choices.{by, clash, and_left, and_right, and_false, not_true}
 use Rattle.tcp_state.proofs.Segments.{IsRead}
 use Rattle.tcp_state.proofs.Clocked.{silent_needed, reports_none, told_none}
 use Rattle.tcp_state.proofs.Guarded.{without_syn, read_draws_none}
 use Rattle.tcp_state.proofs.Onward.{told_una}
-use Rattle.tcp_state.proofs.PlainSegments.{IsPlain, same_number, plain_tells, plain_read, plain_segment, plain_comes, plain_stays, no_wait, unguarded, not_new}
+use Rattle.tcp_state.proofs.PlainSegments.{IsPlain, same_number, plain_tells, plain_read, plain_segment, plain_comes, plain_stays, by_text, no_wait, unguarded, not_new}
 
 pub record IsAck (v : View) (s : Segment) : Type 0 where
   pub plain : IsPlain v s
-  pub none : (length s.octets == 0) ≡ true
   pub new : is_new_ack v.sending s.acknowledgement ≡ true
   pub whole : is_recovering v.congestion ≡ false
   pub tail : v.resend.tail ≡ 0
 
 pub ack_tells : (v : View) (s : Segment) → IsSound v → is_plain v s ≡ true → acknowledges_octets v s ≡ true → IsAck v s
 ack_tells v s sound plain e =
-    let none = length s.octets == 0 in
     let new = is_new_ack v.sending s.acknowledgement in
     let whole = not (is_recovering v.congestion) in
-    let three = and_left (none && new && whole) (v.resend.tail == 0) e in
-    let two = and_left (none && new) whole three in
+    let two = and_left (new && whole) (v.resend.tail == 0) e in
     record {
       plain = plain_tells v s sound plain;
-      none = and_left none new two;
-      new = and_right none new two;
-      whole = not_true (is_recovering v.congestion) (and_right (none && new) whole three);
-      tail = same_number v.resend.tail 0 (and_right (none && new && whole) (v.resend.tail == 0) e);
+      new = and_left new whole two;
+      whole = not_true (is_recovering v.congestion) (and_right new whole two);
+      tail = same_number v.resend.tail 0 (and_right (new && whole) (v.resend.tail == 0) e);
     }
 
 ack_read : (v : View) (s : Segment) → IsSound v → IsAck v s → IsRead v s
@@ -67,25 +63,31 @@ ack_moves v ack state new =
     ∙ ap (λ b. if b then moved else rest) new
     ∙ ap (λ t. if awaits_fin_ack t && past_held then fin_acknowledged acked else acked) state
 
-no_text : (w : View) (s : Segment) → (length s.octets == 0) ≡ true → after_text w s ≡ w
-no_text w s none =
-    let shut = not (is_receiving w.state) in
-    either View (λ x. x ≡ w) ((length s.octets == 0) || shut) w _ (λ empty. refl) (λ some. clash ((length s.octets == 0) || shut) (or_left (length s.octets == 0) shut none) some)
-
 abbrev pub acked : View → Segment → View
-acked v s = after_window (after_new_ack v s.acknowledgement) s
+acked v s = after_text (after_window (after_new_ack v s.acknowledgement) s) s
 
 ack_heard : (v : View) (s : Segment) → IsSound v → IsAck v s → after_segment v s ≡ acked v s
 ack_heard v s sound a =
-    plain_segment v s a.plain (ack_read v s sound a)
-    ∙ no_text (after_window (after_ack v s.acknowledgement) s) s a.none
-    ∙ ap (λ x. after_window x s) (ack_moves v s.acknowledgement a.plain.state a.new)
+    plain_segment v s a.plain (ack_read v s sound a) ∙ ap (λ x. after_text (after_window x s) s) (ack_moves v s.acknowledgement a.plain.state a.new)
+
+-- what it leaves as it was
+ack_state : (v : View) (s : Segment) → (acked v s).state ≡ v.state
+ack_state v s = by_text (λ x. x.state ≡ v.state) (after_window (after_new_ack v s.acknowledgement) s) s refl (λ r owes p. refl)
+
+ack_owes : (v : View) (s : Segment) → (acked v s).owes_reset ≡ v.owes_reset
+ack_owes v s = by_text (λ x. x.owes_reset ≡ v.owes_reset) (after_window (after_new_ack v s.acknowledgement) s) s refl (λ r owes p. refl)
+
+ack_window : (v : View) (s : Segment) → (acked v s).congestion ≡ v.congestion
+ack_window v s = by_text (λ x. x.congestion ≡ v.congestion) (after_window (after_new_ack v s.acknowledgement) s) s refl (λ r owes p. refl)
 
 pub ack_stays : (v : View) (s : Segment) → IsSound v → IsAck v s → fate v s ≡ Stays
-ack_stays v s sound a = plain_stays v (acked v s) s a.plain (ack_read v s sound a) (ack_heard v s sound a) refl
+ack_stays v s sound a = plain_stays v (acked v s) s a.plain (ack_read v s sound a) (ack_heard v s sound a) (ack_state v s)
 
 ack_una : (v : View) (s : Segment) → (acked v s).sending.una ≡ s.acknowledgement
-ack_una v s = let sending = after_acknowledged v.sending s.acknowledgement in told_una sending s.number s.acknowledgement (window_in sending s.window)
+ack_una v s =
+    let sending = after_acknowledged v.sending s.acknowledgement in
+    let told = after_window (after_new_ack v s.acknowledgement) s in
+    by_text (λ x. x.sending.una ≡ told.sending.una) told s refl (λ r owes p. refl) ∙ told_una sending s.number s.acknowledgement (window_in sending s.window)
 
 apart : (v : View) (ack : ℕ) → IsSound v → is_new_ack v.sending ack ≡ true → (v.sending.una == ack) ≡ false
 apart v ack sound new =
@@ -113,10 +115,11 @@ ack_signal v s sound a =
     let pays = not (came_twice w.sending.una b.blocks) in
     let quiet = not (is_recovering w.congestion) in
     let goes = nat_lt 0 w.resend.recover in
-    ap (λ t. if is_closed t then Nothing else if is_moved b w then (if is_opening b.state then Begins else acknowledged_signal b x n more) else still) a.plain.state
+    let whole : is_recovering w.congestion ≡ false = ap is_recovering (ack_window v s) ∙ a.whole in
+    ap (λ t. if is_closed t then Nothing else if is_moved b w then (if is_opening b.state then Begins else acknowledged_signal b x n more) else still) (ack_state v s ∙ a.plain.state)
     ∙ ap (λ t. if t then (if is_opening b.state then Begins else acknowledged_signal b x n more) else still) (ack_moved v s sound a)
     ∙ ap (λ t. if is_opening t then Begins else acknowledged_signal b x n more) a.plain.state
-    ∙ ap (λ r. if repairs w.congestion.control && r && goes then partial else whole_signal b x n more) a.whole
+    ∙ ap (λ r. if repairs w.congestion.control && r && goes then partial else whole_signal b x n more) whole
     ∙ ap (λ r. if r && goes then partial else whole_signal b x n more) (and_false (repairs w.congestion.control))
     ∙ ap (λ m. if m then Both ack (report_event (behind_ack x n)) else if ends_tail b x then Both (Loss b.tail) ack else Counts ack) (reports_none b w a.plain.silent)
     ∙ ap (λ m. if selects x && nat_lt 0 m && (w.resend.tail == 0) && quiet && pays then Both (Loss b.tail) ack else Counts ack) a.tail
@@ -133,14 +136,14 @@ ack_resend v s now sound a =
     let other = if b.answers_probe then record w.resend { expiries = 0 } else w.resend in
     ap (λ t. excused_by t (resend_after b w now)) (silent_needed v s a.plain.silent)
     ∙ ap (λ g. resend_signalled p g w.congestion (outstanding w.sending)) (ack_signal v s sound a)
-    ∙ ap (λ r. if rules && r then resend_ends p else p) a.whole
+    ∙ ap (λ r. if rules && r then resend_ends p else p) (ap is_recovering (ack_window v s) ∙ a.whole)
     ∙ ap (λ r. if r then resend_ends p else p) (and_false rules)
     ∙ told_none b w now a.plain.silent
     ∙ ap (λ t. if t then resend_acknowledged w.resend w.sending.una (is_opening b.state) now else other) (ack_moved v s sound a)
     ∙ ap (λ t. resend_acknowledged w.resend w.sending.una (is_opening t) now) a.plain.state
 
 ack_congestion : (v : View) (s : Segment) (now : Moment) → IsSound v → IsAck v s
-    → congestion_left (before v s) (acked v s) now ≡ after_event v.congestion (NewAck (octets_of v s) (outstanding (acked v s).sending))
+    → congestion_left (before v s) (acked v s) now ≡ after_event (acked v s).congestion (NewAck (octets_of v s) (outstanding (acked v s).sending))
 ack_congestion v s now sound a =
     let b = before v s in
     let w = acked v s in
@@ -164,6 +167,6 @@ ack_taken v s now sound a =
     plain_comes v w s now a.plain (ack_heard v s sound a)
     ∙ ap (λ t. clocked t (guarded b x now) now) (ack_moved v s sound a)
     ∙ ap (λ y. clocked true y now) (unguarded b x now (read_draws_none v s (ack_read v s sound a)) (without_syn v s (inr a.plain.no_syn)))
-    ∙ ap (λ at. clocked true (record w { since = at; resend = resend_left b w now; congestion = congestion_left b w now; alive = alive }) now) (no_wait v w s now a.plain refl refl)
+    ∙ ap (λ at. clocked true (record w { since = at; resend = resend_left b w now; congestion = congestion_left b w now; alive = alive }) now) (no_wait v w s now a.plain (ack_state v s) (ack_owes v s))
     ∙ ap (λ (p : Resend). clocked true (record w { resend = p; congestion = congestion_left b w now; alive = alive }) now) (ack_resend v s now sound a)
     ∙ ap (λ (g : Window). clocked true (record w { resend = resend_acknowledged w.resend w.sending.una false now; congestion = g; alive = alive }) now) (ack_congestion v s now sound a)

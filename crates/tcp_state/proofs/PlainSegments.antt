@@ -6,7 +6,7 @@ use Rattle.clock.specs.declared.moment.Moment.{Moment}
 use Rattle.tcp_segment.specs.declared.blocks.Block.{Block}
 use Rattle.tcp_segment.specs.Segment.{Segment, blocks_of, span_of}
 use Rattle.tcp_segment.specs.Wire.{past}
-use Rattle.tcp_halves.specs.Halves.{Sending, Receiving}
+use Rattle.tcp_halves.specs.Halves.{Receiving}
 use Rattle.tcp_halves.specs.Stream.{outstanding, is_new_ack, receive_window, is_in_window, is_acceptable}
 use Rattle.tcp_halves.specs.Windows.{window_in}
 use Rattle.tcp_state.specs.declared.connection.Fate.TheVariants.{Stays, Removed, Rejected}
@@ -19,6 +19,7 @@ use Rattle.tcp_state.specs.Timing.{clocked}
 use Rattle.tcp_state.specs.Resend.{mark_past}
 use Rattle.tcp_state.specs.Guard.{is_spent, guard_after}
 use Rattle.tcp_state.specs.declared.arrival.Before.{Before}
+use Rattle.tcp_state.specs.declared.reporting.Reporting.{Reporting}
 use Rattle.tcp_state.specs.Arrival.{is_receiving, is_acceptable_to, is_off, is_read_on, after_ack, is_of_fin, after_establishment, after_new_ack, fin_acknowledged, owing_ack, after_window, after_text, after_fin, counts_fin, is_read, brings_more, is_lost, after_lost, after_segment, is_rejected, ends_by_reset, ends_opening, fate, begins_wait, answers_probe, is_counted_duplicate, octets_outstanding, counts_duplicates, blocks_told, before, since_after, is_moved, guarded, timed_by, after_segment_at}
 use Rattle.tcp_state.specs.Plain.{is_established, is_steady, has_ack_alone, reports_nothing, is_plain, brings_octets}
 use Rattle.tcp_halves.proofs.Choices.{either, clash, and_left, and_right, and_false, or_left, or_else, not_true}
@@ -209,12 +210,13 @@ octets_heard v s sound o =
     plain_segment v s o.plain (octets_read v s sound o)
     ∙ ap (λ x. after_text (after_window x s) s) (ap (after_ack v) o.same ∙ octets_acknowledge_none v sound o.plain.state)
 
-by_text : (P : View → Type 0) (w : View) (s : Segment) → P w → ((x : View) → x.state ≡ w.state → x.sending ≡ w.sending → x.owes_reset ≡ w.owes_reset → P x) → P (after_text w s)
-by_text P w s none some = either View P ((length s.octets == 0) || not (is_receiving w.state)) w _ (λ empty. none) (λ takes. some _ refl refl refl)
+-- octets leave all but the receiving half, what is owed for them, and what is reported
+pub by_text : (P : View → Type 0) (w : View) (s : Segment) → P w → ((r : Receiving) (owes : Bool) (p : Reporting) → P (record w { receiving = r; owes_ack = owes; delays_ack = true; reporting = p })) → P (after_text w s)
+by_text P w s none some = either View P ((length s.octets == 0) || not (is_receiving w.state)) w _ (λ empty. none) (λ takes. some _ _ _)
 
 pub octets_stay : (v : View) (s : Segment) → IsSound v → IsOctets v s → fate v s ≡ Stays
 octets_stay v s sound o =
-    plain_stays v (after_text (after_window v s) s) s o.plain (octets_read v s sound o) (octets_heard v s sound o) (by_text (λ x. x.state ≡ v.state) (after_window v s) s refl (λ x state sending owes. state))
+    plain_stays v (after_text (after_window v s) s) s o.plain (octets_read v s sound o) (octets_heard v s sound o) (by_text (λ x. x.state ≡ v.state) (after_window v s) s refl (λ r owes p. refl))
 
 pub octets_taken : (v : View) (s : Segment) (now : Moment) → IsSound v → IsOctets v s
     → after_segment_at v s now ≡ clocked false (let w = after_text (after_window v s) s in record w { alive = heard_now w.alive now }) now
@@ -223,9 +225,9 @@ octets_taken v s now sound o =
     let p = o.plain in
     let told = after_window v s in
     let w = after_text told s in
-    let una : w.sending.una ≡ v.sending.una = by_text (λ x. x.sending.una ≡ told.sending.una) told s refl (λ x state sending owes. ap (λ (t : Sending). t.una) sending) ∙ told_una v.sending s.number s.acknowledgement (window_in v.sending s.window) in
-    let state : w.state ≡ v.state = by_text (λ x. x.state ≡ v.state) told s refl (λ x state sending owes. state) in
-    let owes : w.owes_reset ≡ v.owes_reset = by_text (λ x. x.owes_reset ≡ v.owes_reset) told s refl (λ x state sending owes. owes) in
+    let una : w.sending.una ≡ v.sending.una = by_text (λ x. x.sending.una ≡ told.sending.una) told s refl (λ r owes p. refl) ∙ told_una v.sending s.number s.acknowledgement (window_in v.sending s.window) in
+    let state : w.state ≡ v.state = by_text (λ x. x.state ≡ v.state) told s refl (λ r owes p. refl) in
+    let owes : w.owes_reset ≡ v.owes_reset = by_text (λ x. x.owes_reset ≡ v.owes_reset) told s refl (λ r owes p. refl) in
     let moved : is_moved b w ≡ false = ap (λ n. not (v.sending.una == n)) una ∙ ap not (equal v.sending.una) in
     let probe : answers_probe v s ≡ false = ap (λ c. not (is_opening v.state) && c && is_acceptable_to v s && s.flags.ack && not s.flags.rst) p.sends ∙ ap (λ c. c && is_acceptable_to v s && s.flags.ack && not s.flags.rst) (and_false (not (is_opening v.state))) in
     let before_octets = not (is_opening v.state) && is_read v s && nat_lt 0 (octets_outstanding v) in

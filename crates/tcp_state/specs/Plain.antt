@@ -33,6 +33,6 @@ is_plain v s = is_steady v && has_ack_alone s.flags && (s.number == v.receiving.
 abbrev pub brings_octets : View → Segment → Bool
 brings_octets v s = not (length s.octets == 0) && (s.acknowledgement == v.sending.una)
 
--- or it brings none, and acknowledges some, which ends no recovery and answers no probe of the tail.
+-- or it acknowledges some, whatever it brings, which ends no recovery and answers no probe of the tail.
 abbrev pub acknowledges_octets : View → Segment → Bool
-acknowledges_octets v s = (length s.octets == 0) && is_new_ack v.sending s.acknowledgement && not (is_recovering v.congestion) && (v.resend.tail == 0)
+acknowledges_octets v s = is_new_ack v.sending s.acknowledgement && not (is_recovering v.congestion) && (v.resend.tail == 0)

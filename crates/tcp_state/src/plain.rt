@@ -49,12 +49,11 @@ impl Connection {
         !segment.payload().is_empty() && segment.acknowledgement() == self.sender.una()
     }
 
-    /// Whether a segment acknowledges octets, in no recovery and behind no probe of the tail, and tells nothing else but the window.
+    /// Whether a segment acknowledges octets, in no recovery and behind no probe of the tail; it may bring some, too.
     pub(crate) fn acknowledges_octets(&self, segment: &TcpView<'_>) -> bool
         ensures { result ≡ acknowledges_octets self.now segment.now }
     {
-        segment.payload().is_empty()
-            && self.sender.is_new(segment.acknowledgement())
+        self.sender.is_new(segment.acknowledgement())
             && !self.congestion.is_recovering()
             && self.resend.tail() == 0
     }
@@ -77,7 +76,7 @@ impl Connection {
         Fate::Stays
     }
 
-    /// Takes an acknowledgement of octets, and the window.
+    /// Takes an acknowledgement of octets, the window, and octets that stand next in order, if there are any.
     pub(crate) fn take_ack(&mut self, now: Moment, segment: &TcpView<'_>) -> Fate
         requires plain { is_plain self.old segment.now ≡ true }
         requires octets { acknowledges_octets self.old segment.now ≡ true }
@@ -88,6 +87,7 @@ impl Connection {
         let held = self.sender.held_len();
         self.move_una(segment.acknowledgement());
         self.hear_window(segment);
+        self.hear_octets(segment);
         self.count_acknowledged(held, now);
         self.note_peer(now);
         self.update_timers(true, now);
