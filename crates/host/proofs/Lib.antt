@@ -1,4 +1,5 @@
 pub mod Emitting
+pub mod FirstDue
 pub mod Answered
 pub mod DueSegments
 pub mod Hearing

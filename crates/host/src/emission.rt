@@ -48,8 +48,32 @@ impl Layers {
         }
     }
 
-    /// Writes the frame for the first of what the entries have due, in order of id, for which one can go out now.
+    /// Writes the frame for the first of what the entries have due, in order of id, for which one can go out now. Mostly that is the first of all, since
+    /// the MAC of its hop is known.
     fn emit_from_table(&mut self, now: Moment, out: &mut [u8; FRAME_MAX]) -> Option<usize>
+        ensures answer { result ≡ len_of self.old now (table_emission self.old now) }
+        ensures bounds { IfSome result (λ len. (60 ≤ len) × (len ≤ FRAME_MAX)) }
+        ensures after { self.new ≡ left_by self.old now (table_emission self.old now) }
+        ensures frame { out.new ≡ front_of (octets_of self.old now (table_emission self.old now)) out.old result }
+    {
+        let due = self.sockets.next_due(0)?;
+        match self.interface.way(now, due.peer.addr) {
+            Way::To(mac) => Some(self.emit_entry(
+                due.place,
+                due.outgoing,
+                mac,
+                due.peer.addr,
+                now,
+                out,
+            )),
+            _ => self.emit_by_plan(now, out),
+        }
+    }
+
+    /// Writes the same by a plan, where the first of all can't go out as it is: the request for its hop goes out in its place, or it lets the others by.
+    #[cold]
+    #[inline(never)]
+    fn emit_by_plan(&mut self, now: Moment, out: &mut [u8; FRAME_MAX]) -> Option<usize>
         ensures answer { result ≡ len_of self.old now (table_emission self.old now) }
         ensures bounds { IfSome result (λ len. (60 ≤ len) × (len ≤ FRAME_MAX)) }
         ensures after { self.new ≡ left_by self.old now (table_emission self.old now) }

@@ -1,10 +1,9 @@
 -- The timers, the control replies and the pool come first, and then the entries at their hops.
-use Rattle.std.proofs.Common.{◌≡◌, List, fold, Option, None, ◌∙◌, ap}
+use Rattle.std.proofs.Common.{fold, Option, ◌∙◌, ap}
 use Rattle.clock.specs.declared.moment.Moment.{Moment}
 use Rattle.clock.specs.Moments.{sooner}
 use Rattle.interface.specs.Timing.{least_deadline as reply_deadline}
 use Rattle.reassembly.specs.Places.{next_deadline as pool_deadline}
-use Rattle.sockets.specs.declared.entry.Entry.{Entry}
 use Rattle.sockets.specs.Ticks.{least_deadline as timer_deadline}
 use Rattle.host.specs.HostView.{HostView}
 use Rattle.host.specs.Ticks.{hop_deadline}

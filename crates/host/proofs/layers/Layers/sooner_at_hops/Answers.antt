@@ -1,5 +1,5 @@
 -- An entry that isn't busy waits for no hop.
-use Rattle.std.proofs.Common.{◌≡◌, ℕ, suc, ◌+◌, false, List, drop, fold, get_or, Option, Some, None, arith, refl, sym, ◌∙◌, ap}
+use Rattle.std.proofs.Common.{◌≡◌, ℕ, suc, ◌+◌, false, List, drop, fold, Option, Some, None, arith, refl, sym, ◌∙◌, ap}
 use Rattle.clock.specs.declared.moment.Moment.{Moment}
 use Rattle.clock.specs.Moments.{sooner}
 use Rattle.marks.specs.First.{first_from}
