@@ -1,4 +1,4 @@
--- What an open connection hears most of the time: octets that stand next in order, or an acknowledgement of octets, and nothing beside them.
+-- What an open connection hears most of the time: octets that stand next in order, an acknowledgement of octets, or both, and nothing beside them.
 use Rattle.std.specs.Prelude.{◌==◌, ◌&&◌, ◌||◌, not, nat_lt, Bool, true, false, length}
 use Rattle.tcp_segment.specs.declared.flags.Flags.{Flags}
 use Rattle.tcp_segment.specs.Segment.{Segment, blocks_of}

@@ -74,7 +74,7 @@ impl Connection {
         self.take_any(now, segment)
     }
 
-    /// The same of any segment, step by step.
+    /// Takes any segment, by all the steps that one may ask for.
     #[inline(never)]
     fn take_any(&mut self, now: Moment, segment: &TcpView<'_>) -> Fate
         ensures fate { result ≡ fate self.old segment.now }

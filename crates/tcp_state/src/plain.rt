@@ -1,4 +1,5 @@
-//! What an open connection hears most of the time, in few steps: octets that stand next in order, or an acknowledgement of octets, and nothing beside them.
+//! What an open connection hears most of the time, taken in few steps: octets that stand next in order, an acknowledgement of octets, or both, and nothing
+//! beside them.
 
 ghost use Rattle.std.specs.Prelude.{◌≡◌, ◌≤◌, ◌-◌, length, true, false};
 ghost use Rattle.tcp_state.specs.View.{IsSound};
@@ -59,7 +60,7 @@ impl Connection {
     }
 }
 
-/// What they leave: all but these steps changes nothing then.
+/// What they leave. The other steps by which any segment is taken would change nothing.
 impl Connection {
     /// Takes octets that stand next in order, and the window.
     pub(crate) fn take_octets(&mut self, now: Moment, segment: &TcpView<'_>) -> Fate
