@@ -1,7 +1,7 @@
 //! Addresses, endpoints, and the pair of endpoints of a connection.
 
 ghost use Rattle.std.specs.Prelude.{◌≡◌, ◌≤◌, ◌+◌, ◌↔◌, IsTrue, length, take, drop};
-ghost use Rattle.ipv4.specs.Addresses.{IsUnicast, is_unicast, same_addr, pair_of};
+ghost use Rattle.ipv4.specs.Addresses.{IsUnicast, is_unicast, same_addr, same_end, pair_of};
 
 use std::fmt::{Display, Error, Formatter, Write};
 
@@ -55,6 +55,15 @@ pub struct Endpoint {
     pub addr: Addr,
     /// The port at that host.
     pub port: u16,
+}
+
+impl Endpoint {
+    /// Whether both are one end, as by `==`: their addresses are compared as numbers.
+    pub fn is_same(self, other: Endpoint) -> bool
+        ensures { result ≡ same_end self other }
+    {
+        self.addr.is_same(other.addr) && self.port == other.port
+    }
 }
 
 /// The two endpoints of a connection, the lesser one first, by address and then by port.

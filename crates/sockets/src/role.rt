@@ -323,8 +323,8 @@ impl Role {
         match self {
             Role::Connected { connection, .. } => {
                 !matches!(connection.state(), State::Closed)
-                    && connection.local() == local
-                    && connection.peer() == peer
+                    && connection.local().is_same(local)
+                    && connection.peer().is_same(peer)
             }
             _ => false,
         }
