@@ -141,11 +141,8 @@ impl Connection {
         requires first { awaits_first self.old ≡ (outstanding self.old.sending == 0) }
         ensures { self.new ≡ record self.old { timers = record self.old.timers { overriding = override_timer self.old now }; unheard = unheard_since self.old now } }
     {
-        if self.sender.outstanding() > 0 {
-            self.unheard = None;
-        } else if self.unheard.is_none() {
-            self.unheard = Some(now);
-        }
+        let is_due = self.sender.outstanding() == 0;
+        self.note_unheard(is_due, now);
     }
 
     /// Since when a segment that takes numbers has been due, and until when new octets wait for more.
@@ -188,7 +185,16 @@ impl Connection {
     fn update_unheard(&mut self, now: Moment)
         ensures { self.new ≡ record self.old { unheard = unheard_since self.old now } }
     {
-        if !self.awaits_first() {
+        let is_due = self.awaits_first();
+        self.note_unheard(is_due, now);
+    }
+
+    /// The same, where it is known whether one is due.
+    fn note_unheard(&mut self, is_due: bool, now: Moment)
+        requires { is_due ≡ awaits_first self.old }
+        ensures { self.new ≡ record self.old { unheard = unheard_since self.old now } }
+    {
+        if !is_due {
             self.unheard = None;
         } else if self.unheard.is_none() {
             self.unheard = Some(now);

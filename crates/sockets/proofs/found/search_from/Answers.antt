@@ -1,6 +1,6 @@
 -- The first that is what is looked for, among those filed by the keys of that.
 use Rattle.std.proofs.Common.{◌≡◌, ◌∙◌, ◌<◌, ◌≤◌, List, false, ap, refl, sym, nat_lt, length, get_or, arith, subst}
-use Rattle.std.specs.List.{AllByRecursion, AllWithin, position}
+use Rattle.std.specs.List.{AllByRecursion, position}
 use Rattle.std.proofs.lemmas.Bool.Decides.{nat_tests}
 use Rattle.std.proofs.lemmas.List.{get_or_default}
 use Rattle.std.proofs.lemmas.List.Elements.{AllWithin-more, recursion_from_All}

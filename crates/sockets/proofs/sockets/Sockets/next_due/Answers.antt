@@ -1,5 +1,5 @@
 -- Where no entry is noted as busy, the entry at hand is asked alone.
-use Rattle.std.proofs.Common.{◌≡◌, Bool, List, true, not, get_or, Some, None, option_map, slice_get, sym, ◌∙◌, ap, arith}
+use Rattle.std.proofs.Common.{◌≡◌, List, get_or, option_map, slice_get, sym, ◌∙◌, ap}
 use Rattle.marks.specs.First.{first_from}
 use Rattle.sockets.specs.declared.emission.NextDue.{NextDue}
 use Rattle.sockets.specs.declared.entry.Entry.{Entry}
