@@ -80,11 +80,12 @@ impl Host {
         pool: Result<Pool, PoolFault>,
     ) -> Result<Host, Refusal>
         requires { IfOk interface (λ frames. IfOk sockets (λ table. IfOk pool (λ places. HasRunOnOctets (record { interface = frames; sockets = table; pool = places; lately = [] })))) }
-        ensures { MatchResult interface
+        ensures layers { MatchResult interface
             (λ frames. MatchResult sockets
             (λ table. MatchResult pool (λ places. result ≡ Ok (record { interface = frames; sockets = table; pool = places; lately = [] })) (λ refused. result ≡ Err Refusal.ENOMEM))
             (λ refused. result ≡ Err Refusal.ENOMEM))
             (λ refused. result ≡ Err Refusal.ENOMEM) }
+        ensures refusal { IfErr result (λ refusal. refusal ≡ Refusal.ENOMEM) }
     {
         match (interface, sockets, pool) {
             (Ok(interface), Ok(sockets), Ok(pool)) => {
