@@ -126,7 +126,7 @@ pub extern "C" fn host_recv(alloc: Global, handle: &mut Handle, id: u64, buffer:
         return refused(Refusal::EBADF);
     };
     let answer = kept.host.recv(SocketId(id), buffer);
-    handle.put(alloc, kept);
+    handle.put(kept);
     received(answer)
 }
 

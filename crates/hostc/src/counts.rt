@@ -29,7 +29,7 @@ pub extern "C" fn host_counters_into(alloc: Global, handle: &mut Handle, numbers
         return refused(Refusal::EBADF);
     };
     write_over(numbers, &counter_numbers(&kept.counters));
-    handle.put(alloc, kept);
+    handle.put(kept);
     0
 }
 

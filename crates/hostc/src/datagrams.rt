@@ -53,7 +53,7 @@ pub extern "C" fn host_recvfrom(
         return refused(Refusal::EBADF);
     };
     let answer = kept.host.recvfrom(SocketId(id), buffer);
-    handle.put(alloc, kept);
+    handle.put(kept);
     match answer {
         Ok((count, end)) => {
             *from = end_of(end);

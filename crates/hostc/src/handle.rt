@@ -87,7 +87,7 @@ impl Handle {
             return Err(Refusal::EBADF);
         };
         let answer = call(&mut kept.host);
-        self.put(alloc, kept);
+        self.put(kept);
         answer
     }
 
@@ -99,18 +99,16 @@ impl Handle {
         if let Some(kept) = self.take(alloc) {
             kept.host.sound();
             every_run_of_a_host();
-            self.put(alloc, kept);
+            self.put(kept);
         }
     }
 
-    /// Puts a host in, with its counters. One that it held is gone.
-    pub(crate) fn put(&mut self, alloc: Global, kept: Box<Counted>)
+    /// Puts a host in, with its counters, where it holds none.
+    pub(crate) fn put(&mut self, kept: Box<Counted>)
+        requires { self.old.host ≡ None }
         ensures host { self.new.host ≡ Some kept.value.host }
         ensures counters { self.new.counters ≡ Some kept.value.counters }
     {
-        let before = replace(self, Handle::of(Parts::of(kept)));
-        if let Some(parts) = before.open(alloc) {
-            drop(parts.into_box());
-        }
+        let Handle { at: _ } = replace(self, Handle::of(Parts::of(kept)));
     }
 }

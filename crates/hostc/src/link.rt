@@ -29,7 +29,7 @@ pub extern "C" fn host_tick(alloc: Global, handle: &mut Handle, now: u64)
         return;
     };
     kept.tick(Moment(now));
-    handle.put(alloc, kept);
+    handle.put(kept);
 }
 
 /// `Host::next_deadline`. Answers 1, and `moment` is that moment then; 0 where there is none. EBADF where the handle holds no host.
@@ -68,7 +68,7 @@ pub extern "C" fn host_deliver(
         return NO_HOST;
     };
     let verdict = kept.deliver(Moment(now), Seq(isn), frame);
-    handle.put(alloc, kept);
+    handle.put(kept);
     taken(verdict)
 }
 
@@ -90,7 +90,7 @@ pub extern "C" fn host_next_frame(
         return refused(Refusal::EBADF);
     };
     let answer = kept.next_frame(Moment(now), out);
-    handle.put(alloc, kept);
+    handle.put(kept);
     match answer {
         Some(len) => told(len as u64),
         None => 0,

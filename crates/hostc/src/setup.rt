@@ -86,12 +86,12 @@ fn set_up(alloc: Global, handle: &mut Handle, config: Config, routes: &[HostRout
     ensures counters { CountsAnew result handle.old.counters handle.new.counters }
 {
     if let Some(kept) = handle.take(alloc) {
-        handle.put(alloc, kept);
+        handle.put(kept);
         return refused(Refusal::EINVAL);
     }
     match made(alloc, config, routes) {
         Ok(kept) => {
-            handle.put(alloc, kept);
+            handle.put(kept);
             0
         }
         Err(refusal) => refused(refusal),
