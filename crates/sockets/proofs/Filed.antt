@@ -169,13 +169,6 @@ parted_by_place x l sorted i j d low within first = front (get_or l i d) (get_or
     front : (a b : Filed) → is_before b a ≡ false → is_before b x ≡ true → is_before a x ≡ true
     front a b behind below = grind (arith, nat_tests)
 
--- and what has a lower key
-pub parted_by_key : (key : ℕ) (l : List Filed) → AreSorted l → IsPartitionedBy (λ y. nat_lt y.key key) l
-parted_by_key key l sorted i j d low within first = front (get_or l i d) (get_or l j d) (sorted_from l sorted i j d low within) first
-  where
-    front : (a b : Filed) → is_before b a ≡ false → nat_lt b.key key ≡ true → nat_lt a.key key ≡ true
-    front a b behind below = grind (arith, nat_tests)
-
 itself : (x : Filed) → is_before x x ≡ true → ⊥
 itself x first = grind (arith, nat_tests)
 

@@ -11,12 +11,12 @@ pub mod Foreseen
 pub mod GivenWay
 pub mod GivenRoom
 pub mod Emitting
+mod SentAt
 pub mod Queues
 pub mod Traffic
 pub mod Drawn
 pub mod Told
 pub mod Closed
-pub mod Retained
 pub mod Followed
 pub mod Steps
 pub mod Caused
@@ -52,7 +52,7 @@ pub mod Sought
 mod Either
 pub mod FirstFrom
 mod AtHand
-mod BeginsAt
+mod Belongs
 pub mod Visits
 mod Outlooks
 mod Quiet

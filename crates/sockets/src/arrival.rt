@@ -120,7 +120,7 @@ impl Sockets {
         self.last_id += 1;
         let id = SocketId(self.last_id);
         let entry = Entry::passive(id, listener, connection);
-        index::refile(&mut self.ends, None, &entry);
+        index::refile(&mut self.ends, self.filed, None, &entry);
         self.outlook.push(&entry);
         self.entries.push(entry);
         Taken::Done

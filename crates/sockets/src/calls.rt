@@ -130,7 +130,7 @@ impl Sockets {
         let entry = &mut self.entries[place];
         let before = index::filing(entry);
         entry.role.bind(Endpoint { addr, port });
-        index::refile(&mut self.ends, before, entry);
+        index::refile(&mut self.ends, self.filed, before, entry);
         Ok(())
     }
 
@@ -308,7 +308,7 @@ impl Sockets {
         let entry = &mut self.entries[place];
         let before = index::filing(entry);
         entry.role.connect(now, local, peer, isn);
-        index::refile(&mut self.ends, before, entry);
+        index::refile(&mut self.ends, self.filed, before, entry);
         Ok(())
     }
 

@@ -61,7 +61,7 @@ impl Sockets {
         if !entry.role.send_to(now, local, peer, identification, octets) {
             return Err(Refusal::EAGAIN);
         }
-        index::refile(&mut self.ends, before, entry);
+        index::refile(&mut self.ends, self.filed, before, entry);
         self.last_port = last_port;
         self.identification = identification.wrapping_add(1);
         Ok(octets.len())

@@ -1,7 +1,7 @@
 //! What the table has at a local port or between two ends, found by the index: nothing here walks over all entries.
 
-ghost use Rattle.std.specs.Prelude.{◌≡◌, ◌<◌, ◌≤◌, ◌-◌, Bool, true, false, nat_lt, length, Some, IfSome, is_some, position};
-ghost use Rattle.std.specs.List.{list_any, slice_index_or};
+ghost use Rattle.std.specs.Prelude.{◌≡◌, ◌<◌, ◌≤◌, Bool, true, false, nat_lt, length, Some, IfSome, is_some, position};
+ghost use Rattle.std.specs.List.{list_any};
 ghost use Rattle.std.specs.List.Sorted.{IsPartitionPoint};
 ghost use Rattle.sockets.specs.Entries.{is_between, is_of_pair, has_port, is_bound_at, is_datagrams_at, is_listening_at};
 ghost use Rattle.sockets.specs.Ids.{AreInOrder};
@@ -9,7 +9,7 @@ ghost use Rattle.sockets.specs.Index.{key_of, index_of, is_sought_in, is_sought_
 ghost use Rattle.sockets.specs.declared.index.Filed.{Filed};
 
 use crate::entry::{Entry, SocketId};
-use crate::index::{Filed, PEERS, key_at, key_of};
+use crate::index::{Filed, PEERS, key_at, key_of, place_for};
 use crate::outlook::first_of;
 use crate::role::Role;
 use crate::sockets::Sockets;
@@ -193,7 +193,7 @@ pub(crate) fn is_pair_held(
     requires index { index.now ≡ index_of entries.now }
     ensures { result ≡ list_any (is_between local peer) entries.now }
 {
-    search(entries, index, None, Sought::Connection { local, peer }).is_some()
+    search(entries, index, Sought::Connection { local, peer }).is_some()
 }
 
 /// Whether a UDP socket is bound to this port.
@@ -202,7 +202,7 @@ pub(crate) fn is_datagram_port_taken(entries: &[Entry], index: &[Filed], port: u
     requires index { index.now ≡ index_of entries.now }
     ensures { result ≡ list_any (is_datagrams_at port) entries.now }
 {
-    search(entries, index, None, Sought::Datagrams { port }).is_some()
+    search(entries, index, Sought::Datagrams { port }).is_some()
 }
 
 /// Whether an entry has this local port over TCP.
@@ -211,7 +211,7 @@ pub(crate) fn is_port_taken(entries: &[Entry], index: &[Filed], port: u16) -> bo
     requires index { index.now ≡ index_of entries.now }
     ensures { result ≡ list_any (has_port port) entries.now }
 {
-    search(entries, index, None, Sought::Stream { port }).is_some()
+    search(entries, index, Sought::Stream { port }).is_some()
 }
 
 /// Whether a TCP socket has this local port.
@@ -220,12 +220,11 @@ pub(crate) fn is_port_bound(entries: &[Entry], index: &[Filed], port: u16) -> bo
     requires index { index.now ≡ index_of entries.now }
     ensures { result ≡ list_any (is_bound_at port) entries.now }
 {
-    search(entries, index, None, Sought::Socket { port }).is_some()
+    search(entries, index, Sought::Socket { port }).is_some()
 }
 
 /// The place of an entry that is what is looked for, and of the first where that has one key: a binary search finds what is filed first from the least key on.
-/// Each entry is looked for in the place `near` first.
-fn search(entries: &[Entry], index: &[Filed], near: Option<usize>, what: Sought) -> Option<usize>
+fn search(entries: &[Entry], index: &[Filed], what: Sought) -> Option<usize>
     requires order { AreInOrder entries.now }
     requires index { index.now ≡ index_of entries.now }
     ensures any { is_some result ≡ list_any (is_sought_in what) entries.now }
@@ -233,32 +232,21 @@ fn search(entries: &[Entry], index: &[Filed], near: Option<usize>, what: Sought)
 {
     let (low, _) = what.keys();
     let first = first_filed(entries, index, 0, low);
-    search_from(entries, index, first, near, what)
+    search_from(entries, index, first, None, what)
 }
 
-/// Where what has this key or a greater one is filed first: in the place `near`, where that is so, and else by binary search.
+/// Where what has this key or a greater one is filed first, which is the place of the id 0 at this key: `near` is looked at first.
 fn first_filed(entries: &[Entry], index: &[Filed], near: usize, key: u64) -> usize
     requires index { index.now ≡ index_of entries.now }
     ensures first { IsPartitionPoint (λ filed. nat_lt filed.key key ≡ true) (λ filed. nat_lt filed.key key ≡ false) index.now result }
     ensures within { result ≤ length index.now }
 {
-    if begins_at(index, near, key) {
-        return near;
-    }
-    index.partition_point(|filed| filed.key < key)
+    let id = SocketId(0);
+    place_for(index, near, Filed { key, id })
 }
 
-/// Whether what is filed in this place has this key or a greater one, and what is filed before it has not.
-fn begins_at(index: &[Filed], place: usize, key: u64) -> bool
-    ensures within { result ≡ true → place < length index.now }
-    ensures here { result ≡ true → (d : Filed) → nat_lt (slice_index_or index.now place d).key key ≡ false }
-    ensures before { result ≡ true → (d : Filed) → 0 < place → nat_lt (slice_index_or index.now (place - 1) d).key key ≡ true }
-{
-    place < index.len() && key <= index[place].key && (place == 0 || index[place - 1].key < key)
-}
-
-/// The same as `search`, where `first` is the place of what is filed first from the least key on: from there up to the greatest key each entry is tested. At
-/// one key they are filed in order of id, as they stand in the table.
+/// The same as `search`, where `first` is the place of what is filed first from the least key on: from there up to the greatest key each entry is tested, which
+/// is looked for in the place `near` first. At one key they are filed in order of id, as they stand in the table.
 fn search_from(
     entries: &[Entry],
     index: &[Filed],

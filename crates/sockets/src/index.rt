@@ -1,6 +1,8 @@
 //! The entries of the table by their local port and their peer, so that what arrives finds its own by binary search.
 
-ghost use Rattle.std.specs.Prelude.{◌≡◌, ◌<◌, List, length};
+ghost use Rattle.std.specs.Prelude.{◌≡◌, ◌<◌, ◌≤◌, ◌-◌, List, length, true, false};
+ghost use Rattle.std.specs.List.{slice_index_or};
+ghost use Rattle.std.specs.List.Sorted.{IsPartitionPoint};
 ghost use Rattle.sockets.specs.Index.{key_of, filed, is_before, AreSorted, inserted, with_filed, no_peer};
 ghost use Rattle.sockets.specs.declared.index.Filed.{Filed};
 
@@ -80,8 +82,8 @@ pub(crate) fn filing(entry: &Entry) -> Option<Filed>
     Some(Filed { key, id: entry.id })
 }
 
-/// Files the entry as what it is now, where it was filed as this.
-pub(crate) fn refile(index: &mut FixedVec<Filed>, before: Option<Filed>, entry: &Entry)
+/// Files the entry as what it is now, where it was filed as this. Its new place is looked for at `near` first.
+pub(crate) fn refile(index: &mut FixedVec<Filed>, near: usize, before: Option<Filed>, entry: &Entry)
     requires { (rest : List Filed) × AreSorted rest × (index.old.items ≡ with_filed before rest) × (length rest < index.old.most) }
     ensures most { index.new.most ≡ index.old.most }
     ensures items { (rest : List Filed) → AreSorted rest → index.old.items ≡ with_filed before rest → index.new.items ≡ with_filed (filed entry.now) rest }
@@ -91,11 +93,11 @@ pub(crate) fn refile(index: &mut FixedVec<Filed>, before: Option<Filed>, entry: 
         return;
     }
     unfile(index, before);
-    file(index, after);
+    file(index, near, after);
 }
 
-/// Files a further entry.
-pub(crate) fn file(index: &mut FixedVec<Filed>, filed: Option<Filed>)
+/// Files a further entry, whose place is looked for at `near` first.
+fn file(index: &mut FixedVec<Filed>, near: usize, filed: Option<Filed>)
     requires sorted { AreSorted index.old.items }
     requires room { length index.old.items < index.old.most }
     ensures most { index.new.most ≡ index.old.most }
@@ -104,7 +106,7 @@ pub(crate) fn file(index: &mut FixedVec<Filed>, filed: Option<Filed>)
     let Some(filed) = filed else {
         return;
     };
-    let place = index.partition_point(|other| other.is_before(filed));
+    let place = place_for(index, near, filed);
     index.insert(place, filed);
 }
 
@@ -119,4 +121,29 @@ pub(crate) fn unfile(index: &mut FixedVec<Filed>, filed: Option<Filed>)
     };
     let place = index.partition_point(|other| other.is_before(filed));
     index.remove(place);
+}
+
+/// Where this one is filed, or would be, behind all that stand before it: in the place `near`, where that is so, and else by binary search.
+#[inline(always)]
+pub(crate) fn place_for(index: &[Filed], near: usize, filed: Filed) -> usize
+    requires { AreSorted index.now }
+    ensures place { IsPartitionPoint (λ other. is_before other filed ≡ true) (λ other. is_before other filed ≡ false) index.now result }
+    ensures within { result ≤ length index.now }
+{
+    if belongs_at(index, near, filed) {
+        return near;
+    }
+    index.partition_point(|other| other.is_before(filed))
+}
+
+/// Whether what is filed in front of this place stands before this one, and what is filed in it does not.
+#[inline(always)]
+fn belongs_at(index: &[Filed], place: usize, filed: Filed) -> bool
+    ensures within { result ≡ true → place ≤ length index.now }
+    ensures before { result ≡ true → (d : Filed) → 0 < place → is_before (slice_index_or index.now (place - 1) d) filed ≡ true }
+    ensures here { result ≡ true → (d : Filed) → place < length index.now → is_before (slice_index_or index.now place d) filed ≡ false }
+{
+    place <= index.len()
+        && (place == 0 || index[place - 1].is_before(filed))
+        && (place == index.len() || !index[place].is_before(filed))
 }

@@ -1,19 +1,12 @@
--- In front of one that has a lower key all have one, and behind one that has not none has.
-use Rattle.std.proofs.Common.{rules, nat_lt, subst, sym}
-use Rattle.std.proofs.lemmas.List.Sorted.{IsPartitionPoint-from_clause}
-use Rattle.sockets.specs.declared.index.Filed.{Filed}
+-- In front of the id 0 at a key all have a lower one, and behind it none has.
+use Rattle.std.proofs.Common.{subst, sym}
 use Rattle.sockets.specs.Index.{AreSorted}
-use Rattle.sockets.proofs.Filed.{sorted_index, parted_by_key}
-use Rattle.sockets.proofs.BeginsAt.{begins}
+use Rattle.sockets.proofs.Filed.{sorted_index}
+use Rattle.sockets.proofs.Belongs.{parted_by_least}
 use Rattle.sockets.proofs.found.first_filed.Goals as goal
 
-pub returns-then-begins_at-clause-first : goal.returns-then-begins_at-clause-first
-returns-then-begins_at-clause-first c =
-    let sorted : AreSorted c.args.index.now = subst AreSorted (sym c.requires.index) (sorted_index c.args.entries.now) in
-    begins c.args.key c.args.index.now sorted c.args.near (c.begins_at.ensures.within c.if-begins_at.true) (c.begins_at.ensures.here c.if-begins_at.true) (c.begins_at.ensures.before c.if-begins_at.true)
+pub place_for-requires : goal.place_for-requires
+place_for-requires c = subst AreSorted (sym c.requires.index) (sorted_index c.args.entries.now)
 
 pub returns-clause-first : goal.returns-clause-first
-returns-clause-first c =
-    let sorted : AreSorted c.args.index.now = subst AreSorted (sym c.requires.index) (sorted_index c.args.entries.now) in
-    IsPartitionPoint-from_clause (λ (y : Filed). nat_lt y.key c.args.key) c.args.index.now c.partition_point.result c.partition_point.ensures.partitioned
-    (parted_by_key c.args.key c.args.index.now sorted) (λ a r f' called. search rules)
+returns-clause-first c = parted_by_least c.args.key c.args.index.now c.place_for.result c.place_for.ensures.place

@@ -1,16 +1,10 @@
 -- The write at the place is the change of the first entry that sends, or it is taken out.
-use Rattle.std.proofs.Common.{◌≡◌, ◌∙◌, List, get_or, Bool, refl, ap, sym}
-use Rattle.tcp_state.specs.declared.connection.Fate.{Fate}
+use Rattle.std.proofs.Common.{◌∙◌, get_or, refl, ap}
 use Rattle.clock.specs.declared.moment.Moment.{Moment}
-use Rattle.sockets.specs.declared.emission.Outgoing.{Outgoing}
 use Rattle.sockets.specs.declared.emission.Outgoing.TheVariants.{Segment}
-use Rattle.sockets.specs.declared.entry.Entry.{Entry}
-use Rattle.sockets.specs.Entries.{sends, due_emitted, due_front, role_after_emission, emission_fate_of, entries_after_step}
-use Rattle.sockets.specs.SocketsView.{SocketsView, later_moment}
+use Rattle.sockets.specs.Entries.{role_after_emission}
 use Rattle.sockets.proofs.Roomy.{places_stay}
-use Rattle.sockets.proofs.Arrived.{entry_settled}
-use Rattle.sockets.proofs.Emitting.{next-at, segment_sent-found, emitted-found, emitted_front-found}
-use Rattle.sockets.proofs.Written.{role_changed}
+use Rattle.sockets.proofs.SentAt.{told_at, front_at, table_at}
 use Rattle.sockets.proofs.Ascending.{ascends_written, ascends_settled}
 use Rattle.sockets.proofs.Filed.{index_written}
 use Rattle.sockets.proofs.KeptFiled.{filed_role, filed-emission}
@@ -19,52 +13,17 @@ use Rattle.sockets.proofs.sockets.Sockets.emit_segment_at.Goals as goal
 
 pub returns-clause-what : goal.returns-clause-what
 returns-clause-what c = λ goes next.
-    let h : SocketsView = c.args.self.now in
-    let entries = ap (λ (h : SocketsView). h.entries) c.self.view_is in
-    let x : Entry = c.index-deref_mut-place.result in
-    let at : x ≡ get_or h.entries c.args.place x =
-    c.index-deref_mut-place.is ∙ ap (λ (es : List Entry). get_or es c.args.place x) (c.deref_mut.ensures.value ∙ entries)
-    in
-    let it = next-at h goes c.args.place (Segment c.args.due) x next at in
-    c.emit_segment-len.ensures.what
-    ∙ ap (λ (e : Entry). due_emitted (Segment c.args.due) e.role) (sym c.index-deref_mut-place.is)
-    ∙ ap (λ (what : Outgoing). due_emitted what x.role) (sym it.same)
-    ∙ sym (emitted-found h goes x it.due it.found it.is)
+    told_at _ c.args.self.now goes c.args.place (Segment c.args.due) c.deref_mut.result.now c.index-deref_mut-place.result c.self.view_is c.deref_mut.ensures.value c.index-deref_mut-place.is next _ c.emit_segment-len.ensures.what
 
 pub returns-clause-frame : goal.returns-clause-frame
 returns-clause-frame c = λ goes next.
-    let h : SocketsView = c.args.self.now in
-    let entries = ap (λ (h : SocketsView). h.entries) c.self.view_is in
-    let x : Entry = c.index-deref_mut-place.result in
-    let at : x ≡ get_or h.entries c.args.place x =
-    c.index-deref_mut-place.is ∙ ap (λ (es : List Entry). get_or es c.args.place x) (c.deref_mut.ensures.value ∙ entries)
-    in
-    let it = next-at h goes c.args.place (Segment c.args.due) x next at in
-    c.emit_segment-len.ensures.frame c.self.inside.addr
-    ∙ ap (λ (e : Entry). due_front c.self.inside.addr (Segment c.args.due) e.role c.args.out.now) (sym c.index-deref_mut-place.is)
-    ∙ ap (λ (g : SocketsView). due_front g.addr (Segment c.args.due) x.role c.args.out.now) c.self.view_is
-    ∙ ap (λ (what : Outgoing). due_front h.addr what x.role c.args.out.now) (sym it.same)
-    ∙ sym (emitted_front-found h goes c.args.out.now x it.due it.found it.is)
+    front_at _ c.args.self.now goes c.args.place (Segment c.args.due) c.deref_mut.result.now c.index-deref_mut-place.result c.self.view_is c.deref_mut.ensures.value c.index-deref_mut-place.is next _ _ (c.emit_segment-len.ensures.frame c.self.inside.addr)
 
 pub returns-clause-after : goal.returns-clause-after
 returns-clause-after c = λ goes next.
-    let h : SocketsView = c.args.self.now in
-    let now : Moment = later_moment h c.args.now in
-    let test : Entry → Bool = sends goes in
-    let entries = ap (λ (h : SocketsView). h.entries) c.self.view_is in
-    let x : Entry = c.index-deref_mut-place.result in
-    let at : x ≡ get_or h.entries c.args.place x =
-    c.index-deref_mut-place.is ∙ ap (λ (es : List Entry). get_or es c.args.place x) (c.deref_mut.ensures.value ∙ entries)
-    in
-    let it = next-at h goes c.args.place (Segment c.args.due) x next at in
-    let what : Outgoing = it.due.1 in
-    let there : Entry = get_or c.deref_mut.result.now c.args.place x in
-    let sent : c.emit_segment-len.new.self ≡ role_after_emission now what there.role =
-    c.emit_segment-len.ensures.after ∙ ap (λ (m : Moment). role_after_emission m (Segment c.args.due) there.role) c.later_moment-now.ensures ∙ ap (λ (o : Outgoing). role_after_emission now o there.role) (sym it.same)
-    in
-    entry_settled _ _ test (role_after_emission now what) _ _ _ _ _ c.emission_fate_of-fate.result c.self.view_is next.0 c.deref_mut.ensures.value c.index-deref_mut-place.is (role_changed (role_after_emission now what) there _ sent) c.settle.ensures.entries
-    ∙ ap (λ (r : Fate). let w : SocketsView = record h { entries = entries_after_step r test (role_after_emission now what) h.entries } in w) (c.emission_fate_of-fate.ensures ∙ ap emission_fate_of sent ∙ ap (λ (e : Entry). emission_fate_of (role_after_emission now what e.role)) (sym c.index-deref_mut-place.is))
-    ∙ sym (segment_sent-found h goes c.args.now x it.due it.found it.is)
+    table_at _ c.args.self.now goes c.args.place (Segment c.args.due) c.deref_mut.result.now c.index-deref_mut-place.result c.self.view_is c.deref_mut.ensures.value c.index-deref_mut-place.is next c.args.now _ c.emission_fate_of-fate.result _
+    (c.emit_segment-len.ensures.after ∙ ap (λ (m : Moment). role_after_emission m (Segment c.args.due) (get_or c.deref_mut.result.now c.args.place c.index-deref_mut-place.result).role) c.later_moment-now.ensures)
+    c.emission_fate_of-fate.ensures c.settle.ensures.entries
 
 -- the entry keeps its id, or is taken out
 pub invariant_of-self : goal.invariant_of-self
