@@ -534,30 +534,48 @@ pub(super) const LISTENING: &[Step] = &[
 
 /// Plays a scenario with two hosts of its own.
 fn plays(rt: &impl Abort, alloc: Global, scenario: &Scenario) {
-    let Hosts {
-        ways,
-        scales,
-        minshall,
-        guards,
-    } = scenario.hosts;
-    let a = routed(rt, Side::A, ways.0)
-        .with_scale(scales.0)
-        .with_minshall(minshall)
-        .with_guards(guards);
-    let b = routed(rt, Side::B, ways.1)
-        .with_scale(scales.1)
-        .with_minshall(minshall)
-        .with_guards(guards);
-    let (mut a, mut b) = (Station::new(rt, alloc, a), Station::new(rt, alloc, b));
+    let Hosts { ways, scales, .. } = scenario.hosts;
+    let mut a = set_up(rt, alloc, routed(rt, Side::A, ways.0), scales.0, scenario);
+    let mut b = set_up(rt, alloc, routed(rt, Side::B, ways.1), scales.1, scenario);
     for (part, steps) in scenario.parts.iter().enumerate() {
-        for (step, (side, act)) in steps.iter().enumerate() {
-            let is_answered = match side {
-                Side::A => is_answered(&mut a, &mut b, *act),
-                Side::B => is_answered(&mut b, &mut a, *act),
-            };
-            assert!(rt; is_answered, "{}: part {part}, step {step}", scenario.name);
+        if let Some(step) = first_unanswered(&mut a, &mut b, steps) {
+            panic!(rt; "{}: part {part}, step {step}", scenario.name);
         }
     }
+}
+
+/// One of the hosts of a scenario, with these ways, that uses the window scale option or doesn't.
+fn set_up(
+    rt: &impl Abort,
+    alloc: Global,
+    config: Config,
+    scales: bool,
+    scenario: &Scenario,
+) -> Station {
+    let Hosts {
+        minshall,
+        guards,
+        ..
+    } = scenario.hosts;
+    let config = config
+        .with_scale(scales)
+        .with_minshall(minshall)
+        .with_guards(guards);
+    Station::new(rt, alloc, config)
+}
+
+/// Does the steps in turn, up to the first that isn't answered as it should be: which that is.
+fn first_unanswered(a: &mut Station, b: &mut Station, steps: &[Step]) -> Option<usize> {
+    for (step, (side, act)) in steps.iter().enumerate() {
+        let is_answered = match side {
+            Side::A => is_answered(a, b, *act),
+            Side::B => is_answered(b, a, *act),
+        };
+        if !is_answered {
+            return Some(step);
+        }
+    }
+    None
 }
 
 /// Plays scenarios, each with two hosts of its own.
