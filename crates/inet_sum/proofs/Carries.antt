@@ -26,35 +26,30 @@ carried rest sum out left right into is =
     let all : rest + sum + 2 ^ 64 * out ≡ rest + (left + right + into) = omega (arith, is) in
     ap ones_complement apart ∙ sym (wraps (rest + sum) out) ∙ ap ones_complement all
 
--- four words that are added to four others
-pub four_carried : (a b c d e f g h w x y z carries c0 c1 c2 c3 c4 before more : ℕ) → e + 2 ^ 64 * c1 ≡ a + w + c0 → f + 2 ^ 64 * c2 ≡ b + x + c1 → g + 2 ^ 64 * c3 ≡ c + y + c2
-    → h + 2 ^ 64 * c4 ≡ d + z + c3 → w + x + y + z ≡ more → ones_complement (a + b + c + d + carries + c0) ≡ ones_complement before
-    → ones_complement (e + f + g + h + carries + c4) ≡ ones_complement (before + more)
-four_carried a b c d e f g h w x y z carries c0 c1 c2 c3 c4 before more one two three four is_more is =
-    let s0 : e + f + g + h + carries + c4 ≡ e + f + g + carries + (h + c4) = omega arith in
-    let s1 : e + f + g + carries + (d + z + c3) ≡ e + f + d + z + carries + (g + c3) = omega arith in
-    let s2 : e + f + d + z + carries + (c + y + c2) ≡ e + c + y + d + z + carries + (f + c2) = omega arith in
-    let s3 : e + c + y + d + z + carries + (b + x + c1) ≡ b + x + c + y + d + z + carries + (e + c1) = omega arith in
-    let s4 : b + x + c + y + d + z + carries + (a + w + c0) ≡ a + b + c + d + carries + c0 + more = omega (arith, is_more) in
-    ap ones_complement s0 ∙ carried (e + f + g + carries) h c4 d z c3 four
-    ∙ ap ones_complement s1 ∙ carried (e + f + d + z + carries) g c3 c y c2 three
-    ∙ ap ones_complement s2 ∙ carried (e + c + y + d + z + carries) f c2 b x c1 two
-    ∙ ap ones_complement s3 ∙ carried (b + x + c + y + d + z + carries) e c1 a w c0 one
-    ∙ ap ones_complement s4 ∙ ones_complement-add (a + b + c + d + carries + c0) before more is
+-- four words that are added to a sum, one after the other
+pub four_carried : (a e f g h w x y z others carries c0 c1 c2 c3 c4 before more : ℕ) → e + 2 ^ 64 * c1 ≡ a + w + c0 → f + 2 ^ 64 * c2 ≡ e + x + c1 → g + 2 ^ 64 * c3 ≡ f + y + c2
+    → h + 2 ^ 64 * c4 ≡ g + z + c3 → w + x + y + z ≡ more → ones_complement (a + others + carries + c0) ≡ ones_complement before
+    → ones_complement (h + others + carries + c4) ≡ ones_complement (before + more)
+four_carried a e f g h w x y z others carries c0 c1 c2 c3 c4 before more one two three four is_more is =
+    let s0 : h + others + carries + c4 ≡ others + carries + (h + c4) = omega arith in
+    let s1 : others + carries + (g + z + c3) ≡ others + carries + z + (g + c3) = omega arith in
+    let s2 : others + carries + z + (f + y + c2) ≡ others + carries + z + y + (f + c2) = omega arith in
+    let s3 : others + carries + z + y + (e + x + c1) ≡ others + carries + z + y + x + (e + c1) = omega arith in
+    let s4 : others + carries + z + y + x + (a + w + c0) ≡ a + others + carries + c0 + more = omega (arith, is_more) in
+    ap ones_complement s0 ∙ carried (others + carries) h c4 g z c3 four
+    ∙ ap ones_complement s1 ∙ carried (others + carries + z) g c3 f y c2 three
+    ∙ ap ones_complement s2 ∙ carried (others + carries + z + y) f c2 e x c1 two
+    ∙ ap ones_complement s3 ∙ carried (others + carries + z + y + x) e c1 a w c0 one
+    ∙ ap ones_complement s4 ∙ ones_complement-add (a + others + carries + c0) before more is
 
--- four words that are added to one another, whose sum is cut into halves
-pub four_joined : (a b c d e f g carries c1 c2 c3 : ℕ) → e + 2 ^ 64 * c1 ≡ a + b + 0 → f + 2 ^ 64 * c2 ≡ e + c + c1 → g + 2 ^ 64 * c3 ≡ f + d + c2
-    → ones_complement (g / 2 ^ 32 + g % 2 ^ 32 + carries + c3) ≡ ones_complement (a + b + c + d + carries)
-four_joined a b c d e f g carries c1 c2 c3 one two three =
-    let s0 : g / 2 ^ 32 + g % 2 ^ 32 + carries + c3 ≡ g % 2 ^ 32 + carries + c3 + g / 2 ^ 32 = omega arith in
-    let s1 : g % 2 ^ 32 + carries + c3 + 2 ^ 32 * (g / 2 ^ 32) ≡ carries + (g + c3) = omega arith in
-    let s2 : carries + (f + d + c2) ≡ carries + d + (f + c2) = omega arith in
-    let s3 : carries + d + (e + c + c1) ≡ carries + d + c + (e + c1) = omega arith in
-    let s4 : carries + d + c + (a + b + 0) ≡ a + b + c + d + carries = omega arith in
-    ap ones_complement s0 ∙ sym (wraps_half (g % 2 ^ 32 + carries + c3) (g / 2 ^ 32))
-    ∙ ap ones_complement s1 ∙ carried carries g c3 f d c2 three
-    ∙ ap ones_complement s2 ∙ carried (carries + d) f c2 e c c1 two
-    ∙ ap ones_complement s3 ∙ carried (carries + d + c) e c1 a b 0 one ∙ ap ones_complement s4
+-- two sums that are added to one another, whose sum is cut into halves
+pub two_joined : (a b e carries c1 : ℕ) → e + 2 ^ 64 * c1 ≡ a + b + 0 → ones_complement (e / 2 ^ 32 + e % 2 ^ 32 + carries + c1) ≡ ones_complement (a + b + carries)
+two_joined a b e carries c1 one =
+    let s0 : e / 2 ^ 32 + e % 2 ^ 32 + carries + c1 ≡ e % 2 ^ 32 + carries + c1 + e / 2 ^ 32 = omega arith in
+    let s1 : e % 2 ^ 32 + carries + c1 + 2 ^ 32 * (e / 2 ^ 32) ≡ carries + (e + c1) = omega arith in
+    let s2 : carries + (a + b + 0) ≡ a + b + carries = omega arith in
+    ap ones_complement s0 ∙ sym (wraps_half (e % 2 ^ 32 + carries + c1) (e / 2 ^ 32))
+    ∙ ap ones_complement s1 ∙ carried carries e c1 a b 0 one ∙ ap ones_complement s2
 
 -- words of 64 bits come to what their halves do
 pub words_are_wide : (count : ℕ) (xs : List ℕ) → Each1 (λ octet. octet < 256) xs → length xs ≡ 8 * count → ones_complement (words_sum count xs) ≡ ones_complement (wide_sum xs)

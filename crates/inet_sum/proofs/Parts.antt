@@ -53,24 +53,24 @@ further total new start end count next xs ordered within is_start is_end are wit
     rw (words, split) (with_blocks count (take start xs) are)
 
 -- stretch by stretch, and with the blocks behind the last one
-pub next_stretch : (total new : ℕ) (i : ℕ) (xs : List ℕ) → i < length xs / 288 → AreTotals total (36 * i) (take (288 * i) xs)
+pub next_stretch : (total new : ℕ) (i : ℕ) (xs : List ℕ) → i < length xs / 480 → AreTotals total (60 * i) (take (480 * i) xs)
     → ((n : ℕ) (ys : List ℕ) → AreTotals total n ys
-    → AreTotals new (n + length (take (288 * i + 288 - 288 * i) (drop (288 * i) xs)) / 8) (ys ++ take (288 * i + 288 - 288 * i) (drop (288 * i) xs)))
-    → AreTotals new (36 * (i + 1)) (take (288 * (i + 1)) xs)
+    → AreTotals new (n + length (take (480 * i + 480 - 480 * i) (drop (480 * i) xs)) / 8) (ys ++ take (480 * i + 480 - 480 * i) (drop (480 * i) xs)))
+    → AreTotals new (60 * (i + 1)) (take (480 * (i + 1)) xs)
 next_stretch total new i xs below are with_blocks =
-    let places : 288 * (i + 1) ≡ 288 * i + 288 = omega arith in
-    rw places (further total new (288 * i) (288 * i + 288) (36 * i) (36 * (i + 1)) xs (omega arith) (omega (arith, below)) (omega arith) (omega arith) are with_blocks)
+    let places : 480 * (i + 1) ≡ 480 * i + 480 = omega arith in
+    rw places (further total new (480 * i) (480 * i + 480) (60 * i) (60 * (i + 1)) xs (omega arith) (omega (arith, below)) (omega arith) (omega arith) are with_blocks)
 
-last_blocks : (total new : ℕ) (i : ℕ) (xs : List ℕ) → length xs / 288 ≤ i → i ≤ length xs / 288 → AreTotals total (36 * i) (take (288 * i) xs)
-    → (let start = 288 * (length xs / 288) in let end = length xs / 32 * 32 in (n : ℕ) (ys : List ℕ) → AreTotals total n ys
+last_blocks : (total new : ℕ) (i : ℕ) (xs : List ℕ) → length xs / 480 ≤ i → i ≤ length xs / 480 → AreTotals total (60 * i) (take (480 * i) xs)
+    → (let start = 480 * (length xs / 480) in let end = length xs / 32 * 32 in (n : ℕ) (ys : List ℕ) → AreTotals total n ys
     → AreTotals new (n + length (take (end - start) (drop start xs)) / 8) (ys ++ take (end - start) (drop start xs)))
     → AreTotals new (4 * (length xs / 32)) (take (32 * (length xs / 32)) xs)
 last_blocks total new i xs most least are with_blocks =
-    let stretches : ℕ = length xs / 288 in
+    let stretches : ℕ = length xs / 480 in
     let all : i ≡ stretches = omega (arith, most, least) in
     let places : 32 * (length xs / 32) ≡ length xs / 32 * 32 = omega arith in
-    let before : AreTotals total (36 * stretches) (take (288 * stretches) xs) = rw all at are in
-    rw places (further total new (288 * stretches) (length xs / 32 * 32) (36 * stretches) (4 * (length xs / 32)) xs (omega arith) (omega arith) (omega arith) (omega arith) before with_blocks)
+    let before : AreTotals total (60 * stretches) (take (480 * stretches) xs) = rw all at are in
+    rw places (further total new (480 * stretches) (length xs / 32 * 32) (60 * stretches) (4 * (length xs / 32)) xs (omega arith) (omega arith) (omega arith) (omega arith) before with_blocks)
 
 -- the blocks and what is left of a part
 blocks_and_rest : (xs : List ℕ) (i blocks rest : ℕ) → length xs / 32 ≤ i → i ≤ length xs / 32 → ones_complement blocks ≡ ones_complement (wide_sum (take (32 * i) xs))
@@ -87,8 +87,8 @@ blocks_and_rest xs i blocks rest most least is_blocks is_rest =
     ones_complement-add blocks (wide_sum (take (32 * i) xs)) rest is_blocks ∙ ap ones_complement all
 
 pub part_summed : (xs : List ℕ) (total new : ℕ) (i blocks rest : ℕ) → ((k : ℕ) → Fits w8 (get_or xs k 0))
-    → length xs / 288 ≤ i → i ≤ length xs / 288 → AreTotals total (36 * i) (take (288 * i) xs)
-    → (let start = 288 * (length xs / 288) in let end = length xs / 32 * 32 in (n : ℕ) (ys : List ℕ) → AreTotals total n ys
+    → length xs / 480 ≤ i → i ≤ length xs / 480 → AreTotals total (60 * i) (take (480 * i) xs)
+    → (let start = 480 * (length xs / 480) in let end = length xs / 32 * 32 in (n : ℕ) (ys : List ℕ) → AreTotals total n ys
     → AreTotals new (n + length (take (end - start) (drop start xs)) / 8) (ys ++ take (end - start) (drop start xs)))
     → ((count : ℕ) (octets : List ℕ) → AreTotals new count octets → All (λ octet. octet < 256) octets → ones_complement blocks ≡ ones_complement (wide_sum octets))
     → rest ≡ wide_sum (take (length xs - length xs / 32 * 32) (drop (length xs / 32 * 32) xs)) → ones_complement (blocks + rest) ≡ ones_complement (wide_sum xs)

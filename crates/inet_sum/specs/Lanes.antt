@@ -24,7 +24,7 @@ uppers_sum (suc count) octets = number_l 256 (take 4 (drop 4 octets)) + uppers_s
 
 -- what totals come to
 abbrev pub total_of : Totals → ℕ
-total_of totals = totals.first + totals.second + totals.third + totals.fourth + totals.carries
+total_of totals = totals.next + totals.other + totals.carries
 
 -- a number is in one's complement what these octets come to, which are so many words
 pub record AreTotals (total count : ℕ) (octets : List ℕ) : Type 0 where

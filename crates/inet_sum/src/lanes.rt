@@ -12,9 +12,12 @@ use std::simd::prelude::*;
 /// The octets that are summed at a time.
 pub(crate) const BLOCK: usize = 32;
 
-/// The octets of a stretch, whose nine blocks are summed with no look at how many are left: the 1,460 of a full segment are five stretches,
+/// The octets of a stretch, whose fifteen blocks are summed with no look at how many are left: the 1,460 of a full segment are three stretches,
 /// and 20 behind them.
-const STRETCH: usize = 288;
+const STRETCH: usize = 480;
+
+/// The octets of a stretch that join the sum whose turn it is, eight blocks; those behind them join the other.
+const FRONT: usize = 256;
 
 /// The octets of most headers of a datagram, and of most segments without octets, whose words are added with no look at how many are left.
 const HEADER: usize = 20;
@@ -22,14 +25,12 @@ const HEADER: usize = 20;
 /// Where the upper half of a word stands in it.
 const UPPER: u64 = 1 << 32;
 
-/// What 64-bit words sum to so far, each in one of four lanes, and the carries out of the last lane. A carry out of another goes into the
-/// next, and one out of a block's last lane into the first of the next block: so a processor takes one instruction for a word.
+/// What 64-bit words sum to so far, and how many carries went into neither sum. The carry out of a word goes into the next one, so a processor takes one
+/// instruction for a word; and blocks join two sums in turn, so it need not wait for the carries of one to go on with the other.
 #[derive(Clone, Copy)]
 struct Totals {
-    first: u64,
-    second: u64,
-    third: u64,
-    fourth: u64,
+    next: u64,
+    other: u64,
     carries: u64,
 }
 
@@ -40,36 +41,27 @@ impl Totals {
         ensures carries { result.carries ≡ 0 }
     {
         Totals {
-            first: 0,
-            second: 0,
-            third: 0,
-            fourth: 0,
+            next: 0,
+            other: 0,
             carries: 0,
         }
     }
 
-    /// The totals with these octets behind the others and with a carry, and whether there is one out of the last lane.
+    /// The totals with these octets behind the others and with a carry, and whether there is one out of the last word.
     fn with(self, octets: Simd<u8, 32>, carry: bool) -> (Totals, bool)
         ensures totals { (count : ℕ) (before : List ℕ) → AreTotals (total_of self + from_bool carry) count before
             → AreTotals (total_of result.0 + from_bool result.1) (count + 4) (before ++ octets) }
         ensures carries { result.0.carries ≡ self.carries }
     {
         let [a, b, c, d] = Simd::<u64, 4>::from_le_bytes(octets).to_array();
-        let (first, carry) = add(self.first, a, carry);
-        let (second, carry) = add(self.second, b, carry);
-        let (third, carry) = add(self.third, c, carry);
-        let (fourth, carry) = add(self.fourth, d, carry);
-        let totals = Totals {
-            first,
-            second,
-            third,
-            fourth,
-            carries: self.carries,
-        };
-        (totals, carry)
+        let (first, carry) = add(self.next, a, carry);
+        let (second, carry) = add(first, b, carry);
+        let (third, carry) = add(second, c, carry);
+        let (next, carry) = add(third, d, carry);
+        (Totals { next, ..self }, carry)
     }
 
-    /// The totals with these blocks behind the others.
+    /// The totals with these blocks behind the others. It is the other sum's turn then.
     fn with_all(self, blocks: &[u8]) -> Totals
         requires whole { length blocks.now % BLOCK ≡ 0 }
         requires carries { self.carries < 2 ^ 62 }
@@ -82,8 +74,23 @@ impl Totals {
         for i in 0..blocks.len() / BLOCK {
             (totals, carry) = totals.with(Simd::from_slice(&blocks[BLOCK * i..]), carry);
         }
-        totals.carries += u64::from(carry);
-        totals
+        Totals {
+            next: totals.other,
+            other: totals.next,
+            carries: totals.carries + u64::from(carry),
+        }
+    }
+
+    /// The totals with a stretch behind the others.
+    fn with_stretch(self, stretch: &[u8]) -> Totals
+        requires whole { length stretch.now ≡ STRETCH }
+        requires carries { self.carries + 1 < 2 ^ 62 }
+        ensures totals { (count : ℕ) (before : List ℕ) → AreTotals (total_of self) count before
+            → AreTotals (total_of result) (count + length stretch.now / 8) (before ++ stretch.now) }
+        ensures carries { result.carries ≤ self.carries + 2 }
+    {
+        let (front, back) = stretch.split_at(FRONT);
+        self.with_all(front).with_all(back)
     }
 
     /// What all words come to in one's complement, as a number of little more than 32 bits.
@@ -93,9 +100,7 @@ impl Totals {
             → ones_complement result ≡ ones_complement (wide_sum octets) }
         ensures bound { result ≤ 2 ^ 33 + self.carries }
     {
-        let (sum, carry) = add(self.first, self.second, false);
-        let (sum, carry) = add(sum, self.third, carry);
-        let (sum, carry) = add(sum, self.fourth, carry);
+        let (sum, carry) = add(self.next, self.other, false);
         sum / UPPER + sum % UPPER + self.carries + u64::from(carry)
     }
 }
@@ -124,7 +129,7 @@ pub(crate) fn words_of(part: &[u8]) -> u64
     let stretches = part.len() / STRETCH;
     let mut totals = Totals::none();
     for i in 0..stretches {
-        totals = totals.with_all(&part[STRETCH * i..STRETCH * i + STRETCH]);
+        totals = totals.with_stretch(&part[STRETCH * i..STRETCH * i + STRETCH]);
     }
     let whole = part.len() / BLOCK * BLOCK;
     totals = totals.with_all(&part[STRETCH * stretches..whole]);

@@ -4,6 +4,6 @@ use Rattle.inet_sum.proofs.lanes.words_of.Given as goal
 
 abbrev pub invariant-loop-i : goal.invariant-loop-i
 invariant-loop-i l = record {
-  totals : AreTotals (total_of l.totals) (36 * l.i) (take (288 * l.i) l.part);
-  carries : l.totals.carries ≤ l.i;
+  totals : AreTotals (total_of l.totals) (60 * l.i) (take (480 * l.i) l.part);
+  carries : l.totals.carries ≤ 2 * l.i;
 }

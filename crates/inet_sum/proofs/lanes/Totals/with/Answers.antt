@@ -14,6 +14,6 @@ returns-clause-totals c = λ count before totals.
     let words = words_sum-append count 4 (count + 4) before octets refl totals.whole in
     record {
       whole = omega (arith, totals.whole, length-append before octets, c.fits-octets.0);
-      sum = four_carried _ _ _ _ _ _ _ _ _ _ _ _ _ _ _ _ _ _ (words_sum count before) (words_sum 4 octets) c.add-first.ensures c.add-second.ensures c.add-third.ensures c.add-fourth.ensures four
+      sum = four_carried _ _ _ _ _ _ _ _ _ _ _ _ _ _ _ _ (words_sum count before) (words_sum 4 octets) c.add-first.ensures c.add-second.ensures c.add-third.ensures c.add-next.ensures four
           totals.sum ∙ sym (ap ones_complement words);
     }

@@ -1,4 +1,4 @@
-use Rattle.std.proofs.Common.{◌≡◌, ℕ, ◌+◌, refl, ◌∙◌, arith}
+use Rattle.std.proofs.Common.{◌≡◌, ◌+◌, refl, ◌∙◌, arith}
 use Rattle.std.specs.Int.{from_bool}
 use Rattle.inet_sum.specs.Lanes.{total_of}
 use Rattle.inet_sum.proofs.Parts.{before_blocks, next_block, all_blocks}
@@ -22,8 +22,7 @@ loop-i-preserved c = record {
 
 pub returns-clause-totals : goal.returns-clause-totals
 returns-clause-totals c = λ count before are.
-    let sum : ℕ = c.loop-i.totals.first + c.loop-i.totals.second + c.loop-i.totals.third + c.loop-i.totals.fourth in
-    let same : sum + (c.loop-i.totals.carries + c.from.result) ≡ total_of c.loop-i.totals + from_bool c.loop-i.carry = omega (arith, c.from.ensures) in
+    let same : c.loop-i.totals.other + c.loop-i.totals.next + (c.loop-i.totals.carries + c.from.result) ≡ total_of c.loop-i.totals + from_bool c.loop-i.carry = omega (arith, c.from.ensures) in
     rw same
     (all_blocks (total_of c.loop-i.totals + from_bool c.loop-i.carry) c.loop-i.i count before c.args.blocks.now c.requires.whole c.loop-i-test.false c.loop-i.auto.i-end
     (c.loop-i.invariant.totals count before are))
