@@ -55,9 +55,9 @@ class Incoming:
         return nearest(number, self._first, self.carried.front)
 
     def is_acceptable(self, begin: int, length: int, following: int) -> bool:
-        """Whether a segment is, where RCV.NXT is `following` (RFC 9293 section 3.10.7.4)."""
+        """Whether a segment is, where RCV.NXT is `following` (RFC 9293 section 3.10.7.4): one without length also right before RCV.NXT, and at the edge."""
         if length == 0:
-            return begin == following if following == self.edge else following <= begin < self.edge
+            return following - 1 <= begin <= self.edge
         return following < self.edge and (following <= begin < self.edge or following <= begin + length - 1 < self.edge)
 
     def may_accept(self, begin: int, length: int) -> bool:

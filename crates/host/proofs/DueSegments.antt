@@ -7,17 +7,17 @@ use Rattle.tcp_state.specs.declared.emission.Due.{Due}
 use Rattle.tcp_state.specs.declared.emission.Due.TheVariants.{Rst, Syn, Text, Probe, Ack, KeepAlive}
 use Rattle.tcp_state.specs.View.{View, IsSound}
 use Rattle.tcp_state.specs.Due.{MayGoOut, head_of, octets_of, number_of, flags_of}
-use Rattle.tcp_state.proofs.AckNumbers.{ack_fits}
+use Rattle.tcp_state.proofs.AckNumbers.{bare_fits}
 use Rattle.tcp_state.proofs.Sizes.{emitted_short}
 use Rattle.tcp_state.proofs.Saying.{window_fits}
 use Rattle.sockets.specs.Sound.{IsSoundConnection}
 
 number_fits : (v : View) (due : Due) → IsSound v → number_of v due < 2 ^ 32
-number_fits v Rst sound = sound.nxt
+number_fits v Rst sound = bare_fits v sound
 number_fits v Syn sound = sound.una
 number_fits v (Text stretch) sound = omega arith
 number_fits v Probe sound = sound.una
-number_fits v Ack sound = ack_fits v sound
+number_fits v Ack sound = bare_fits v sound
 number_fits v KeepAlive sound = omega arith
 
 acknowledgement_fits : (b : Bool) (n : ℕ) → n < 2 ^ 32 → (if b then n else 0) < 2 ^ 32

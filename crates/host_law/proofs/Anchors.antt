@@ -108,7 +108,7 @@ module _ (c : ConfigView) (id : SocketId) (step : Step) (earlier : List Step) wh
 
   left : (v w : View) → connection_of id step.before ≡ Some v → connection_of id step.after ≡ Some w → Back v w → Leaves v w → IsOfConnection c id step → IsAnchored c id step.before earlier → Keeps (Some w)
   left v w before after back leaves is was =
-      this_one w (still_waits v w before after back was) (λ sound lives heard. let k = leaves lives heard in moved_on v w before after k.1 k.2 (is.sound v before) sound was)
+      this_one w (still_waits v w before after back was) (λ sound lives heard. let k = leaves lives heard in moved_on v w before after k.past_syn_sent k.lives (is.sound v before) sound was)
 
   heard_first : (v w : View) (s : Segment) → connection_of id step.before ≡ Some v → connection_of id step.after ≡ Some w → IsHeard c id v s step → Syns v s → w.receiving.rnext ≡ (s.number + 1) % 2 ^ 32
       → IsAnchored c id step.before earlier → CountsFromSyn c id steps w
@@ -136,7 +136,7 @@ module _ (c : ConfigView) (id : SocketId) (step : Step) (earlier : List Step) wh
             record { initial = s.number; syn = inl (AtListener _ s opened refl); next = ap (wire s.number) (sym at) }
       ])
   step_on _ _ before after (befalls.quietly v w none_told in_turn) is was =
-      left v w before after (quietly_back v w in_turn) (λ lives heard. let k = quiet v w in_turn lives in unmoved v w (ap (λ (t : Sending). t.window) k.sending) k.state lives heard) is was
+      left v w before after (quietly_back v w in_turn) (λ lives heard. let k = quiet v w in_turn lives in unmoved v w (is.sound v before) (ap (λ (t : Sending). t.window) k.sending) (ap (λ (t : Sending). t.una) k.sending) k.state lives heard) is was
   step_on _ _ before after (befalls.hears v s now none_told comes) is was =
       let w = after_segment_at v s now in
       this_one w (still_waits v w before after (back v (Hears s now)) was) (λ sound lives heard. elim (meets v s now lives heard) [
@@ -145,13 +145,13 @@ module _ (c : ConfigView) (id : SocketId) (step : Step) (earlier : List Step) wh
       ])
   step_on _ _ before after (befalls.emits v now none_told out) is was =
       let k = emissions_leave v now in let w = after_first v (first_due v) now in
-      left v w before after (back v (Emits now)) (unmoved v w (ap (λ (t : Sending). t.window) k.0) k.2) is was
-  step_on _ _ before after (befalls.sends v octets now fine given none none_told) is was = left v (after_send v octets now) before after (back v (Sends octets now)) (sent v octets now) is was
-  step_on _ _ before after (befalls.reads v len fine unleft none given told) is was = left v (after_recv v len) before after (back v (Receives len)) (received v len) is was
+      left v w before after (back v (Emits now)) (unmoved v w (is.sound v before) (ap (λ (t : Sending). t.window) k.0) (ap (λ (t : Sending). t.una) k.0) k.2) is was
+  step_on _ _ before after (befalls.sends v octets now fine given none none_told) is was = left v (after_send v octets now) before after (back v (Sends octets now)) (sent v octets now (is.sound v before)) is was
+  step_on _ _ before after (befalls.reads v len fine unleft none given told) is was = left v (after_recv v len) before after (back v (Receives len)) (received v len (is.sound v before)) is was
   step_on _ _ before after (befalls.shuts v now none_told closes fine) is was =
       let w = after_shutdown v now in
-      left v w before after (λ waits. back v (Shuts now) (ap (λ o. is_syn_sent (if is_some o then v else w).state) fine ∙ waits)) (closing v w refl refl) is was
-  step_on _ _ before after (befalls.closes v now none_told closes) is was = left v (after_close v now) before after (back v (Closes now)) (closed v now) is was
+      left v w before after (λ waits. back v (Shuts now) (ap (λ o. is_syn_sent (if is_some o then v else w).state) fine ∙ waits)) (closing v w (is.sound v before) refl refl refl) is was
+  step_on _ _ before after (befalls.closes v now none_told closes) is was = left v (after_close v now) before after (back v (Closes now)) (closed v now (is.sound v before)) is was
   step_on _ _ before after (befalls.leaves v none_told gone) is was = record { waits = λ w e. cc; counts = λ w e. cc; absent = λ none. inl gone }
 
   pub keeps_anchored : IsOfConnection c id step → IsAnchored c id step.before earlier → IsAnchored c id step.after steps

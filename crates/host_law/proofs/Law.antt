@@ -49,7 +49,7 @@ holds c _ h (GoesOn before event old _ run sound numbered makes) asked octets =
     let of : (id : SocketId) → IsOfConnection c id step = of_connection c before old h event run sound numbered asked_parts.1 octet_parts.1 makes in
     let goes = was.goes in
     record {
-      keeps = λ id. let k = was.keeps id in record { read = keeps_read c id step steps (of id) k.read; sent = keeps_sent c id step steps (of id) k.sent; window = keeps_window c id step steps (of id) k.window; out = keeps_out c id step steps (of id) k.out; anchored = keeps_anchored c id step steps (of id) k.anchored };
+      keeps = λ id. let k = was.keeps id in record { read = keeps_read c id step steps (of id) k.read; sent = keeps_sent c id step steps (of id) k.sent; window = keeps_window c id step steps (of id) k.sent k.window; out = keeps_out c id step steps (of id) k.out; anchored = keeps_anchored c id step steps (of id) k.anchored };
       goes = record {
         ends = ((λ id v w is becomes. let x = of id in keeps_ends c id step (connection_of id old) (connection_of id h) x.befalls v w is becomes), goes.ends);
         sends = (

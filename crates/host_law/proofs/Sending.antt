@@ -55,7 +55,7 @@ module _ (c : ConfigView) (id : SocketId) (step : Step) (earlier : List Step) wh
   lifted : snd_una id steps ≡ snd_una id earlier → KeepsSent c id step.before earlier → (position : ℕ) → position < snd_una id steps → Once (Acknowledges c id position) steps
   lifted same was position below = inr (was.acknowledged position (omega (arith, below, same)))
 
-  moves : (o p : Option View) → connection_of id step.before ≡ o → connection_of id step.after ≡ p → snd_una id steps ≡ snd_una id earlier + let_go o p
+  pub moves : (o p : Option View) → connection_of id step.before ≡ o → connection_of id step.after ≡ p → snd_una id steps ≡ snd_una id earlier + let_go o p
   moves o p before after = ap (λ x. snd_una id earlier + let_go x (connection_of id step.after)) before ∙ ap (λ x. snd_una id earlier + let_go o x) after
 
   gives : (more : List ℕ) → sent_at id step.before step.event ≡ more → sent_on id steps ≡ sent_on id earlier ++ more

@@ -173,7 +173,7 @@ pub finished_holds : (v : View) → IsSound v → is_write_finished v.state ≡ 
 finished_holds v sound finished = none_while (is_opening v.state || is_write_finished v.state) (length v.sending.held) v.sending.size (or_right (is_opening v.state) (is_write_finished v.state) finished) sound.held
 
 -- in its opening at most the SYN is outstanding, and past it no more than is held and the FIN of a closed side
-opening_flight : (v : View) → IsSound v → is_opening v.state ≡ true → outstanding v.sending ≤ 1
+pub opening_flight : (v : View) → IsSound v → is_opening v.state ≡ true → outstanding v.sending ≤ 1
 opening_flight v sound opening =
     let none = opening_holds v sound opening in
     let most : outstanding v.sending ≤ length v.sending.held + 1 = subst (λ b. outstanding v.sending ≤ length v.sending.held + (if b || awaits_fin_ack v.state then 1 else 0)) opening sound.flight in
@@ -288,7 +288,7 @@ of_fin v s sound lives opened new fin confirms =
 
 -- The field is read of a segment that is used.
 
-opening_is : (t : State) → is_syn_received t ≡ true → is_opening t ≡ true
+pub opening_is : (t : State) → is_syn_received t ≡ true → is_opening t ≡ true
 opening_is SynReceived e = refl
 opening_is _ e = cc
 
@@ -296,7 +296,7 @@ opening_sent : (t : State) → is_syn_sent t ≡ true → (is_opening t ≡ true
 opening_sent SynSent e = (refl, refl, refl, refl)
 opening_sent _ e = cc
 
-opened_is : (t : State) → is_syn_sent t ≡ false → is_syn_received t ≡ false → is_opening t ≡ false
+pub opened_is : (t : State) → is_syn_sent t ≡ false → is_syn_received t ≡ false → is_opening t ≡ false
 opened_is SynSent e f = cc
 opened_is SynReceived e f = cc
 opened_is _ e f = refl

@@ -88,7 +88,7 @@ none_new : (v w : View) (due : Due) → w.sending.nxt ≡ v.sending.nxt → New 
 none_new v w due same at below above = let one : past w.sending.nxt v.sending.una ≡ outstanding v.sending = ap (λ n. past n v.sending.una) same in absurd (omega (arith, one, below, above))
 
 -- those of a stretch
-stretch_new : (v w : View) (due : Due) (stretch : Stretch) → IsSound v → IsHeld v stretch → w.sending ≡ after_sent v.sending (end_of stretch) → (head_of v due).number.0 ≡ (v.sending.una + stretch.offset) % 2 ^ 32 → octets_of v due ≡ octets_of_stretch v stretch
+stretch_new : (v w : View) (due : Due) (stretch : Stretch) → IsSound v → IsHeld v stretch → w.sending.nxt ≡ (after_sent v.sending (end_of stretch)).nxt → (head_of v due).number.0 ≡ (v.sending.una + stretch.offset) % 2 ^ 32 → octets_of v due ≡ octets_of_stretch v stretch
     → (head_of v due).flags.fin ≡ stretch.fin → (head_of v due).flags.syn ≡ false → New v due w
 stretch_new v w due stretch sound held sends number octets fin syn at below above =
     let few = held_few v sound in
@@ -96,7 +96,7 @@ stretch_new v w due stretch sound held sends number octets fin syn at below abov
     let len : length (octets_of v due) ≡ stretch.count = ap length octets ∙ length-take stretch.count (drop stretch.offset v.sending.held) ∙ omega (arith, length-drop stretch.offset v.sending.held, all) in
     let ends = one_at_most stretch.fin in
     let small : end_of stretch < 2 ^ 32 = omega (arith, few, all, ends) in
-    let within : at < end_of stretch = reached v.sending (end_of stretch) at sound.una sound.nxt small (subst (λ (t : Sending). at < past t.nxt v.sending.una) sends below) above in
+    let within : at < end_of stretch = reached v.sending (end_of stretch) at sound.una sound.nxt small (subst (λ nxt. at < past nxt v.sending.una) sends below) above in
     let place : past (head_of v due).number.0 v.sending.una ≡ stretch.offset = (let bound = sound.una in omega (arith, bound, number, few, all)) in
     let joined = held.joined in
     let span : span_of (sent_segment (head_of v due) (octets_of v due)) ≡ stretch.count + (if stretch.fin then 1 else 0) = spans (head_of v due).flags.syn (head_of v due).flags.fin stretch.fin (length (octets_of v due)) stretch.count syn fin len in
@@ -125,12 +125,12 @@ emitted_new v Rst now sound may = none_new v (after_emitted v Rst now) Rst refl
 emitted_new v Syn now sound may =
     let sent = after_syn_out v now in
     syn_new v (after_emitted v Syn now) sound (either View (λ w. w.sending ≡ after_sent v.sending 1) (is_syn_received v.state) (after_syn_ack_paid sent) sent (λ received. syn_sends v now) (λ waits. syn_sends v now))
-emitted_new v (Text stretch) now sound may = stretch_new v (after_emitted v (Text stretch) now) (Text stretch) stretch sound may (stretch_sends v stretch now) refl refl refl refl
+emitted_new v (Text stretch) now sound may = stretch_new v (after_emitted v (Text stretch) now) (Text stretch) stretch sound may (ap (λ (t : Sending). t.nxt) (stretch_sends v stretch now)) refl refl refl refl
 emitted_new v Probe now sound may =
     let none : (probe_stretch v).offset ≡ 0 = either Stretch (λ t. t.offset ≡ 0) (length v.sending.held == 0) (record { offset = 0; count = 0; fin = true }) (record { offset = 0; count = 1; fin = false }) (λ none. refl) (λ some. refl) in
     let bound = sound.una in
     let number : v.sending.una ≡ (v.sending.una + (probe_stretch v).offset) % 2 ^ 32 = omega (arith, bound, none) in
-    stretch_new v (after_emitted v Probe now) Probe (probe_stretch v) sound may (probe_sends v) number refl refl refl
+    stretch_new v (after_emitted v Probe now) Probe (probe_stretch v) sound may (ap (λ (t : Sending). t.nxt) (probe_sends v)) number refl refl refl
 emitted_new v Ack now sound may = none_new v (after_emitted v Ack now) Ack refl
 emitted_new v KeepAlive now sound may = none_new v (after_emitted v KeepAlive now) KeepAlive refl
 

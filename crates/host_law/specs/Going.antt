@@ -1,5 +1,5 @@
 -- Frames that go out, and what they carry of our stream (RFC 9293 section 3.8).
-use Rattle.std.specs.Prelude.{◌≡◌, ◌⊎◌, ℕ, ◌+◌, ◌<◌, ◌≤◌, true, false, List, length, slice_get, Some, Ok}
+use Rattle.std.specs.Prelude.{◌≡◌, ◌⊎◌, ℕ, ◌+◌, ◌-◌, ◌<◌, ◌≤◌, true, false, List, ◌∷◌, length, slice_get, Some, Ok}
 use Rattle.clock.specs.declared.moment.Moment.{Moment}
 use Rattle.ether.specs.declared.mac.Mac.{Mac}
 use Rattle.ipv4.specs.declared.addr.Addr.{Addr}
@@ -47,7 +47,14 @@ pub record WasSent (sent : List ℕ) (una position octet : ℕ) : Type 0 where
 abbrev pub IsWithinWindow : View → ℕ → Type 0
 IsWithinWindow v distance = (distance < v.sending.window) ⊎ ((v.sending.window ≡ 0) × (distance ≡ 0))
 
--- It is of a connection that isn't CLOSED. Its SYN has position 0. Each of its octets is the one that `send` took at its position, and either went out before or lies in the window, which a frame of the peer told; and its
+-- SND.WND is what is left of the window that a step told, once SND.UNA has this position: as much less as octets, or the FIN, were acknowledged since. So it ends where it was told to end, or is closed.
+pub record IsLeftOf (c : ConfigView) (id : SocketId) (una window : ℕ) (step : Step) (earlier : List Step) : Type 0 where
+  pub told : ℕ
+  pub tells : TellsWindow c id told step earlier
+  pub since : snd_una id (step ∷ earlier) ≤ una
+  pub left : window ≡ told - ((una - 1) - (snd_una id (step ∷ earlier) - 1))
+
+-- It is of a connection that isn't CLOSED. Its SYN has position 0. Each of its octets is the one that `send` took at its position, and either went out before or lies in the window, which is left of one that a frame of the peer told; and its
 -- FIN stands behind all that was taken, where our side was closed.
 pub record IsOfStream (c : ConfigView) (source to : Addr) (s : Segment) (step : Step) (earlier : List Step) : Type 0 where
   pub id : SocketId
@@ -59,7 +66,7 @@ pub record IsOfStream (c : ConfigView) (source to : Addr) (s : Segment) (step : 
   pub peer : v.peer ≡ record { addr = to; port = s.destination }
   pub syn : s.flags.syn ≡ true → (snd_una id earlier ≡ 0) × (s.number ≡ v.sending.una)
   pub octets : (i octet : ℕ) → slice_get s.octets i ≡ Some octet → WasSent (sent_on id earlier) (snd_una id earlier) (past (s.number + i) v.sending.una) octet
-  pub told : 0 < length s.octets → Once (TellsWindow c id v.sending.window) earlier
+  pub told : 0 < length s.octets → Once (IsLeftOf c id (snd_una id earlier) v.sending.window) earlier
   pub window : (i octet : ℕ) → slice_get s.octets i ≡ Some octet → Once (Takes c id (snd_una id earlier + past (s.number + i) v.sending.una)) earlier ⊎ IsWithinWindow v (past (s.number + i) v.sending.una)
   pub end : s.flags.fin ≡ true → (snd_una id earlier + past (s.number + length s.octets) v.sending.una ≡ length (sent_on id earlier) + 1) × Once (λ step earlier. closed_at id step.event ≡ true) earlier
 

@@ -1,5 +1,5 @@
 -- What a segment without RST and FIN leaves of an open connection that its caller has not left.
-use Rattle.std.proofs.Common.{◌≡◌, ℕ, ◌^◌, ◌<◌, ◌==◌, ◌||◌, ◌&&◌, ◌⊎◌, not, Bool, true, false, List, [], ◌∷◌, ◌++◌, length, inl, inr, arith, refl, sym, ◌∙◌, ap}
+use Rattle.std.proofs.Common.{◌≡◌, ℕ, ◌^◌, ◌<◌, ◌==◌, ◌||◌, ◌&&◌, ◌⊎◌, not, if◌then◌else◌, Bool, true, false, List, [], ◌∷◌, ◌++◌, length, inl, inr, arith, refl, sym, ◌∙◌, ap, ap₂}
 use Rattle.clock.specs.declared.moment.Moment.{Moment}
 use Rattle.tcp_segment.specs.Segment.{Segment}
 use Rattle.tcp_halves.proofs.Keeping.{inserted_readable}
@@ -8,10 +8,11 @@ use Rattle.tcp_halves.specs.Stream.{buffer_of, distance_of, octets_within, octet
 use Rattle.tcp_halves.specs.Windows.{updates_window}
 use Rattle.tcp_halves.proofs.Choices.{either, clash, and_left, and_false, or_left}
 use Rattle.tcp_state.specs.View.{View, is_opening, is_syn_sent, is_syn_received, is_closed}
-use Rattle.tcp_state.specs.Arrival.{is_receiving, beyond_fin, may_delay, after_ack, after_window, after_text, after_fin, after_lost, after_segment, after_heard, after_segment_at, is_read, is_lost, is_unused, draws_one, before, timed_by}
+use Rattle.tcp_state.specs.Arrival.{is_receiving, beyond_fin, may_delay, after_ack, after_window, after_text, after_fin, after_lost, after_segment, after_heard, after_segment_at, is_read, is_lost, asks, is_unused, draws_one, owes_answer, before, timed_by}
 use Rattle.tcp_state.proofs.Freed.{opened}
-use Rattle.tcp_state.proofs.Guarded.{owes_kept, without_syn}
+use Rattle.tcp_state.proofs.Guarded.{without_syn}
 use Rattle.tcp_state.proofs.Segments.{by_ack, by_fin, by_segment, by_clock, ack_receives}
+use Rattle.tcp_state.specs.Guard.{is_spent}
 
 -- An acknowledgement that is owed stays owed as long as it lives; SND.NXT stays; and octets came, or nothing did.
 abbrev OwesOn : View → View → Type 0
@@ -58,9 +59,10 @@ timed_on v s now established on = (owes_on, on.1, on.2)
         let b = before v s in
         let w = after_heard v s in
         let none : draws_one v s ≡ false =
-        ap (λ o. v.guard.on && not o && not (is_syn_sent v.state) && is_unused v s) owes
-        ∙ ap (λ x. x && not (is_syn_sent v.state) && is_unused v s) (and_false v.guard.on) in
-        owes_kept b w now none (without_syn v s (inl established)) ∙ on.0 owes lives
+        ap (λ o. v.guard.on && not o && not (is_syn_sent v.state) && (is_unused v s || asks v s)) owes
+        ∙ ap (λ x. x && not (is_syn_sent v.state) && (is_unused v s || asks v s)) (and_false v.guard.on) in
+        ap₂ (λ d a. if (d && is_spent w.guard now) || a then false else owes_answer b w) none (without_syn v s (inl established))
+        ∙ or_left w.owes_ack (asks v s && not (is_syn_sent w.state || is_closed w.state)) (on.0 owes lives)
 
 pub heard_leaves : (v : View) (s : Segment) (now : Moment) → is_opening v.state ≡ false → v.released ≡ false → s.flags.rst ≡ false → s.flags.fin ≡ false → LeavesOn v s (after_segment_at v s now)
 heard_leaves v s now past kept no_rst no_fin =

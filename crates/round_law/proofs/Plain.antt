@@ -57,7 +57,8 @@ emitted_grows v Rst now = omega arith
 emitted_grows v Syn now = either View (λ w. outstanding v.sending ≤ outstanding w.sending) (is_syn_received v.state) (after_syn_ack_paid (after_syn_out v now)) (after_syn_out v now)
     (λ received. grows_by v.sending (after_syn_out v now).sending 1 (syn_sends v now)) (λ first. grows_by v.sending (after_syn_out v now).sending 1 (syn_sends v now))
 emitted_grows v (Text stretch) now = grows_by v.sending (after_emitted v (Text stretch) now).sending (end_of stretch) (stretch_sends v stretch now)
-emitted_grows v Probe now = grows_by v.sending (after_emitted v Probe now).sending (end_of (probe_stretch v)) (probe_sends v)
+emitted_grows v Probe now = let count = end_of (probe_stretch v) in
+    let out : outstanding (after_emitted v Probe now).sending ≡ outstanding (after_sent v.sending count) = ap outstanding (probe_sends v) in omega (arith, out, sent_grows v.sending count)
 emitted_grows v Ack now = omega arith
 emitted_grows v KeepAlive now = omega arith
 

@@ -1,14 +1,14 @@
 -- What a reader makes of the oldest octet that its writer holds, and what the writer makes of the answer.
-use Rattle.std.proofs.Common.{◌≡◌, ◌⊎◌, ℕ, zero, suc, ◌+◌, ◌^◌, ◌<◌, ◌≤◌, ◌==◌, ◌&&◌, ◌||◌, not, if◌then◌else◌, Bool, true, false, List, [], ◌∷◌, ◌++◌, length, drop, inl, inr, arith, refl, sym, ◌∙◌, ap, subst, length-append}
-use Rattle.std.proofs.lemmas.Bool.{eq-eqb, lt-ltb, le-ltb}
-use Rattle.std.proofs.lemmas.Bool.Decides.{leb_tells, eqb_tells}
+use Rattle.std.proofs.Common.{◌≡◌, ◌⊎◌, ℕ, zero, suc, ◌+◌, ◌^◌, ◌<◌, ◌≤◌, ◌&&◌, ◌||◌, not, if◌then◌else◌, Bool, true, false, List, [], ◌∷◌, ◌++◌, length, drop, inl, inr, arith, refl, sym, ◌∙◌, ap, subst, length-append, nat_le}
+use Rattle.std.proofs.lemmas.Bool.{le-ltb, le-leb}
+use Rattle.std.proofs.lemmas.Bool.Decides.{leb_tells}
 use Rattle.clock.specs.declared.moment.Moment.{Moment}
 use Rattle.tcp_segment.specs.declared.TheConstants.{MSS}
 use Rattle.tcp_segment.specs.Segment.{Segment, bit, span_of}
 use Rattle.tcp_segment.specs.Wire.{wire, past}
 use Rattle.tcp_halves.specs.Halves.{Receiving}
-use Rattle.tcp_halves.specs.Stream.{outstanding, receive_window, is_in_window, is_acceptable}
-use Rattle.tcp_halves.proofs.Choices.{either, clash, both, and_false, of_false}
+use Rattle.tcp_halves.specs.Stream.{outstanding, receive_window, is_acceptable, stands_before}
+use Rattle.tcp_halves.proofs.Choices.{both, and_false, of_false, or_left}
 use Rattle.tcp_state.specs.declared.state.State.{State}
 use Rattle.tcp_state.specs.declared.state.State.TheVariants.{Established, FinWait2, CloseWait}
 use Rattle.tcp_state.specs.View.{View, IsSound, is_opening, is_closed, is_time_wait, is_write_finished, awaits_fin_ack, takes_flag_number}
@@ -151,8 +151,7 @@ module _ (w e : View) (s : Segment) (now : Moment) (meet : Meet w e) (sound_far 
 -- what stands at RCV.NXT without octets is acceptable, whatever the window
 at_next : (r : Receiving) → r.rnext < 2 ^ 32 → is_acceptable r r.rnext 0 ≡ true
 at_next r small =
-    either Bool (λ b. b ≡ true) (receive_window r == 0) (r.rnext == r.rnext) (is_in_window r r.rnext) (λ shut. eq-eqb r.rnext r.rnext refl)
-    (λ wide. lt-ltb (past r.rnext r.rnext) (receive_window r) (elim (eqb_tells (receive_window r) 0) [ inl t ↦ clash (receive_window r == 0) t.0 wide | inr t ↦ omega (arith, t.1, small) ]))
+    or_left (nat_le (past r.rnext r.rnext) (receive_window r)) (stands_before r r.rnext) (le-leb (past r.rnext r.rnext) (receive_window r) (omega (arith, small)))
 
 pub frees : (c : View) (s : Segment) (now : Moment) (initial una next : ℕ) → IsSound c → 0 < length c.sending.held → IsOrdinary s → s.octets ≡ [] → s.flags.fin ≡ false → s.number ≡ c.receiving.rnext → c.sending.una ≡ wire initial una
     → s.acknowledgement ≡ wire initial next → una < next → next ≤ una + outstanding c.sending → length (after_event c (Event.Hears s now)).sending.held < length c.sending.held

@@ -7,22 +7,19 @@ use Rattle.tcp_segment.specs.Sent.{sent_segment}
 use Rattle.clock.specs.declared.moment.Moment.{Moment}
 use Rattle.tcp_state.specs.declared.emission.Due.TheVariants.{Syn, Text, Probe, Ack as AckAlone, KeepAlive}
 use Rattle.tcp_state.specs.declared.emission.Stretch.{Stretch}
-use Rattle.tcp_state.specs.declared.state.State.{State}
-use Rattle.tcp_state.specs.declared.state.State.TheVariants.{FinWait1, Closing, LastAck}
-use Rattle.tcp_state.specs.View.{View, IsSound, is_opening, is_syn_sent, is_write_finished, is_write_closed, awaits_fin_ack}
+use Rattle.tcp_state.specs.View.{View, IsSound, is_opening, is_syn_sent, is_closed, is_write_finished, is_write_closed}
 use Rattle.tcp_halves.specs.Numbers.{later_number}
-use Rattle.tcp_halves.specs.Stream.{send_room, outstanding}
-use Rattle.tcp_halves.specs.Windows.{hears_next}
-use Rattle.tcp_state.proofs.AckNumbers.{unheard_beyond}
+use Rattle.tcp_halves.specs.Stream.{send_room, outstanding, number_before, bare_number}
+use Rattle.tcp_halves.proofs.Choices.{by}
+use Rattle.tcp_state.proofs.AckNumbers.{bare_at_next, bare_before, probed_is_open}
 use Rattle.tcp_state.specs.Timing.{clocked}
 use Rattle.tcp_state.specs.Calls.{send_count, with_octets, after_send}
 use Rattle.tcp_state.specs.Due.{IsHeld, probe_stretch, end_of, octets_of_stretch, head_of, octets_of}
-use Rattle.stream_law.specs.Channel.{Open, Waiting, Synchronised, Channel, number_of}
+use Rattle.stream_law.specs.Channel.{Open, Waiting, Synchronised, Channel}
 use Rattle.stream_law.specs.ChannelSteps.{Step, writes, emits_syn, emits_text, emits_bare, emits_before, emits_ack, span}
 use Rattle.stream_law.specs.ChannelViews.{sender_of, receiver_of, SendsInto, ReceivesFrom, frame_of}
 use Rattle.stream_law.proofs.KeepingText.{chosen}
-use Rattle.stream_law.proofs.Sizes.{finished-holds-nothing}
-use Rattle.stream_law.proofs.ConnectionArrival.{either, opened_flight}
+use Rattle.stream_law.proofs.ConnectionArrival.{either}
 
 -- octets that the caller gives stand behind those that are held, and of the rest of both streams nothing changed
 pub record Takes (v w : View) (more : List ℕ) : Type 0 where
@@ -140,14 +137,16 @@ emits-probe cap limit v c unfinished una is shows =
     at_una true = refl
     at_una false = refl
 
--- An acknowledgement alone goes out at SND.NXT. Where the peer's window ends before, and it doesn't hear that, it goes out there, behind octets that are held: as a stretch
--- of none, which leaves SND.NXT.
-pub emits-alone : (cap limit : ℕ) (v : View) (c : Channel) → IsSound v → SendsInto v c
+-- An acknowledgement alone goes out at SND.NXT, or before it where only a probe took the number before.
+pub emits-alone : (cap limit : ℕ) (v : View) (c : Channel) → IsSound v → is_closed v.state ≡ false → SendsInto v c
     → Step cap limit c (record c {
       sending = Open (sender_of v);
       frames = frame_of (sent_segment (head_of v AckAlone) (octets_of v AckAlone)) (length c.written) ∷ c.frames;
     })
-emits-alone cap limit v c sound shows = by (is_opening v.state) (hears_next v.sending) refl refl
+emits-alone cap limit v c sound lives shows =
+    by (Alone (bare_number v.sending)) v.sending.probed
+    (λ probed. subst Alone (sym (bare_before v.sending probed)) (before (probed_is_open v sound lives probed)))
+    (λ none. subst Alone (sym (bare_at_next v.sending none)) at_next)
   where
     Alone : ℕ → Type 0
     Alone n = Step cap limit c (record c {
@@ -160,55 +159,10 @@ emits-alone cap limit v c sound shows = by (is_opening v.state) (hears_next v.se
         subst (λ x. Step cap limit c (record c { sending = x; frames = record { number = v.sending.nxt; octets = []; syn = false; fin = false; written_at = length c.written } ∷ c.frames }))
         shows.sending (emits_bare c (sender_of v) shows.sending)
 
-    unawaited : (t : State) → is_write_finished t ≡ true → awaits_fin_ack t ≡ false
-    unawaited FinWait1 e = cc
-    unawaited Closing e = cc
-    unawaited LastAck e = cc
-    unawaited _ e = refl
-
-    one_at_most : (b : Bool) → number_of b ≤ 1
-    one_at_most true = omega arith
-    one_at_most false = omega arith
-
-    -- something is outstanding, so our FIN is not acknowledged
-    unfinished : is_opening v.state ≡ false → v.sending.window < outstanding v.sending → (b : Bool) → is_write_finished v.state ≡ b → b ≡ false
-    unfinished opened beyond false e = refl
-    unfinished opened beyond true e =
-        let none = finished-holds-nothing v sound e in
-        let flight : outstanding v.sending ≤ length v.sending.held + 0 = subst (λ b. outstanding v.sending ≤ length v.sending.held + number_of b) (unawaited v.state e) (opened_flight v sound opened) in
-        absurd (omega (arith, none, flight, beyond))
-
-    at_edge : is_opening v.state ≡ false → v.sending.window < outstanding v.sending → Alone ((v.sending.una + v.sending.window) % 2 ^ 32)
-    at_edge opened beyond =
-        let s = sender_of v in
-        let w = v.sending.window in
-        let before = take w s.held in
-        let after = drop w s.held in
-        let flight = opened_flight v sound opened in
-        let fin = one_at_most (awaits_fin_ack v.state) in
-        let first : length before ≡ w = length-take w s.held ∙ omega (arith, flight, fin, beyond) in
-        let cut : s.held ≡ (before ++ []) ++ after = sym (take-append-drop w s.held) ∙ ap (λ l. l ++ after) (sym (append-nil before)) in
-        let acked : s.syn_acked ≡ true = ap not opened in
-        let una = sound.una in
-        let nxt = sound.nxt in
-        let end = (s.una + (length before + span [] false)) % 2 ^ 32 in
-        let reach : past end s.una ≡ w = omega (arith, first, una, nxt, beyond) in
-        let stays : later_number s.una s.nxt end ≡ s.nxt = chosen (past s.nxt s.una) (past end s.una) s.nxt end s.nxt (λ le. absurd (omega (arith, le, reach, beyond))) (λ lt. refl) in
-        subst (λ n. Step cap limit c (record c {
-          sending = Open (record s { nxt = n });
-          frames = record { number = (s.una + w) % 2 ^ 32; octets = []; syn = false; fin = false; written_at = length c.written } ∷ c.frames;
-        })) stays
-        (subst (λ n. Step cap limit c (record c {
-          sending = Open (record s { nxt = later_number s.una s.nxt end });
-          frames = record { number = (s.una + n) % 2 ^ 32; octets = []; syn = false; fin = false; written_at = length c.written } ∷ c.frames;
-        })) first
-        (emits_text c s before [] after false shows.sending acked (unfinished opened beyond (is_write_finished v.state) refl) cut (λ t. cc)))
-
-    by : (opening heard : Bool) → is_opening v.state ≡ opening → hears_next v.sending ≡ heard
-        → Alone (if opening || heard then v.sending.nxt else (v.sending.una + v.sending.window) % 2 ^ 32)
-    by true heard opens next = at_next
-    by false true opened next = at_next
-    by false false opened past_it = at_edge opened (unheard_beyond v.sending past_it)
+    before : is_opening v.state ≡ false → Alone (number_before v.sending.nxt)
+    before opened =
+        subst (λ x. Step cap limit c (record c { sending = x; frames = record { number = number_before v.sending.nxt; octets = []; syn = false; fin = false; written_at = length c.written } ∷ c.frames }))
+        shows.sending (emits_before c (sender_of v) shows.sending (ap not opened))
 
 -- a segment with ACK acknowledges
 pub emits-ack : (cap limit : ℕ) (v : View) (d : Channel) → is_syn_sent v.state ≡ false → ReceivesFrom v d

@@ -7,7 +7,7 @@ use Rattle.tcp_state.specs.declared.state.State.{State}
 use Rattle.tcp_state.specs.View.{View, is_opening, is_syn_sent, is_syn_received, is_write_finished}
 use Rattle.tcp_segment.specs.declared.TheConstants.{MSS}
 use Rattle.tcp_halves.specs.Halves.{Sending as SendingHalf, Receiving as ReceivingHalf}
-use Rattle.tcp_halves.specs.Stream.{outstanding, after_sent, receive_window}
+use Rattle.tcp_halves.specs.Stream.{outstanding, after_sent, after_probed, receive_window}
 use Rattle.tcp_halves.specs.Windows.{has_grown, after_advertisement, syn_window, after_syn_advertisement}
 use Rattle.tcp_state.specs.Resend.{resend_probed}
 use Rattle.tcp_state.specs.Timing.{clocked}
@@ -83,9 +83,9 @@ stretch-out v stretch now =
     timed v (after_going_out v (Text stretch) now) half now
     (paid v (after_stretch v stretch now) half true (renewed_by v sent stretch half (brings_new_octets v stretch) (numbered v stretch.offset (end_of stretch) now)))
 
-pub probe-out : (v : View) (now : Moment) → GoesOut v (after_emitted v Probe now) (after_sent v.sending (end_of (probe_stretch v)))
+pub probe-out : (v : View) (now : Moment) → GoesOut v (after_emitted v Probe now) (after_probed v.sending (end_of (probe_stretch v)))
 probe-out v now =
-    let half = after_sent v.sending (end_of (probe_stretch v)) in
+    let half = after_probed v.sending (end_of (probe_stretch v)) in
     let sent : View = record v { sending = half; resend = resend_probed v.resend } in
     timed v (after_going_out v Probe now) half now
     (paid v (after_probe v) half true (renewed v sent half (brings_new_octets v (probe_stretch v)) (record { state = refl; sending = refl; receiver = refl; readable = refl })))

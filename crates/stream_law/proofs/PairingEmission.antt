@@ -10,7 +10,7 @@ use Rattle.tcp_state.specs.declared.state.State.{State}
 use Rattle.tcp_state.specs.declared.state.State.TheVariants.{Closed, SynSent, SynReceived, Established, FinWait1, FinWait2, CloseWait, Closing, LastAck}
 use Rattle.tcp_state.specs.View.{View, IsSound, is_opening, is_syn_sent, is_syn_received, is_closed, is_listening, is_write_closed, is_read_closed, is_write_finished, awaits_fin_ack}
 use Rattle.tcp_halves.specs.Halves.{Sending as SendingHalf}
-use Rattle.tcp_halves.specs.Stream.{outstanding, after_sent}
+use Rattle.tcp_halves.specs.Stream.{outstanding, after_sent, after_probed}
 use Rattle.tcp_state.specs.Alive.{may_rest}
 use Rattle.tcp_state.specs.Due.{MayGoOut, IsHeld, probe_stretch, end_of, flags_of, head_of, octets_of, after_emitted}
 use Rattle.stream_law.specs.Channel.{Channel, Ack, Open, IsAmong, here, there}
@@ -169,14 +169,14 @@ went-text cap limit v into stretch now sound is shows =
 went-probe : (cap limit : ℕ) (v : View) (into : Channel) (now : Moment) → IsSound v → IsHeld v (probe_stretch v) → SendsInto v into
     → Went cap limit v (after_emitted v Probe now) into (sent_segment (head_of v Probe) (octets_of v Probe))
 went-probe cap limit v into now sound is shows =
-    went-out cap limit v (after_emitted v Probe now) into (sent_segment (head_of v Probe) (octets_of v Probe)) (after_sent v.sending (end_of (probe_stretch v))) (probe-out v now)
+    went-out cap limit v (after_emitted v Probe now) into (sent_segment (head_of v Probe) (octets_of v Probe)) (after_probed v.sending (end_of (probe_stretch v))) (probe-out v now)
     (emits-probe cap limit v into (unfinished v (probe_stretch v) sound is) sound.una is shows) (λ e. (opened_past v.state is.opened, refl))
 
-went-ack : (cap limit : ℕ) (v : View) (into : Channel) (now : Moment) → IsSound v → is_syn_sent v.state ≡ false → SendsInto v into
+went-ack : (cap limit : ℕ) (v : View) (into : Channel) (now : Moment) → IsSound v → is_syn_sent v.state ≡ false → is_closed v.state ≡ false → SendsInto v into
     → Went cap limit v (after_emitted v AckAlone now) into (sent_segment (head_of v AckAlone) (octets_of v AckAlone))
-went-ack cap limit v into now sound past shows =
+went-ack cap limit v into now sound past lives shows =
     went-out cap limit v (after_emitted v AckAlone now) into (sent_segment (head_of v AckAlone) (octets_of v AckAlone)) v.sending (ack-out v now)
-    (emits-alone cap limit v into sound shows)
+    (emits-alone cap limit v into sound lives shows)
     (λ e. (past, refl))
 
 resting_open : (t : State) → may_rest t ≡ true → (is_opening t ≡ false) × (is_closed t ≡ false)
@@ -228,5 +228,5 @@ moves-emits cap limit p v due now is sound may unreset width h =
     went Syn may reset shows = went-syn cap limit v h.into now sound may shows
     went (Text stretch) may reset shows = went-text cap limit v h.into stretch now sound may shows
     went Probe may reset shows = went-probe cap limit v h.into now sound may shows
-    went AckAlone may reset shows = went-ack cap limit v h.into now sound (neither (is_syn_sent v.state) (is_closed v.state) may).0 shows
+    went AckAlone may reset shows = let open_yet = neither (is_syn_sent v.state) (is_closed v.state) may in went-ack cap limit v h.into now sound open_yet.0 open_yet.1 shows
     went KeepAlive may reset shows = went-asks cap limit v h.into now (resting_open v.state may).0 shows

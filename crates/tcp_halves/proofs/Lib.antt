@@ -3,3 +3,4 @@ pub mod Keeping
 pub mod Gathered
 pub mod Reports
 pub mod Runs
+pub mod HeardBare

@@ -4,4 +4,5 @@ pub mod Stream
 pub mod Windows
 pub mod Blocks
 pub mod Reports
+pub mod Heard
 pub mod Received

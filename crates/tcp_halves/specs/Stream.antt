@@ -1,6 +1,6 @@
 -- The stream part: what octets taken, sent, acknowledged, arrived and read make of the two halves. Nothing here knows of timers, of how
 -- much the peer takes, or of what goes out first; later rules for those leave this page as it is.
-use Rattle.std.specs.Prelude.{◌≡◌, ℕ, zero, suc, ◌+◌, ◌-◌, ◌%◌, ◌^◌, ◌<◌, ◌≤◌, ◌==◌, ◌&&◌, ◌||◌, nat_lt, nat_le, Bool, if◌then◌else◌, List, [], ◌++◌, length, take, drop, replicate, min, None, Some, slice_index_or}
+use Rattle.std.specs.Prelude.{◌≡◌, ℕ, zero, suc, ◌+◌, ◌-◌, ◌%◌, ◌^◌, ◌<◌, ◌≤◌, ◌==◌, ◌&&◌, ◌||◌, nat_lt, nat_le, Bool, false, if◌then◌else◌, List, [], ◌++◌, length, take, drop, replicate, min, None, Some, slice_index_or}
 use Rattle.stream_buf.specs.Receiving.{ReceiveView, joined, after_insert, forgotten}
 use Rattle.tcp_segment.specs.declared.TheConstants.{DEFAULT_MSS, SHIFT}
 use Rattle.tcp_segment.specs.Wire.{past}
@@ -61,7 +61,7 @@ is_new_ack s ack = nat_lt 0 (past ack s.una) && nat_le (past ack s.una) (outstan
 
 -- nothing sent yet, the SYN will have the number isn, and so many octets are held at most
 abbrev pub sending_from : ℕ → ℕ → Sending
-sending_from size isn = record { held = []; una = isn; nxt = isn; window = 0; max_window = 0; wl1 = isn; wl2 = isn; smss = DEFAULT_MSS; size = size; unit = 1 }
+sending_from size isn = record { held = []; una = isn; nxt = isn; window = 0; max_window = 0; wl1 = isn; wl2 = isn; smss = DEFAULT_MSS; size = size; unit = 1; probed = false }
 
 -- The peer's SYN settles whether windows are scaled, and with that how many octets each half holds and the units of the windows.
 abbrev pub sending_settled : Sending → Bool → ℕ → Sending
@@ -72,15 +72,27 @@ receiving_settled r scales = record r { size = size_in scales r.size; unit = own
 
 -- our SYN is acknowledged, the one number that is outstanding
 abbrev pub after_syn_acknowledged : Sending → Sending
-after_syn_acknowledged s = record s { una = s.nxt; wl2 = s.nxt }
+after_syn_acknowledged s = record s { una = s.nxt; wl2 = s.nxt; probed = false }
 
--- octets are acknowledged: they are held no longer
+-- Octets are acknowledged, or the FIN behind them: they are held no longer, and come off the window. That ends where the peer last told, also where the window that comes with the acknowledgement isn't believed.
 abbrev pub after_acknowledged : Sending → ℕ → Sending
-after_acknowledged s ack = record s { held = drop (past ack s.una) s.held; una = ack }
+after_acknowledged s ack = record s { held = drop (past ack s.una) s.held; una = ack; window = s.window - past ack s.una; probed = false }
 
 -- so many numbers went out from SND.UNA on: SND.NXT is the later of what it was and the number after them
 abbrev pub after_sent : Sending → ℕ → Sending
-after_sent s count = record s { nxt = later_number s.una s.nxt ((s.una + count) % 2 ^ 32) }
+after_sent s count = let end = (s.una + count) % 2 ^ 32 in record s { nxt = later_number s.una s.nxt end; probed = s.probed && nat_le (past end s.una) (outstanding s) }
+
+-- a window's probe brought them, which took the number SND.NXT where nothing was outstanding
+abbrev pub after_probed : Sending → ℕ → Sending
+after_probed s count = let sent = after_sent s count in record sent { probed = sent.probed || (outstanding s == 0) }
+
+-- the number before another
+abbrev pub number_before : ℕ → ℕ
+number_before number = (number + (2 ^ 32 - 1)) % 2 ^ 32
+
+-- The number of a segment that brings nothing: SND.NXT, or the one before it where a probe took that, since the peer's window ends before it if the peer refused it (RFC 9293 sections 3.8.6.1 and 3.10.7.4).
+abbrev pub bare_number : Sending → ℕ
+bare_number s = if s.probed then number_before s.nxt else s.nxt
 
 -- RCV.WND: what is advertised and not used up
 abbrev pub receive_window : Receiving → ℕ
@@ -90,9 +102,14 @@ receive_window r = past r.edge r.rnext
 abbrev pub is_in_window : Receiving → ℕ → Bool
 is_in_window r number = nat_lt (past number r.rnext) (receive_window r)
 
--- whether a segment is acceptable, by its number and how many numbers it takes (RFC 9293 section 3.10.7.4, table 6)
+-- the number before RCV.NXT
+abbrev pub stands_before : Receiving → ℕ → Bool
+stands_before r number = past r.rnext number == 1
+
+-- Whether a segment is acceptable, by its number and how many numbers it takes (RFC 9293 section 3.10.7.4, table 6). One that takes none may also stand at the end of the window, where SND.NXT of a peer that filled it is, and
+-- one before RCV.NXT, where a peer stands that doesn't know yet that the probe of a closed window was taken, or that asks whether this side is there (section 3.8.4).
 abbrev pub is_acceptable : Receiving → ℕ → ℕ → Bool
-is_acceptable r number zero = if receive_window r == 0 then number == r.rnext else is_in_window r number
+is_acceptable r number zero = nat_le (past number r.rnext) (receive_window r) || stands_before r number
 is_acceptable r number (suc more) = is_in_window r number || is_in_window r ((number + more) % 2 ^ 32)
 
 -- the peer's SYN has this number, and this window was advertised to it

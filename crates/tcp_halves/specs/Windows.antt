@@ -10,11 +10,6 @@ use Rattle.tcp_halves.specs.Stream.{outstanding, receive_window}
 abbrev pub window_in : Sending → ℕ → ℕ
 window_in s field = field * s.unit
 
--- the peer hears a segment at SND.NXT: that lies within its window, or past one that isn't closed by less than a unit, which the window that it told may have
--- rounded away (RFC 7323 section 2.4)
-abbrev pub hears_next : Sending → Bool
-hears_next s = nat_le (outstanding s) s.window || (nat_lt 0 s.window && nat_lt (outstanding s - s.window) s.unit)
-
 -- the peer's SYN has its window, in octets, and the size of the segments that it takes
 abbrev pub after_syn_heard : Sending → ℕ → ℕ → ℕ → Sending
 after_syn_heard s number window smss = record s { window = window; max_window = max s.max_window window; wl1 = number; smss = smss }

@@ -3,7 +3,7 @@
 ghost use Rattle.std.specs.Prelude.{◌≡◌, ◌+◌, ◌%◌, ◌^◌, ◌≤◌, ◌<◌, ◌++◌, ◌==◌, ◌*◌, length, take, drop, min};
 ghost use Rattle.stream_buf.specs.Receiving.{nothing_received, ranges, kept_count, IsReceiving};
 ghost use Rattle.tcp_halves.specs.Halves.{Receiving};
-ghost use Rattle.tcp_halves.specs.Stream.{receive_window, is_in_window, is_acceptable, receiving_nothing, receiving_settled, buffer_of, after_syn, distance_of, octets_within, after_octets, after_read, stands_next, after_end, ReceivingFits, KeptInWindow};
+ghost use Rattle.tcp_halves.specs.Stream.{receive_window, is_in_window, stands_before, is_acceptable, receiving_nothing, receiving_settled, buffer_of, after_syn, distance_of, octets_within, after_octets, after_read, stands_next, after_end, ReceivingFits, KeptInWindow};
 ghost use Rattle.tcp_segment.specs.Wire.{past};
 ghost use Rattle.tcp_halves.specs.Blocks.{block_of, has_place, reported};
 ghost use Rattle.tcp_halves.specs.declared.buffers.TheConstants.{CAPACITY, LARGEST_CAPACITY};
@@ -215,17 +215,22 @@ impl Receiver {
         number.past(self.rnext) < self.window()
     }
 
-    /// Whether a segment is acceptable, by its number and how many numbers it takes
-    /// (RFC 9293 section 3.10.7.4).
+    /// Whether a number is the one before RCV.NXT.
+    pub fn stands_before(&self, number: Seq) -> bool
+        ensures { result ≡ stands_before self.now number.0 }
+    {
+        self.rnext.past(number) == 1
+    }
+
+    /// Whether a segment is acceptable, by its number and how many numbers it takes (RFC 9293 section 3.10.7.4); one that takes none
+    /// also at the end of the window, and one before RCV.NXT.
     pub fn is_acceptable(&self, number: Seq, span: u32) -> bool
         ensures { result ≡ is_acceptable self.now number.0 span }
     {
         if span > 0 {
             self.is_in_window(number) || self.is_in_window(number + (span - 1))
-        } else if self.window() == 0 {
-            number == self.rnext
         } else {
-            self.is_in_window(number)
+            number.past(self.rnext) <= self.window() || self.stands_before(number)
         }
     }
 

@@ -7,8 +7,8 @@ ghost use Rattle.tcp_segment.specs.declared.TheConstants.{MAX_SHIFT};
 ghost use Rattle.tcp_segment.specs.Wire.{past};
 ghost use Rattle.tcp_halves.specs.declared.buffers.TheConstants.{LARGEST_CAPACITY};
 ghost use Rattle.tcp_halves.specs.Halves.{Sending};
-ghost use Rattle.tcp_halves.specs.Stream.{size_in, peer_unit, send_room, outstanding, is_new_ack, sending_from, sending_settled, after_syn_acknowledged, after_acknowledged, after_sent};
-ghost use Rattle.tcp_halves.specs.Windows.{window_in, hears_next, after_syn_heard, after_window_update, open_window, unsent, usable, sendable, next_count, takes_all, takes_enough, is_worth_sending, waits_for_more};
+ghost use Rattle.tcp_halves.specs.Stream.{size_in, peer_unit, send_room, outstanding, is_new_ack, sending_from, sending_settled, after_syn_acknowledged, after_acknowledged, after_sent, after_probed, bare_number};
+ghost use Rattle.tcp_halves.specs.Windows.{window_in, after_syn_heard, after_window_update, open_window, unsent, usable, sendable, next_count, takes_all, takes_enough, is_worth_sending, waits_for_more};
 
 use crate::buffers::size_in;
 use std::marker::Model;
@@ -38,6 +38,8 @@ pub struct Sender {
     size: usize,
     /// How many octets a unit of the peer's windows has (RFC 7323 section 2.3).
     unit: u32,
+    /// Whether a window's probe took the number before SND.NXT, and it is the only one that is outstanding.
+    probed: bool,
 }
 
 impl Model for Sender {
@@ -48,7 +50,7 @@ impl Model for Sender {
 
     ghost Value = { Sending };
 
-    ghost view = { λ s. record { held = s.buffer.held; una = s.una.0; nxt = s.nxt.0; window = s.window; max_window = s.max_window; wl1 = s.wl1.0; wl2 = s.wl2.0; smss = s.smss; size = s.size; unit = s.unit } };
+    ghost view = { λ s. record { held = s.buffer.held; una = s.una.0; nxt = s.nxt.0; window = s.window; max_window = s.max_window; wl1 = s.wl1.0; wl2 = s.wl2.0; smss = s.smss; size = s.size; unit = s.unit; probed = s.probed } };
 
     ghost invariant = { λ s. (length s.buffer.held ≤ s.size) × (s.size ≤ s.buffer.capacity) × (s.size ≤ LARGEST_CAPACITY) × (0 < s.unit) × (s.unit ≤ 2 ^ MAX_SHIFT) };
 }
@@ -72,6 +74,7 @@ impl Sender {
             smss: DEFAULT_MSS,
             size,
             unit: 1,
+            probed: false,
         }
     }
 
@@ -169,6 +172,7 @@ impl Sender {
     {
         self.una = self.nxt;
         self.wl2 = self.nxt;
+        self.probed = false;
     }
 
     /// What is held goes out no more, and nothing is outstanding.
@@ -179,22 +183,26 @@ impl Sender {
         self.una = self.nxt;
     }
 
-    /// Octets are acknowledged, which are held no longer, or the FIN behind them all.
+    /// Octets are acknowledged, which are held no longer, or the FIN behind them all. They come off the window, whose end stays where it was told.
     pub fn acknowledge(&mut self, acknowledgement: Seq)
         ensures { self.new ≡ after_acknowledged self.old acknowledgement.0 }
     {
-        let gained = acknowledgement.past(self.una) as usize;
-        self.buffer.acked(gained.min(self.buffer.len()));
+        let gained = acknowledgement.past(self.una);
+        self.buffer.acked((gained as usize).min(self.buffer.len()));
         self.una = acknowledgement;
+        self.window = self.window.saturating_sub(gained);
+        self.probed = false;
     }
 
-    /// Whether the peer hears a segment at SND.NXT: that lies within its window, or past one that isn't closed by less than a unit.
-    pub fn hears_next(&self) -> bool
-        ensures { result ≡ hears_next self.now }
+    /// The number of a segment that brings nothing: SND.NXT, or the one before where only a probe took that.
+    pub fn bare_number(&self) -> Seq
+        ensures { result.0 ≡ bare_number self.now }
     {
-        let outstanding = self.outstanding();
-        outstanding <= self.window
-            || self.window > 0 && outstanding.saturating_sub(self.window) < self.unit
+        if self.probed {
+            self.nxt + u32::MAX
+        } else {
+            self.nxt
+        }
     }
 
     /// The window of a segment without SYN in octets, by its header's field (RFC 7323 section 2.3).
@@ -320,9 +328,20 @@ impl Sender {
         ensures { self.new ≡ after_sent self.old count }
     {
         let end = self.una + count;
-        if self.outstanding() <= end.past(self.una) {
+        let (was_out, goes_out) = (self.outstanding(), end.past(self.una));
+        self.probed = self.probed && goes_out <= was_out;
+        if was_out <= goes_out {
             self.nxt = end;
         }
+    }
+
+    /// So many numbers went out as a probe of the peer's window.
+    pub fn probe_sent(&mut self, count: u32)
+        ensures { self.new ≡ after_probed self.old count }
+    {
+        let is_first = self.outstanding() == 0;
+        self.sent(count);
+        self.probed = self.probed || is_first;
     }
 }
 

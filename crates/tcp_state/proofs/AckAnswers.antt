@@ -7,11 +7,11 @@ use Rattle.tcp_state.specs.declared.state.State.TheVariants.{SynSent, SynReceive
 use Rattle.tcp_halves.specs.Stream.{is_new_ack}
 use Rattle.tcp_state.specs.View.{View, is_opening, is_syn_sent, is_syn_received, is_closed}
 use Rattle.tcp_state.specs.Arrival.{owing_ack, after_establishment, is_of_fin, beyond_fin, fin_acknowledged, after_new_ack, is_off, after_ack, is_read_on, after_window, is_receiving, may_delay, after_text, beyond_end, counts_fin, after_fin, before}
-use Rattle.tcp_state.specs.Duties.{Places, is_out_of_reach, is_in_reach, may_bring, brings_text, hurries, draws}
+use Rattle.tcp_state.specs.Duties.{Places, is_out_of_reach, is_in_reach, may_bring, brings_text, hurries}
 use Rattle.tcp_halves.proofs.Choices.{either, clash, and_right, or_right}
 use Rattle.tcp_state.proofs.Segments.{after_reading, ack_receives}
 use Rattle.tcp_state.proofs.Standing.{AckOrder}
-use Rattle.tcp_state.proofs.DrawTests.{Answered, none_drawn, one_drawn}
+use Rattle.tcp_state.proofs.DrawTests.{drawn_at, Answered, none_drawn, one_drawn}
 
 -- An acknowledgement that is not read on.
 
@@ -62,7 +62,7 @@ not_on false false false e = cc
 
 pub unused_answered : (at : Places) (v : View) (s : Segment) → is_syn_sent v.state ≡ false
     → AckOrder (is_out_of_reach at v) (is_in_reach at v) (nat_lt at.una at.ack) (is_new_ack v.sending s.acknowledgement) (is_off v s.acknowledgement)
-    → draws at v s ≡ ((not (is_opening v.state) && is_out_of_reach at v) || (is_in_reach at v && (not (is_syn_received v.state) || nat_lt at.una at.ack) && may_bring v.state && (s.flags.fin || hurries at v s)))
+    → drawn_at at v s ≡ ((not (is_opening v.state) && is_out_of_reach at v) || (is_in_reach at v && (not (is_syn_received v.state) || nat_lt at.una at.ack) && may_bring v.state && (s.flags.fin || hurries at v s)))
     → (brings_text at v s && not (length s.octets == 0)) ≡ (is_in_reach at v && (not (is_syn_received v.state) || nat_lt at.una at.ack) && may_bring v.state && not (length s.octets == 0))
     → is_read_on v s.acknowledgement ≡ false → Answered at v s (after_ack v s.acknowledgement)
 unused_answered at v s past order d t off =
@@ -267,7 +267,7 @@ on_stands opening false beyond within above new before o opens on =
 pub used_answered : (at : Places) (v : View) (s : Segment)
     → AckOrder (is_out_of_reach at v) (is_in_reach at v) (nat_lt at.una at.ack) (is_new_ack v.sending s.acknowledgement) (is_off v s.acknowledgement)
     → (at.first == at.next) ≡ (s.number == v.receiving.rnext)
-    → draws at v s ≡ ((not (is_opening v.state) && is_out_of_reach at v) || (is_in_reach at v && (not (is_syn_received v.state) || nat_lt at.una at.ack) && may_bring v.state && (s.flags.fin || hurries at v s)))
+    → drawn_at at v s ≡ ((not (is_opening v.state) && is_out_of_reach at v) || (is_in_reach at v && (not (is_syn_received v.state) || nat_lt at.una at.ack) && may_bring v.state && (s.flags.fin || hurries at v s)))
     → (brings_text at v s && not (length s.octets == 0)) ≡ (is_in_reach at v && (not (is_syn_received v.state) || nat_lt at.una at.ack) && may_bring v.state && not (length s.octets == 0))
     → is_read_on v s.acknowledgement ≡ true → is_closed (after_reading v s).state ≡ false → Answered at v s (after_reading v s)
 used_answered at v s order same d t on lives =

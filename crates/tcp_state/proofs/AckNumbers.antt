@@ -1,85 +1,94 @@
--- Where an acknowledgement alone goes out: at SND.NXT, or at the end of the peer's window where that comes first.
-use Rattle.std.proofs.Common.{◌≡◌, ℕ, ◌+◌, ◌-◌, ◌<◌, ◌≤◌, ◌==◌, ◌||◌, ◌&&◌, ◌⊎◌, ◌%◌, ◌^◌, nat_le, nat_lt, if◌then◌else◌, inl, inr, Bool, true, false, arith, sym, ◌∙◌, ap, ap₂, subst}
-use Rattle.std.proofs.lemmas.Bool.{eq-eqb, le-leb, lt-leb, lt-ltb, le-ltb}
-use Rattle.std.proofs.lemmas.Bool.Decides.{leb_tells}
-use Rattle.tcp_segment.specs.Wire.{past}
+-- Where an acknowledgement alone goes out, and that a peer hears it there.
+use Rattle.std.proofs.Common.{◌≡◌, ℕ, ◌+◌, ◌-◌, ◌<◌, ◌≤◌, ◌==◌, ◌||◌, ◌&&◌, ◌^◌, not, nat_le, if◌then◌else◌, Bool, true, false, [], arith, refl, sym, ◌∙◌, ap, subst}
+use Rattle.std.proofs.lemmas.Bool.{eq-eqb, eqb-true}
+use Rattle.tcp_segment.specs.Wire.{wire, past}
 use Rattle.tcp_halves.specs.Halves.{Sending, Receiving}
-use Rattle.tcp_halves.specs.Stream.{outstanding, receive_window, is_in_window, is_acceptable}
-use Rattle.tcp_halves.specs.Windows.{hears_next}
-use Rattle.tcp_halves.proofs.Choices.{clash, and_false, both, or_left, or_right, neither}
-use Rattle.tcp_state.specs.View.{View, IsSound, is_opening}
-use Rattle.tcp_state.specs.Due.{ack_number}
+use Rattle.tcp_halves.specs.Stream.{outstanding, number_before, bare_number, receive_window, stands_before, is_acceptable}
+use Rattle.tcp_halves.proofs.Choices.{either, by, or_right}
+use Rattle.tcp_state.specs.declared.emission.Due.TheVariants.{Ack, KeepAlive}
+use Rattle.tcp_state.specs.View.{View, IsSound, is_opening, is_closed}
+use Rattle.tcp_state.specs.Due.{number_of}
+use Rattle.tcp_halves.specs.Heard.{settled}
+use Rattle.tcp_state.specs.Positions.{ReceivesAt}
+use Rattle.tcp_state.specs.Said.{segment_of}
+use Rattle.tcp_state.proofs.Positions.{empty}
 
--- the peer hears SND.NXT within its window, or less than a unit past one that isn't closed ..
-within_heard : (out window unit : ℕ) → (out ≤ window) ⊎ ((0 < window) × (out < window + unit)) → (nat_le out window || (nat_lt 0 window && nat_lt (out - window) unit)) ≡ true
-within_heard out window unit (inl within) = or_left (nat_le out window) (nat_lt 0 window && nat_lt (out - window) unit) (le-leb out window within)
-within_heard out window unit (inr less) = elim (leb_tells out window) [
-  | inl le ↦ or_left (nat_le out window) (nat_lt 0 window && nat_lt (out - window) unit) le.0
-  | inr lt ↦ or_right (nat_le out window) (nat_lt 0 window && nat_lt (out - window) unit)
-      (both (nat_lt 0 window) (nat_lt (out - window) unit) (lt-ltb 0 window less.0) (lt-ltb (out - window) unit (omega (arith, lt.1, less.1))))
-]
+-- what only a probe took is all that is outstanding
+only_one : (probed closed opening one : Bool) → (probed && not closed && (opening || not one)) ≡ false → closed ≡ false → probed ≡ true → (one ≡ true) × (opening ≡ false)
+only_one true false false true e c p = (refl, refl)
+only_one true false false false e c p = cc
+only_one true false true one e c p = cc
+only_one true true opening one e c p = cc
+only_one false closed opening one e c p = cc
 
--- .. and nowhere else
-beyond_unheard : (out window unit : ℕ) → window < out → (window ≡ 0) ⊎ (window + unit ≤ out) → (nat_le out window || (nat_lt 0 window && nat_lt (out - window) unit)) ≡ false
-beyond_unheard out window unit beyond (inl shut) = ap₂ (λ a b. a || (b && nat_lt (out - window) unit)) (lt-leb out window beyond) (le-ltb 0 window (omega (arith, shut)))
-beyond_unheard out window unit beyond (inr far) =
-    ap (λ a. a || (nat_lt 0 window && nat_lt (out - window) unit)) (lt-leb out window beyond) ∙ (ap (λ b. nat_lt 0 window && b) (le-ltb (out - window) unit (omega (arith, beyond, far))) ∙ and_false (nat_lt 0 window))
+pub probed_is_one : (v : View) → IsSound v → is_closed v.state ≡ false → v.sending.probed ≡ true → outstanding v.sending ≡ 1
+probed_is_one v sound lives probed =
+    eqb-true (outstanding v.sending) 1 (only_one v.sending.probed (is_closed v.state) (is_opening v.state) (outstanding v.sending == 1) sound.probed lives probed).0
 
--- so what it doesn't hear lies past its window
-pub unheard_beyond : (s : Sending) → hears_next s ≡ false → s.window < outstanding s
-unheard_beyond s unheard =
-    let far = neither (nat_le (outstanding s) s.window) (nat_lt 0 s.window && nat_lt (outstanding s - s.window) s.unit) unheard in
-    elim (leb_tells (outstanding s) s.window) [ inl le ↦ clash (nat_le (outstanding s) s.window) le.0 far.0 | inr lt ↦ lt.1 ]
+-- .. past the opening
+pub probed_is_open : (v : View) → IsSound v → is_closed v.state ≡ false → v.sending.probed ≡ true → is_opening v.state ≡ false
+probed_is_open v sound lives probed = (only_one v.sending.probed (is_closed v.state) (is_opening v.state) (outstanding v.sending == 1) sound.probed lives probed).1
 
--- the two numbers that an acknowledgement alone may have
-number_at : (v : View) → is_opening v.state ≡ false → ack_number v ≡ (if hears_next v.sending then v.sending.nxt else (v.sending.una + v.sending.window) % 2 ^ 32)
-number_at v opened = ap (λ o. if o || hears_next v.sending then v.sending.nxt else (v.sending.una + v.sending.window) % 2 ^ 32) opened
+-- the two numbers that it may have
+pub bare_at_next : (s : Sending) → s.probed ≡ false → bare_number s ≡ s.nxt
+bare_at_next s none = ap (λ b. if b then number_before s.nxt else s.nxt) none
 
-pub ack_at_next : (v : View) → IsSound v → is_opening v.state ≡ false → (outstanding v.sending ≤ v.sending.window) ⊎ ((0 < v.sending.window) × (outstanding v.sending < v.sending.window + v.sending.unit))
-    → ack_number v ≡ v.sending.nxt
-ack_at_next v sound opened near =
-    let s = v.sending in
-    number_at v opened ∙ ap (λ b. if b then s.nxt else (s.una + s.window) % 2 ^ 32) (within_heard (outstanding s) s.window s.unit near)
-
-pub ack_at_end : (v : View) → IsSound v → is_opening v.state ≡ false → v.sending.window < outstanding v.sending → (v.sending.window ≡ 0) ⊎ (v.sending.window + v.sending.unit ≤ outstanding v.sending)
-    → past (ack_number v) v.sending.una ≡ v.sending.window
-ack_at_end v sound opened beyond far =
-    let s = v.sending in
-    let is : ack_number v ≡ (s.una + s.window) % 2 ^ 32 = number_at v opened ∙ ap (λ b. if b then s.nxt else (s.una + s.window) % 2 ^ 32) (beyond_unheard (outstanding s) s.window s.unit beyond far) in
-    ap (λ n. past n s.una) is ∙ omega (arith, beyond, sound.una, sound.nxt)
-
--- it lies within the window, or less than a unit past one that isn't closed
-pub ack_within : (v : View) → IsSound v → is_opening v.state ≡ false
-    → (past (ack_number v) v.sending.una ≤ v.sending.window) ⊎ ((0 < v.sending.window) × (past (ack_number v) v.sending.una < v.sending.window + v.sending.unit))
-ack_within v sound opened =
-    let s = v.sending in
-    elim (leb_tells (outstanding s) s.window) [
-      | inl le ↦ let is = ack_at_next v sound opened (inl le.1) in inl (omega (arith, ap (λ n. past n s.una) is, le.1))
-      | inr lt ↦ elim (leb_tells (s.window + s.unit) (outstanding s)) [
-        | inl far ↦ let is = ack_at_end v sound opened lt.1 (inr far.1) in inl (omega (arith, is))
-        | inr near ↦ elim (leb_tells 1 s.window) [
-          | inl some ↦
-              let some_left : 0 < s.window = omega (arith, some.1) in
-              let is = ack_at_next v sound opened (inr (some_left, near.1)) in
-              inr (some_left, omega (arith, ap (λ n. past n s.una) is, near.1))
-          | inr none ↦ let is = ack_at_end v sound opened lt.1 (inl (omega (arith, none.1))) in inl (omega (arith, is))
-        ]
-      ]
-    ]
+pub bare_before : (s : Sending) → s.probed ≡ true → bare_number s ≡ number_before s.nxt
+bare_before s probed = ap (λ b. if b then number_before s.nxt else s.nxt) probed
 
 -- it is a number of 32 bits
-pub ack_fits : (v : View) → IsSound v → ack_number v < 2 ^ 32
-ack_fits v sound = either_fits (is_opening v.state || hears_next v.sending)
-  where
-    either_fits : (b : Bool) → (if b then v.sending.nxt else (v.sending.una + v.sending.window) % 2 ^ 32) < 2 ^ 32
-    either_fits true = sound.nxt
-    either_fits false = omega arith
+pub bare_fits : (v : View) → IsSound v → bare_number v.sending < 2 ^ 32
+bare_fits v sound = either ℕ (λ n. n < 2 ^ 32) v.sending.probed (number_before v.sending.nxt) v.sending.nxt (λ probed. omega arith) (λ none. sound.nxt)
 
--- so a peer that stands at SND.UNA, and whose window is closed, hears it
-pub ack_heard : (v : View) (peer : Receiving) → IsSound v → is_opening v.state ≡ false → v.sending.window ≡ 0 → peer.rnext ≡ v.sending.una → receive_window peer ≡ 0
-    → is_acceptable peer (ack_number v) 0 ≡ true
-ack_heard v peer sound opened closed stands shut =
-    let s = v.sending in
-    let none : past (ack_number v) s.una ≡ 0 = elim (ack_within v sound opened) [ inl within ↦ omega (arith, within, closed) | inr beyond ↦ absurd (omega (arith, closed, beyond.0)) ] in
-    let at : ack_number v ≡ s.una = omega (arith, none, sound.una, ack_fits v sound) in
-    subst (λ b. (if b then ack_number v == peer.rnext else is_in_window peer (ack_number v)) ≡ true) (sym (eq-eqb (receive_window peer) 0 shut)) (eq-eqb (ack_number v) peer.rnext (at ∙ sym stands))
+-- with nothing outstanding no probe is
+pub bare_at_rest : (v : View) → IsSound v → is_closed v.state ≡ false → outstanding v.sending ≡ 0 → bare_number v.sending ≡ v.sending.nxt
+bare_at_rest v sound lives none =
+    by (bare_number v.sending ≡ v.sending.nxt) v.sending.probed (λ probed. absurd (let one = probed_is_one v sound lives probed in omega (arith, one, none))) (bare_at_next v.sending)
+
+-- what is said of it
+pub alone_says : (v : View) → IsSound v → (let s = segment_of v Ack in (s.octets ≡ []) × (v.sending.probed ≡ false → s.number ≡ v.sending.nxt) × (v.sending.probed ≡ true → wire s.number 1 ≡ v.sending.nxt))
+alone_says v sound = (refl, bare_at_next v.sending, λ probed. ap (λ n. wire n 1) (bare_before v.sending probed) ∙ omega (arith, sound.nxt))
+
+pub number_next : (v : View) → v.sending.probed ≡ false → number_of v Ack ≡ v.sending.nxt
+number_next v none = bare_at_next v.sending none
+
+pub number_probed : (v : View) → IsSound v → is_closed v.state ≡ false → v.sending.probed ≡ true → (number_of v Ack ≡ v.sending.una) × (wire v.sending.una 1 ≡ v.sending.nxt)
+number_probed v sound lives probed =
+    let one = probed_is_one v sound lives probed in
+    (bare_before v.sending probed ∙ omega (arith, one, sound.una, sound.nxt), omega (arith, one, sound.una, sound.nxt))
+
+-- how far past SND.UNA it stands
+all_settled : (v : View) → v.sending.probed ≡ false → settled v.sending ≡ outstanding v.sending
+all_settled v none = ap (λ b. outstanding v.sending - (if b then 1 else 0)) none ∙ omega arith
+
+one_unsettled : (v : View) → v.sending.probed ≡ true → settled v.sending ≡ outstanding v.sending - 1
+one_unsettled v probed = ap (λ b. outstanding v.sending - (if b then 1 else 0)) probed
+
+pub stands_at : (v : View) → IsSound v → is_closed v.state ≡ false → number_of v Ack ≡ wire v.sending.una (settled v.sending)
+stands_at v sound lives =
+    by (number_of v Ack ≡ wire v.sending.una (settled v.sending)) v.sending.probed
+    (λ probed. let one = probed_is_one v sound lives probed in (number_probed v sound lives probed).0 ∙ omega (arith, one_unsettled v probed, one, sound.una))
+    (λ none. number_next v none ∙ omega (arith, all_settled v none, sound.una, sound.nxt))
+
+pub ack_within : (v : View) → IsSound v → is_closed v.state ≡ false → settled v.sending ≤ v.sending.window → past (number_of v Ack) v.sending.una ≤ v.sending.window
+ack_within v sound lives within =
+    let few : settled v.sending < 2 ^ 32 = omega arith in
+    omega (arith, ap (λ n. past n v.sending.una) (stands_at v sound lives), few, sound.una, within)
+
+-- all but what was probed with, or one less
+most_settled : (v : View) → IsSound v → is_closed v.state ≡ false → outstanding v.sending ≤ settled v.sending + 1
+most_settled v sound lives =
+    by (outstanding v.sending ≤ settled v.sending + 1) v.sending.probed (λ probed. omega (arith, one_unsettled v probed)) (λ none. omega (arith, all_settled v none))
+
+pub ack_heard : (initial una next edge : ℕ) (v : View) (peer : Receiving) → IsSound v → is_closed v.state ≡ false → v.sending.una ≡ wire initial una → ReceivesAt initial next edge peer
+    → una ≤ next → next ≤ una + outstanding v.sending → una + settled v.sending ≤ edge → is_acceptable peer (number_of v Ack) 0 ≡ true
+ack_heard initial una next edge v peer sound lives stands at from to within =
+    let most = most_settled v sound lives in
+    let number : number_of v Ack ≡ wire initial (una + settled v.sending) = stands_at v sound lives ∙ omega (arith, stands) in
+    subst (λ n. is_acceptable peer n 0 ≡ true) (sym number)
+    ((empty initial next edge (una + settled v.sending) peer at (record { behind = omega (arith, most, to); ahead = omega (arith, at.near, within) })).1 (omega (arith, most, to), within))
+
+pub asking_heard : (v : View) (peer : Receiving) → IsSound v → peer.rnext ≡ v.sending.nxt → is_acceptable peer (number_of v KeepAlive) 0 ≡ true
+asking_heard v peer sound same =
+    or_right (nat_le (past (number_of v KeepAlive) peer.rnext) (receive_window peer)) (stands_before peer (number_of v KeepAlive))
+    (eq-eqb (past peer.rnext (number_of v KeepAlive)) 1 (omega (arith, same, sound.nxt)))

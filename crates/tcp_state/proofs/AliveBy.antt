@@ -3,7 +3,7 @@ use Rattle.std.proofs.Common.{◌≡◌, ℕ, ◌==◌, ◌||◌, ◌⊎◌, not
 use Rattle.tcp_segment.specs.Segment.{Segment}
 use Rattle.clock.specs.declared.moment.Moment.{Moment}
 use Rattle.clock.specs.Moments.{has_come}
-use Rattle.tcp_halves.specs.Stream.{outstanding, after_sent}
+use Rattle.tcp_halves.specs.Stream.{outstanding, after_probed}
 use Rattle.tcp_halves.proofs.Choices.{either}
 use Rattle.tcp_state.specs.declared.alive.KeepAlive.{KeepAlive}
 use Rattle.tcp_state.specs.declared.calls.Refusal.TheVariants.{ECONNREFUSED, ETIMEDOUT}
@@ -71,7 +71,7 @@ out_alive v (Text stretch) now =
     let all = numbers_alive v stretch.offset (end_of stretch) now in
     as_before v (Emits now) _ (either View (Same v) (brings_new_octets v stretch) (after_new_text sent stretch) sent (λ new. all) (λ old. all))
 out_alive v Probe now =
-    let sent = record v { sending = after_sent v.sending (end_of (probe_stretch v)); resend = resend_probed v.resend } in
+    let sent = record v { sending = after_probed v.sending (end_of (probe_stretch v)); resend = resend_probed v.resend } in
     as_before v (Emits now) _ (either View (Same v) (brings_new_octets v (probe_stretch v)) (after_new_octets sent) sent (λ new. refl) (λ old. refl))
 out_alive v Ack now = stays (Emits now)
 out_alive v Asks now = went_out now

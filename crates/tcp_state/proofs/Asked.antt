@@ -19,6 +19,7 @@ asked_sound v alive k = record {
   flight = k.flight;
   mark = k.mark;
   small = k.small;
+  probed = k.probed;
   recover = k.recover;
   tail = k.tail;
   resend = k.resend;

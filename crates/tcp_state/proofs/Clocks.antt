@@ -3,6 +3,7 @@ use Rattle.std.proofs.Common.{◌≡◌, ℕ, ◌+◌, ◌<◌, ◌≤◌, ◌==
 use Rattle.std.proofs.lemmas.Bool.{leb-true, eqb-true, eq-eqb, lt-ltb}
 use Rattle.std.proofs.lemmas.Bool.Decides.{eqb_tells}
 use Rattle.tcp_segment.specs.Segment.{Segment}
+use Rattle.tcp_segment.specs.Wire.{wire}
 use Rattle.clock.specs.declared.moment.Moment.{Moment}
 use Rattle.clock.specs.Moments.{after, has_come}
 use Rattle.retransmit.specs.declared.timers.Timers.{Timers}
@@ -10,16 +11,21 @@ use Rattle.retransmit.specs.Deadlines.{no_timers}
 use Rattle.tcp_state.specs.declared.state.State.{State}
 use Rattle.tcp_state.specs.declared.state.State.TheVariants.{SynSent, SynReceived}
 use Rattle.tcp_state.specs.declared.emission.Due.{Due}
+use Rattle.tcp_state.specs.declared.emission.Due.TheVariants.{Ack}
 use Rattle.tcp_halves.specs.Stream.{outstanding}
 use Rattle.tcp_state.specs.Resend.{Resend, stopped, resend_acknowledged}
-use Rattle.tcp_state.specs.View.{View, is_opening, is_syn_sent, is_syn_received, is_closed, is_fin_wait_2}
+use Rattle.tcp_state.specs.View.{View, IsSound, is_opening, is_syn_sent, is_syn_received, is_closed, is_fin_wait_2}
 use Rattle.tcp_state.specs.Timing.{probes, retransmits, awaits_more, running, clocked, expires, retransmission_expired, probe_expired, after_expiry, delayed_ack_expired, after_timers}
 use Rattle.tcp_state.specs.Calls.{told_nodelay, latest, aborted_at}
 use Rattle.tcp_state.specs.Alive.{after_silence}
 use Rattle.tcp_state.specs.Arrival.{after_heard, acknowledges_unsent, is_rejected, is_acceptable_to, answers_probe, timed_by, before, is_moved, resend_heard, resend_after, noted_by}
 use Rattle.tcp_state.specs.Due.{first_due, after_going_out}
 use Rattle.tcp_state.specs.Edges.{Event, Hears, Ticks, Emits, Sends, Receives, Shuts, SetsNoDelay, Closes, Unreachable, LosesHop, moment_of, after_first, after_event}
-use Rattle.tcp_halves.proofs.Choices.{either, clash, and_left, and_right, both, or_left, or_right, not_true, of_false}
+use Rattle.tcp_halves.specs.Heard.{settled}
+use Rattle.tcp_state.specs.Positions.{ReceivesAt}
+use Rattle.tcp_state.specs.Said.{segment_of}
+use Rattle.tcp_halves.proofs.Choices.{either, clash, and_left, and_right, both, or_left, or_right, neither, not_true, of_false}
+use Rattle.tcp_state.proofs.AckNumbers.{ack_heard}
 use Rattle.tcp_state.proofs.Segments.{by_clock}
 use Rattle.tcp_state.proofs.Events.{holding, shut, by_event}
 use Rattle.tcp_state.proofs.Clocked.{heard_paced, after_paced}
@@ -443,3 +449,11 @@ answered v s now lives opened shut fits acks unreset =
     let heard : P (resend_heard b w now) = either Resend P (is_moved b w) (resend_acknowledged w.resend w.sending.una (is_opening b.state) now) _ (λ moved. refl)
     (λ unmoved. either Resend P (answers_probe v s) (record w.resend { expiries = 0 }) w.resend (λ answers. refl) (λ silent. clash (answers_probe v s) told silent)) in
     either View (λ x. x.resend.expiries ≡ 0) (is_closed v.state || is_rejected v s) v (timed_by b w now) (λ is. clash (is_closed v.state || is_rejected v s) is quiet) (λ goes. after_paced b w now P heard heard (λ r. heard) heard)
+
+-- .. where that is a host of this stack, whatever its window
+pub answered_by_peer : (initial una next edge : ℕ) (v peer : View) (now : Moment) → is_closed v.state ≡ false → is_opening v.state ≡ false → v.sending.window ≡ 0
+    → IsSound peer → (is_syn_sent peer.state || is_closed peer.state) ≡ false → peer.sending.una ≡ wire initial una → ReceivesAt initial next edge v.receiving → una ≤ next → next ≤ una + outstanding peer.sending
+    → una + settled peer.sending ≤ edge → (after_event v (Hears (segment_of peer Ack) now)).resend.expiries ≡ 0
+answered_by_peer initial una next edge v peer now lives opened shut sound speaks stands at from to within =
+    answered v (segment_of peer Ack) now lives opened shut
+    (ack_heard initial una next edge peer v.receiving sound (neither (is_syn_sent peer.state) (is_closed peer.state) speaks).1 stands at from to within) refl refl

@@ -3,7 +3,7 @@ use Rattle.std.proofs.Common.{◌≡◌, ◌==◌, ◌||◌, ◌&&◌, not, nat_
 use Rattle.tcp_segment.specs.Segment.{Segment}
 use Rattle.tcp_state.specs.View.{View, is_syn_received}
 use Rattle.tcp_state.specs.Arrival.{owing_ack, is_acceptable_to}
-use Rattle.tcp_state.specs.Duties.{Places, acknowledges, is_in_reach, may_bring, brings_text, draws}
+use Rattle.tcp_state.specs.Duties.{Places, acknowledges, is_in_reach, may_bring, brings_text, is_unacceptable, is_challenged, is_another_syn, is_astray, hurries}
 
 -- all that draws one, by its tests
 abbrev pub drawn : (rst accepted syn ack behind below bars opening beyond within right may last : Bool) → Bool
@@ -86,9 +86,13 @@ no_ack_says_none false true false true e = cc
 
 -- The answer.
 
+-- what draws one by the steps of its arrival
+abbrev pub drawn_at : Places → View → Segment → Bool
+drawn_at at v s = is_unacceptable v s || is_challenged at s || is_another_syn v s || is_astray at v s || (brings_text at v s && (s.flags.fin || hurries at v s))
+
 -- what is owed and what is delayed after a segment
 pub record Answered (at : Places) (v : View) (s : Segment) (w : View) : Type 0 where
-  pub owes : w.owes_ack ≡ (v.owes_ack || draws at v s)
+  pub owes : w.owes_ack ≡ (v.owes_ack || drawn_at at v s)
   pub delays : w.delays_ack ≡ (v.delays_ack || (brings_text at v s && not (length s.octets == 0)))
 
 pub as_it_was : (b c : Bool) → c ≡ false → b ≡ (b || c)
@@ -102,11 +106,11 @@ with_it false true e = refl
 with_it false false e = cc
 
 -- it draws one or none, and has no octets that are looked at
-pub none_drawn : (at : Places) (v : View) (s : Segment) → draws at v s ≡ false → (brings_text at v s && not (length s.octets == 0)) ≡ false → Answered at v s v
-none_drawn at v s none quiet = record { owes = as_it_was v.owes_ack (draws at v s) none; delays = as_it_was v.delays_ack _ quiet }
+pub none_drawn : (at : Places) (v : View) (s : Segment) → drawn_at at v s ≡ false → (brings_text at v s && not (length s.octets == 0)) ≡ false → Answered at v s v
+none_drawn at v s none quiet = record { owes = as_it_was v.owes_ack (drawn_at at v s) none; delays = as_it_was v.delays_ack _ quiet }
 
-pub one_drawn : (at : Places) (v : View) (s : Segment) → draws at v s ≡ true → (brings_text at v s && not (length s.octets == 0)) ≡ false → Answered at v s (owing_ack v)
-one_drawn at v s one quiet = record { owes = with_it v.owes_ack (draws at v s) one; delays = as_it_was v.delays_ack _ quiet }
+pub one_drawn : (at : Places) (v : View) (s : Segment) → drawn_at at v s ≡ true → (brings_text at v s && not (length s.octets == 0)) ≡ false → Answered at v s (owing_ack v)
+one_drawn at v s one quiet = record { owes = with_it v.owes_ack (drawn_at at v s) one; delays = as_it_was v.delays_ack _ quiet }
 
 -- no text is brought where nothing is acknowledged
 pub quiet : (at : Places) (v : View) (s : Segment) → acknowledges v s ≡ false → (brings_text at v s && not (length s.octets == 0)) ≡ false

@@ -5,7 +5,7 @@ use Rattle.clock.specs.declared.moment.Moment.{Moment}
 use Rattle.tcp_state.specs.declared.emission.Due.{Due}
 use Rattle.tcp_state.specs.declared.emission.Due.TheVariants.{Rst, Syn, Text, Probe, Ack, KeepAlive}
 use Rattle.tcp_state.specs.declared.emission.Stretch.{Stretch}
-use Rattle.tcp_halves.specs.Stream.{outstanding, after_sent}
+use Rattle.tcp_halves.specs.Stream.{outstanding, after_sent, after_probed}
 use Rattle.tcp_state.specs.Resend.{resend_probed}
 use Rattle.tcp_state.specs.View.{View, is_opening}
 use Rattle.tcp_state.specs.Timing.{probes}
@@ -69,10 +69,10 @@ stretch_sends v stretch now =
     let all = numbers_send v stretch.offset (end_of stretch) now in
     either View (λ w. w.sending ≡ after_sent v.sending (end_of stretch)) (brings_new_octets v stretch) (after_new_text sent stretch) sent (λ new. all) (λ old. all)
 
-pub probe_sends : (v : View) → (after_probe v).sending ≡ after_sent v.sending (end_of (probe_stretch v))
+pub probe_sends : (v : View) → (after_probe v).sending ≡ after_probed v.sending (end_of (probe_stretch v))
 probe_sends v =
-    let sent = record v { sending = after_sent v.sending (end_of (probe_stretch v)); resend = resend_probed v.resend } in
-    either View (λ w. w.sending ≡ after_sent v.sending (end_of (probe_stretch v))) (brings_new_octets v (probe_stretch v)) (after_new_octets sent) sent (λ new. refl) (λ old. refl)
+    let sent = record v { sending = after_probed v.sending (end_of (probe_stretch v)); resend = resend_probed v.resend } in
+    either View (λ w. w.sending ≡ after_probed v.sending (end_of (probe_stretch v))) (brings_new_octets v (probe_stretch v)) (after_new_octets sent) sent (λ new. refl) (λ old. refl)
 
 -- The receiving half: it is as it was before the acknowledgement.
 
@@ -88,5 +88,5 @@ stretch_receives v stretch now =
 
 pub probe_receives : (v : View) → (after_probe v).receiving ≡ v.receiving
 probe_receives v =
-    let sent = record v { sending = after_sent v.sending (end_of (probe_stretch v)); resend = resend_probed v.resend } in
+    let sent = record v { sending = after_probed v.sending (end_of (probe_stretch v)); resend = resend_probed v.resend } in
     either View (λ w. w.receiving ≡ v.receiving) (brings_new_octets v (probe_stretch v)) (after_new_octets sent) sent (λ new. refl) (λ old. refl)

@@ -42,6 +42,7 @@ first_syn_sound v s advertised sound waits few =
       flight = subst (λ t. outstanding v.sending ≤ length v.sending.held + (if takes_flag_number t then 1 else 0)) waits sound.flight;
       mark = sound.mark;
       small = sound.small;
+      probed = subst (λ t. (v.sending.probed && not (is_closed t) && (is_opening t || not (outstanding v.sending == 1))) ≡ false) waits sound.probed;
       recover = sound.recover;
       tail = sound.tail;
       resend = sound.resend;

@@ -9,7 +9,7 @@ use Rattle.tcp_state.specs.declared.emission.Due.{Due}
 use Rattle.tcp_state.specs.declared.emission.Due.TheVariants.{Rst, Syn, Text, Probe, Ack, KeepAlive}
 use Rattle.tcp_state.specs.declared.emission.Stretch.{Stretch}
 use Rattle.tcp_halves.specs.Halves.{Sending}
-use Rattle.tcp_halves.specs.Stream.{outstanding, after_sent}
+use Rattle.tcp_halves.specs.Stream.{outstanding, after_probed}
 use Rattle.tcp_halves.specs.Windows.{updates_window}
 use Rattle.tcp_halves.proofs.Choices.{either, by, both, and_left, and_right, not_true, of_false}
 use Rattle.tcp_state.specs.Resend.{Resend, stopped, resend_probed}
@@ -132,7 +132,7 @@ small_begins v stretch now first is = ap (λ o. (after_first v o now).resend.sma
 
 probe_left : (v : View) (now : Moment) → IsSound v → Left v (after_emitted v Probe now)
 probe_left v now sound =
-    let sent = record v { sending = after_sent v.sending (end_of (probe_stretch v)); resend = resend_probed v.resend } in
+    let sent = record v { sending = after_probed v.sending (end_of (probe_stretch v)); resend = resend_probed v.resend } in
     either View (Left v) (brings_new_octets v (probe_stretch v)) (after_new_octets sent) sent (λ new. there v sound) (λ old. there v sound)
 
 -- Every event.

@@ -1,5 +1,5 @@
 -- Why a connection that has not spoken leaves its peer a window.
-use Rattle.std.proofs.Common.{◌≡◌, ℕ, zero, suc, ◌+◌, ◌-◌, ◌*◌, ◌%◌, ◌^◌, ◌<◌, ◌≤◌, ◌==◌, ◌||◌, ◌&&◌, not, nat_le, nat_lt, if◌then◌else◌, Bool, true, false, List, [], ◌∷◌, ◌++◌, length, take, drop, map, Option, Some, None, inl, inr, arith, refl, sym, ◌∙◌, ap, subst, length-append}
+use Rattle.std.proofs.Common.{◌≡◌, ℕ, zero, suc, ◌+◌, ◌-◌, ◌*◌, ◌%◌, ◌^◌, ◌<◌, ◌≤◌, ◌==◌, ◌||◌, ◌&&◌, not, nat_le, nat_lt, if◌then◌else◌, Bool, true, false, List, [], ◌∷◌, ◌++◌, length, take, drop, map, Option, Some, None, inl, inr, arith, refl, sym, ◌∙◌, ap, ap₂, subst, length-append}
 use Rattle.std.proofs.lemmas.List.{length-take, length-drop}
 use Rattle.std.proofs.lemmas.Bool.{eqb-true, ltb-true, leb-true}
 use Rattle.std.proofs.lemmas.Bool.Decides.{leb_tells}
@@ -26,7 +26,7 @@ use Rattle.tcp_state.specs.View.{View, IsSound, opened_actively, is_opening, is_
 use Rattle.tcp_state.specs.Alive.{after_silence}
 use Rattle.tcp_state.specs.Timing.{clocked, retransmission_expired, probe_expired, after_expiry, delayed_ack_expired, after_timers}
 use Rattle.tcp_state.specs.Calls.{beyond_shutdown}
-use Rattle.tcp_state.specs.Arrival.{opened_passively, scales_with, after_simultaneous_syn, beyond_fin, after_ack, after_window, is_receiving, may_delay, after_text, beyond_end, after_fin, after_heard, draws_one, is_opening_syn, is_held_back, before, timed_by}
+use Rattle.tcp_state.specs.Arrival.{opened_passively, scales_with, after_simultaneous_syn, beyond_fin, after_ack, after_window, is_receiving, may_delay, after_text, beyond_end, after_fin, after_heard, draws_one, is_opening_syn, owes_answer, is_held_back, before, timed_by}
 use Rattle.tcp_state.specs.Due.{after_syn_ack_paid, after_speaking, after_resent, after_first_sent, after_numbers, after_stretch, after_probe, after_syn_out, after_emitted, again, new_octets, fin_alone, first_due}
 use Rattle.tcp_state.specs.Edges.{Event, after_first, after_event}
 use Rattle.tcp_state.specs.Guard.{is_spent}
@@ -37,6 +37,7 @@ use Rattle.tcp_state.proofs.Emissions.{by_due, stretch_receives, probe_receives}
 use Rattle.tcp_state.proofs.Clocked.{syn_out}
 use Rattle.tcp_state.proofs.Gains.{receiving_lives}
 use Rattle.tcp_state.proofs.Sound.{sound_keeping}
+use Rattle.tcp_state.proofs.Bare.{leaves, asking_tells}
 use Rattle.tcp_state.proofs.Unused.{unused_owes, drawing_tells, asking_owes}
 use Rattle.tcp_state.proofs.ToldRoom.{none_owed, segment_told}
 
@@ -317,8 +318,18 @@ LeftFor x = least_left x.delays_ack ≤ receive_window x.receiving
 drawn_leaves : (v : View) (s : Segment) → is_closed v.state ≡ false → Parts v → draws_one v s ≡ true → (let w = after_heard v s in (is_opening w.state || is_closed w.state) ≡ false → w.spoke ≡ false → LeftFor w)
 drawn_leaves v s lives p draws opened silent =
     let d = drawing_tells v s draws in
-    let same = unused_owes v s lives d.past d.unused in
-    subst LeftFor (sym same) (p.2 (sym (ap (λ (x : View). is_opening x.state || is_closed x.state) same) ∙ opened) (sym (ap (λ (x : View). x.spoke) same) ∙ silent) d.free)
+    let w = after_heard v s in
+    elim d.unused [
+      | inl unused ↦
+          let same = unused_owes v s lives d.past unused in
+          subst LeftFor (sym same) (p.2 (sym (ap (λ (x : View). is_opening x.state || is_closed x.state) same) ∙ opened) (sym (ap (λ (x : View). x.spoke) same) ∙ silent) d.free)
+      | inr is ↦
+          let a = asking_tells v s is in
+          let l = leaves v s a.opened a.none in
+          let left : LeftFor v = p.2 (ap₂ (λ b c. b || c) a.opened lives) (sym l.spoke ∙ silent) d.free in
+          subst (λ b. least_left b ≤ receive_window w.receiving) (sym (l.delays (neither (is_opening w.state) (is_closed w.state) opened).1))
+          (subst (λ r. least_left v.delays_ack ≤ receive_window r) (sym l.receiving) left)
+    ]
 
 asked_leaves : (v : View) (s : Segment) → is_opening_syn v s ≡ true → (let w = after_heard v s in (is_opening w.state || is_closed w.state) ≡ false → LeftFor w)
 asked_leaves v s asks opened =
@@ -336,7 +347,7 @@ timed_leaves v s now lives p q =
             | inl held ↦ drawn_leaves v s lives p (and_left b.draws_one (is_spent w.guard now) held) opened silent
             | inr asks ↦ asked_leaves v s (and_right v.guard.on (is_opening_syn v s) asks) opened
           ])
-          (λ loud. q.2 opened silent (sym (ap (λ x. if x then false else w.owes_ack) loud) ∙ free)),
+          (λ loud. q.2 opened silent (neither w.owes_ack _ (sym (ap (λ x. if x then false else owes_answer b w) loud) ∙ free)).0),
     )
 
 event_parts : (v : View) (e : Event) → IsSound v → IsSized e → Parts v → Parts (after_event v e)

@@ -37,6 +37,7 @@ pub mod Rejecting
 pub mod Emissions
 pub mod NewNumbers
 pub mod AckNumbers
+pub mod SentNumbers
 pub mod Deadlines
 pub mod Timers
 pub mod Resends
@@ -107,6 +108,7 @@ pub mod SetUp
 pub mod Duplicates
 pub mod Recovering
 pub mod Transmits
+pub mod Bare
 pub mod BlocksTold
 pub mod KeptTold
 pub mod TailProbes

@@ -15,7 +15,7 @@ use Rattle.tcp_state.specs.declared.state.State.{State}
 use Rattle.tcp_state.specs.declared.state.State.TheVariants.{SynSent, SynReceived}
 use Rattle.tcp_halves.specs.Numbers.{is_before}
 use Rattle.tcp_halves.specs.Halves.{Sending}
-use Rattle.tcp_halves.specs.Stream.{outstanding, is_new_ack}
+use Rattle.tcp_halves.specs.Stream.{outstanding, is_new_ack, stands_before}
 use Rattle.tcp_halves.specs.Windows.{window_in, updates_window}
 use Rattle.tcp_state.specs.Resend.{Resend, stopped, is_alone, mark_past, mark_left, resend_lost, resend_ends}
 use Rattle.tcp_state.specs.View.{View, IsSound, is_opening, is_syn_sent, is_syn_received, is_closed}
@@ -51,7 +51,9 @@ twice v s e =
     let three = two && nat_lt 0 (octets_outstanding v) in
     let four = three && (length s.octets == 0) in
     let five = four && not s.flags.fin in
-    let e6 = and_left (five && (s.acknowledgement == v.sending.una)) (window_in v.sending s.window == v.sending.window) e in
+    let six = five && (s.acknowledgement == v.sending.una) in
+    let e7 = and_left (six && (window_in v.sending s.window == v.sending.window)) (not (stands_before v.receiving s.number)) e in
+    let e6 = and_left six (window_in v.sending s.window == v.sending.window) e7 in
     let e5 = and_left five (s.acknowledgement == v.sending.una) e6 in
     let e4 = and_left four (not s.flags.fin) e5 in
     let e3 = and_left three (length s.octets == 0) e4 in

@@ -7,7 +7,7 @@ use Rattle.clock.specs.Moments.{has_come}
 use Rattle.tcp_state.specs.declared.emission.Due.{Due}
 use Rattle.tcp_state.specs.declared.emission.Due.TheVariants.{Rst, Syn, Text, Probe, Ack, KeepAlive}
 use Rattle.tcp_state.specs.declared.emission.Stretch.{Stretch}
-use Rattle.tcp_halves.specs.Stream.{outstanding, after_sent}
+use Rattle.tcp_halves.specs.Stream.{outstanding, after_probed}
 use Rattle.tcp_halves.proofs.Choices.{either, by, clash, or_else, or_left, or_right}
 use Rattle.tcp_state.specs.Resend.{Resend, stopped, resend_probed}
 use Rattle.tcp_state.specs.View.{View, is_closed, is_syn_received}
@@ -68,7 +68,7 @@ stretch_same v stretch now =
 
 probe_same : (v : View) → Same v (after_probe v)
 probe_same v =
-    let sent = record v { sending = after_sent v.sending (end_of (probe_stretch v)); resend = resend_probed v.resend } in
+    let sent = record v { sending = after_probed v.sending (end_of (probe_stretch v)); resend = resend_probed v.resend } in
     either View (Same v) (brings_new_octets v (probe_stretch v)) (after_new_octets sent) sent (λ new. refl) (λ old. refl)
 
 -- our SYN, once more: it is so where it expired

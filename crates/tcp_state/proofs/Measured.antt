@@ -7,7 +7,7 @@ use Rattle.retransmit.specs.Timeout.{Timeout, after_sample, after_lost_syn}
 use Rattle.tcp_state.specs.declared.emission.Due.{Due}
 use Rattle.tcp_state.specs.declared.emission.Due.TheVariants.{Rst, Syn, Text, Probe, Ack, KeepAlive}
 use Rattle.tcp_state.specs.declared.resend.Timed.{Timed}
-use Rattle.tcp_halves.specs.Stream.{outstanding, after_sent}
+use Rattle.tcp_halves.specs.Stream.{outstanding, after_probed}
 use Rattle.tcp_state.specs.Resend.{Resend, timing_of, resend_probed, is_timed_by, timeout_sampled, timed_left, resend_acknowledged}
 use Rattle.tcp_state.specs.View.{View, is_opening, is_syn_received}
 use Rattle.tcp_state.specs.Alive.{after_silence}
@@ -38,7 +38,7 @@ not_timed v (Text stretch) now may again =
     let none = resent v stretch.offset (end_of stretch) now again in
     either View (λ w. w.resend.timed ≡ None) (brings_new_octets v stretch) (after_new_text sent stretch) sent (λ new. none) (λ old. none)
 not_timed v Probe now may again =
-    let sent = record v { sending = after_sent v.sending (end_of (probe_stretch v)); resend = resend_probed v.resend } in
+    let sent = record v { sending = after_probed v.sending (end_of (probe_stretch v)); resend = resend_probed v.resend } in
     either View (λ w. w.resend.timed ≡ None) (brings_new_octets v (probe_stretch v)) (after_new_octets sent) sent (λ new. refl) (λ old. refl)
 not_timed v Ack now may again = cc
 not_timed v KeepAlive now may again = cc

@@ -1,6 +1,6 @@
 -- Why no number of a connection goes back.
 use Rattle.std.proofs.Common.{◌≡◌, ℕ, ◌+◌, ◌-◌, ◌%◌, ◌^◌, ◌<◌, ◌≤◌, ◌==◌, ◌||◌, ◌&&◌, not, nat_lt, nat_le, if◌then◌else◌, Bool, true, false, List, length, Some, arith, refl, sym, ◌∙◌, ap, subst}
-use Rattle.std.proofs.lemmas.Bool.{ltb-true, leb-true}
+use Rattle.std.proofs.lemmas.Bool.{ltb-true, leb-true, leb-false, eqb-true}
 use Rattle.tcp_segment.specs.Wire.{past}
 use Rattle.tcp_segment.specs.Segment.{Segment}
 use Rattle.clock.specs.declared.moment.Moment.{Moment}
@@ -8,7 +8,7 @@ use Rattle.tcp_state.specs.declared.emission.Due.TheVariants.{Syn, Text, Probe, 
 use Rattle.tcp_state.specs.declared.emission.Stretch.{Stretch}
 use Rattle.tcp_state.specs.declared.calls.Refusal.TheVariants.{ECONNREFUSED, ETIMEDOUT}
 use Rattle.tcp_halves.specs.Halves.{Sending, Receiving}
-use Rattle.tcp_halves.specs.Stream.{outstanding, is_new_ack, receive_window, octets_gained, after_octets, stands_next, after_end, after_sent}
+use Rattle.tcp_halves.specs.Stream.{outstanding, is_new_ack, receive_window, octets_gained, after_octets, stands_next, after_end, after_sent, after_probed, number_before, bare_number}
 use Rattle.tcp_halves.specs.Windows.{window_in, updates_window, after_window_update, after_advertisement, has_grown, receive_room, whole_units, syn_window, after_syn_advertisement}
 use Rattle.tcp_state.specs.View.{View, IsSound, is_opening, is_syn_sent, is_syn_received, is_write_finished, takes_flag_number, after_stop, after_reset}
 use Rattle.tcp_state.specs.Alive.{after_silence}
@@ -19,7 +19,7 @@ use Rattle.tcp_state.specs.Due.{first_due, again, fin_alone, new_octets, probe_s
 use Rattle.tcp_state.specs.Edges.{Event, after_first, after_event}
 use Rattle.tcp_state.specs.Positions.{GoesOn, NeverBack, HasNumber}
 use Rattle.tcp_state.proofs.Clocked.{timers_keep, syn_out}
-use Rattle.tcp_halves.proofs.Choices.{either, clash, and_right}
+use Rattle.tcp_halves.proofs.Choices.{either, by, clash, and_left, and_right, or_right}
 use Rattle.tcp_state.proofs.Segments.{after_reading, by_fin, by_ack, ack_receives, reading_sends, by_hearing}
 use Rattle.tcp_state.proofs.Events.{by_event}
 use Rattle.tcp_halves.proofs.Keeping.{IsKeeping, gained_fits, in_units}
@@ -42,6 +42,20 @@ reaches before after fits near initial position at = (past after before, near, o
 stays_at : (before after : ℕ) → after ≡ before → GoesOn before after
 stays_at before after same = subst (λ n. GoesOn before n) (sym same) (rests before)
 
+-- The number of an acknowledgement alone: with SND.NXT it stays, and is that itself once what only a probe took is acknowledged, or other numbers go out.
+bare_stays : (s t : Sending) → t.nxt ≡ s.nxt → t.probed ≡ s.probed → GoesOn (bare_number s) (bare_number t)
+bare_stays s t nxt probed =
+    stays_at (bare_number s) (bare_number t) (ap (λ n. if t.probed then number_before n else n) nxt ∙ ap (λ b. if b then number_before s.nxt else s.nxt) probed)
+
+before_next : (nxt : ℕ) → nxt < 2 ^ 32 → GoesOn (number_before nxt) nxt
+before_next nxt fits = goes (number_before nxt) nxt 1 (omega arith) (omega (arith, fits))
+
+bare_reaches : (s : Sending) → s.nxt < 2 ^ 32 → GoesOn (bare_number s) s.nxt
+bare_reaches s fits = either ℕ (λ n. GoesOn n s.nxt) s.probed (number_before s.nxt) s.nxt (λ probed. before_next s.nxt fits) (λ none. rests s.nxt)
+
+bare_freed : (s t : Sending) → s.nxt < 2 ^ 32 → t.nxt ≡ s.nxt → t.probed ≡ false → GoesOn (bare_number s) (bare_number t)
+bare_freed s t fits nxt none = subst (λ n. GoesOn (bare_number s) n) (sym (ap (λ b. if b then number_before t.nxt else t.nxt) none ∙ nxt)) (bare_reaches s fits)
+
 -- What stands in the way of a number that goes back.
 
 -- few octets are held, so that few numbers are outstanding
@@ -60,20 +74,22 @@ few_outstanding v sound = most (takes_flag_number v.state) (length v.sending.hel
     most false held o h e = omega (arith, h, e)
 
 -- the two halves as they were, but for SND.UNA, which may have come to SND.NXT
-still : (v w : View) → w.sending.una ≡ v.sending.una → w.sending.nxt ≡ v.sending.nxt → w.receiving ≡ v.receiving → NeverBack v w
-still v w una nxt receiving = record {
+still : (v w : View) → w.sending.una ≡ v.sending.una → w.sending.nxt ≡ v.sending.nxt → w.sending.probed ≡ v.sending.probed → w.receiving ≡ v.receiving → NeverBack v w
+still v w una nxt probed receiving = record {
   una = stays_at v.sending.una w.sending.una una;
   nxt = stays_at v.sending.nxt w.sending.nxt nxt;
+  bare = bare_stays v.sending w.sending nxt probed;
   rnext = λ past_opening. stays_at v.receiving.rnext w.receiving.rnext (ap (λ (r : Receiving). r.rnext) receiving);
   edge = λ past_opening. stays_at v.receiving.edge w.receiving.edge (ap (λ (r : Receiving). r.edge) receiving);
 }
 
-ended : (v w : View) → IsSound v → w.sending.una ≡ v.sending.nxt → w.sending.nxt ≡ v.sending.nxt → w.receiving ≡ v.receiving → NeverBack v w
-ended v w sound una nxt receiving =
+ended : (v w : View) → IsSound v → w.sending.una ≡ v.sending.nxt → w.sending.nxt ≡ v.sending.nxt → GoesOn (bare_number v.sending) (bare_number w.sending) → w.receiving ≡ v.receiving → NeverBack v w
+ended v w sound una nxt bare receiving =
     let few = few_outstanding v sound in
     record {
       una = subst (λ n. GoesOn v.sending.una n) (sym una) (reaches v.sending.una v.sending.nxt sound.nxt (omega (arith, few)));
       nxt = stays_at v.sending.nxt w.sending.nxt nxt;
+      bare = bare;
       rnext = λ past_opening. stays_at v.receiving.rnext w.receiving.rnext (ap (λ (r : Receiving). r.rnext) receiving);
       edge = λ past_opening. stays_at v.receiving.edge w.receiving.edge (ap (λ (r : Receiving). r.edge) receiving);
     }
@@ -83,6 +99,7 @@ alike : (v w x : View) → x.sending ≡ w.sending → x.receiving ≡ w.receivi
 alike v w x sending receiving k = record {
   una = subst (λ t. GoesOn v.sending.una t.una) (sym sending) k.una;
   nxt = subst (λ t. GoesOn v.sending.nxt t.nxt) (sym sending) k.nxt;
+  bare = subst (λ t. GoesOn (bare_number v.sending) (bare_number t)) (sym sending) k.bare;
   rnext = λ past_opening. subst (λ r. GoesOn v.receiving.rnext r.rnext) (sym receiving) (k.rnext past_opening);
   edge = λ past_opening. subst (λ r. GoesOn v.receiving.edge r.edge) (sym receiving) (k.edge past_opening);
 }
@@ -105,6 +122,19 @@ acknowledged v ack sound fits =
 
 acknowledged_nxt : (v : View) (ack : ℕ) → (after_ack v ack).sending.nxt ≡ v.sending.nxt
 acknowledged_nxt v ack = by_ack (λ w. w.sending.nxt ≡ v.sending.nxt) v ack (record { old = refl; beyond = refl; opens = λ received new. refl; octets = λ new. refl; fin = λ new fin. refl })
+
+acknowledged_bare : (v : View) (ack : ℕ) → IsSound v → GoesOn (bare_number v.sending) (bare_number (after_ack v ack).sending)
+acknowledged_bare v ack sound =
+    by_ack (λ w. GoesOn (bare_number v.sending) (bare_number w.sending)) v ack (record {
+      old = rests (bare_number v.sending);
+      beyond = rests (bare_number v.sending);
+      opens = λ received new. bare_reaches v.sending sound.nxt;
+      octets = λ new. bare_reaches v.sending sound.nxt;
+      fin = λ new fin. bare_reaches v.sending sound.nxt;
+    })
+
+told_bare : (s : Sending) (number ack window : ℕ) → bare_number (after_window_update s number ack window) ≡ bare_number s
+told_bare s number ack window = either Sending (λ t. bare_number t ≡ bare_number s) (updates_window s number ack) _ s (λ tells. refl) (λ none. refl)
 
 pub told_una : (s : Sending) (number ack window : ℕ) → (after_window_update s number ack window).una ≡ s.una
 told_una s number ack window = either Sending (λ t. t.una ≡ s.una) (updates_window s number ack) _ s (λ tells. refl) (λ none. refl)
@@ -149,10 +179,11 @@ advanced_fin r w s small a =
     ends r w.receiving small a room)
     a a
 
-heard : (v w : View) → IsSound v → GoesOn v.sending.una w.sending.una → w.sending.nxt ≡ v.sending.nxt → Advances v.receiving w.receiving → NeverBack v w
-heard v w sound una nxt a = record {
+heard : (v w : View) → IsSound v → GoesOn v.sending.una w.sending.una → w.sending.nxt ≡ v.sending.nxt → GoesOn (bare_number v.sending) (bare_number w.sending) → Advances v.receiving w.receiving → NeverBack v w
+heard v w sound una nxt bare a = record {
   una = una;
   nxt = stays_at v.sending.nxt w.sending.nxt nxt;
+  bare = bare;
   rnext = λ past_opening. goes v.receiving.rnext w.receiving.rnext a.by (omega (arith, a.within, sound.window, sound.terms.places, sound.terms.capacity)) a.rnext;
   edge = λ past_opening. stays_at v.receiving.edge w.receiving.edge a.edge;
 }
@@ -164,22 +195,25 @@ by_reading v s sound fits =
     let same : told.receiving ≡ v.receiving = ack_receives v s.acknowledgement in
     let una : (after_reading v s).sending.una ≡ acked.sending.una = ap (λ (x : Sending). x.una) (reading_sends v s) ∙ told_una acked.sending s.number s.acknowledgement (window_in acked.sending s.window) in
     let nxt : (after_reading v s).sending.nxt ≡ acked.sending.nxt = ap (λ (x : Sending). x.nxt) (reading_sends v s) ∙ told_nxt acked.sending s.number s.acknowledgement (window_in acked.sending s.window) in
+    let bare : bare_number (after_reading v s).sending ≡ bare_number acked.sending = ap bare_number (reading_sends v s) ∙ told_bare acked.sending s.number s.acknowledgement (window_in acked.sending s.window) in
     heard v (after_reading v s) sound
     (subst (λ n. GoesOn v.sending.una n) (sym una) (acknowledged v s.acknowledgement sound fits))
     (nxt ∙ acknowledged_nxt v s.acknowledgement)
+    (subst (λ n. GoesOn (bare_number v.sending) n) (sym bare) (acknowledged_bare v s.acknowledgement sound))
     (advanced_fin v.receiving (after_text told s) s sound.rnext (advanced_text v.receiving told s (sound_keeping v sound) (subst (λ r. Advances v.receiving r) (sym same) (waits v.receiving sound.rnext)) same))
 
 by_acknowledgement : (v : View) (s : Segment) → IsSound v → s.acknowledgement < 2 ^ 32 → NeverBack v (after_ack v s.acknowledgement)
 by_acknowledgement v s sound fits =
     let acked = after_ack v s.acknowledgement in
-    heard v acked sound (acknowledged v s.acknowledgement sound fits) (acknowledged_nxt v s.acknowledgement)
+    heard v acked sound (acknowledged v s.acknowledgement sound fits) (acknowledged_nxt v s.acknowledgement) (acknowledged_bare v s.acknowledgement sound)
     (subst (λ r. Advances v.receiving r) (sym (ack_receives v s.acknowledgement)) (waits v.receiving sound.rnext))
 
 -- the halves of the peer's stream begin with the SYN that is heard
-opens : (v w : View) → is_syn_sent v.state ≡ true → GoesOn v.sending.una w.sending.una → GoesOn v.sending.nxt w.sending.nxt → NeverBack v w
-opens v w opening una nxt = record {
+opens : (v w : View) → is_syn_sent v.state ≡ true → GoesOn v.sending.una w.sending.una → GoesOn v.sending.nxt w.sending.nxt → GoesOn (bare_number v.sending) (bare_number w.sending) → NeverBack v w
+opens v w opening una nxt bare = record {
   una = una;
   nxt = nxt;
+  bare = bare;
   rnext = λ past_opening. clash (is_syn_sent v.state) opening past_opening;
   edge = λ past_opening. clash (is_syn_sent v.state) opening past_opening;
 }
@@ -188,17 +222,18 @@ by_lost : (v : View) (s : Segment) → IsSound v → NeverBack v (after_lost v s
 by_lost v s sound =
     let acked = after_ack v s.acknowledgement in
     let nxt : (after_window acked s).sending.nxt ≡ v.sending.nxt = told_nxt acked.sending s.number s.acknowledgement (window_in acked.sending s.window) ∙ acknowledged_nxt v s.acknowledgement in
-    ended v (after_lost v s) sound nxt nxt (ack_receives v s.acknowledgement)
+    let bare : bare_number (after_window acked s).sending ≡ bare_number acked.sending = told_bare acked.sending s.number s.acknowledgement (window_in acked.sending s.window) in
+    ended v (after_lost v s) sound nxt nxt (subst (λ n. GoesOn (bare_number v.sending) n) (sym bare) (acknowledged_bare v s.acknowledgement sound)) (ack_receives v s.acknowledgement)
 
 by_heard : (v : View) (s : Segment) → IsSound v → s.acknowledgement < 2 ^ 32 → NeverBack v (after_heard v s)
 by_heard v s sound fits =
     let few = few_outstanding v sound in
     by_hearing (λ w. NeverBack v w) v s (by_lost v s sound) (record {
-      dropped = still v v refl refl refl;
-      drawn = still v _ refl refl refl;
-      reset = λ acts. ended v (after_reset v (reset_error v.state)) sound refl refl refl;
-      crossed = λ opening. opens v _ opening (rests v.sending.una) (rests v.sending.nxt);
-      opened = λ opening right. opens v _ opening (reaches v.sending.una v.sending.nxt sound.nxt (omega (arith, few))) (rests v.sending.nxt);
+      dropped = still v v refl refl refl refl;
+      drawn = still v _ refl refl refl refl;
+      reset = λ acts. ended v (after_reset v (reset_error v.state)) sound refl refl (rests (bare_number v.sending)) refl;
+      crossed = λ opening. opens v _ opening (rests v.sending.una) (rests v.sending.nxt) (rests (bare_number v.sending));
+      opened = λ opening right. opens v _ opening (reaches v.sending.una v.sending.nxt sound.nxt (omega (arith, few))) (rests v.sending.nxt) (bare_reaches v.sending sound.nxt);
       acknowledged = λ taken. by_acknowledgement v s sound fits;
       read = λ on. by_reading v s sound fits;
     })
@@ -215,6 +250,53 @@ sent_on v count sound few =
     let order = leb-true (past v.sending.nxt v.sending.una) (past end v.sending.una) le in
     reaches v.sending.nxt end (omega arith) (omega (arith, order, reach, sound.una, sound.nxt, few)))
     (λ lt. rests v.sending.nxt)
+
+-- .. and the number of an acknowledgement alone
+sent_bare : (v : View) (count : ℕ) → IsSound v → count < 2 ^ 21 → GoesOn (bare_number v.sending) (bare_number (after_sent v.sending count))
+sent_bare v count sound few =
+    let s = v.sending in
+    let t = after_sent s count in
+    let end = (s.una + count) % 2 ^ 32 in
+    let reach : past end s.una ≡ count = omega (arith, sound.una, few) in
+    let out = few_outstanding v sound in
+    let within = nat_le (past end s.una) (outstanding s) in
+    by (GoesOn (bare_number s) (bare_number t)) (s.probed && within)
+    (λ keeps.
+    let less = leb-true (past end s.una) (outstanding s) (and_right s.probed within keeps) in
+    let nxt : t.nxt ≡ s.nxt = either ℕ (λ n. n ≡ s.nxt) (nat_le (past s.nxt s.una) (past end s.una)) end s.nxt
+    (λ le. let order = leb-true (past s.nxt s.una) (past end s.una) le in omega (arith, order, less, reach, sound.una, sound.nxt)) (λ lt. refl) in
+    bare_stays s t nxt (keeps ∙ sym (and_left s.probed within keeps)))
+    (λ ends. subst (λ n. GoesOn (bare_number s) n) (sym (ap (λ b. if b then number_before t.nxt else t.nxt) ends))
+    (either ℕ (λ n. GoesOn (bare_number s) n) (nat_le (past s.nxt s.una) (past end s.una)) end s.nxt
+    (λ le.
+    let order = leb-true (past s.nxt s.una) (past end s.una) le in
+    either ℕ (λ n. GoesOn n end) s.probed (number_before s.nxt) s.nxt
+    (λ probed. reaches (number_before s.nxt) end (omega arith) (omega (arith, order, reach, sound.una, sound.nxt, few)))
+    (λ none. reaches s.nxt end (omega arith) (omega (arith, order, reach, sound.una, sound.nxt, few))))
+    (λ lt. bare_reaches s sound.nxt)))
+
+or_false : (b : Bool) → (b || false) ≡ b
+or_false true = refl
+or_false false = refl
+
+-- a window's probe leaves it, or takes a number behind it
+probed_bare : (v : View) (count : ℕ) → IsSound v → count ≡ 1 → GoesOn (bare_number v.sending) (bare_number (after_probed v.sending count))
+probed_bare v count sound one =
+    let s = v.sending in
+    let t = after_sent s count in
+    let u = after_probed s count in
+    let first = outstanding s == 0 in
+    by (GoesOn (bare_number s) (bare_number u)) first
+    (λ none.
+    let out = eqb-true (outstanding s) 0 none in
+    let end = (s.una + count) % 2 ^ 32 in
+    let next : s.una ≡ s.nxt = omega (arith, out, sound.una, sound.nxt) in
+    let moved : t.nxt ≡ end = either ℕ (λ n. n ≡ end) (nat_le (past s.nxt s.una) (past end s.una)) end s.nxt (λ le. refl)
+    (λ lt. absurd (let far = leb-false (past s.nxt s.una) (past end s.una) lt in omega (arith, far, out))) in
+    let number : bare_number u ≡ s.nxt = ap (λ b. if b then number_before t.nxt else t.nxt) (or_right t.probed first none) ∙ (ap number_before moved ∙ omega (arith, next, one, sound.nxt)) in
+    subst (λ n. GoesOn (bare_number s) n) (sym number) (bare_reaches s sound.nxt))
+    (λ some. subst (λ n. GoesOn (bare_number s) n) (sym (ap (λ b. if b then number_before t.nxt else t.nxt) (ap (λ b. t.probed || b) some ∙ or_false t.probed)))
+    (sent_bare v count sound (omega (arith, one))))
 
 -- the edge moves up to the end of a wider window ..
 wider : (r : Receiving) (window : ℕ) → IsKeeping r → receive_window r ≤ window → window ≤ 1048576 → GoesOn r.edge ((r.rnext + window) % 2 ^ 32)
@@ -248,6 +330,17 @@ goes_out : (v w : View) (count : ℕ) → IsSound v → count < 2 ^ 21 → w.sen
 goes_out v w count sound few sending receiving = record {
   una = stays_at v.sending.una w.sending.una (ap (λ (t : Sending). t.una) sending);
   nxt = subst (λ t. GoesOn v.sending.nxt t.nxt) (sym sending) (sent_on v count sound few);
+  bare = subst (λ t. GoesOn (bare_number v.sending) (bare_number t)) (sym sending) (sent_bare v count sound few);
+  rnext = λ past_opening. stays_at v.receiving.rnext w.receiving.rnext (ap (λ (r : Receiving). r.rnext) receiving);
+  edge = λ past_opening. stays_at v.receiving.edge w.receiving.edge (ap (λ (r : Receiving). r.edge) receiving);
+}
+
+-- .. by a window's probe
+probe_out : (v w : View) (count : ℕ) → IsSound v → count ≡ 1 → w.sending ≡ after_probed v.sending count → w.receiving ≡ v.receiving → NeverBack v w
+probe_out v w count sound one sending receiving = record {
+  una = stays_at v.sending.una w.sending.una (ap (λ (t : Sending). t.una) sending);
+  nxt = subst (λ t. GoesOn v.sending.nxt t.nxt) (sym sending) (sent_on v count sound (omega (arith, one)));
+  bare = subst (λ t. GoesOn (bare_number v.sending) (bare_number t)) (sym sending) (probed_bare v count sound one);
   rnext = λ past_opening. stays_at v.receiving.rnext w.receiving.rnext (ap (λ (r : Receiving). r.rnext) receiving);
   edge = λ past_opening. stays_at v.receiving.edge w.receiving.edge (ap (λ (r : Receiving). r.edge) receiving);
 }
@@ -258,6 +351,7 @@ tells : (v w : View) (told : Receiving → Receiving) → (told v.receiving).rne
 tells v w told rnext edge same k = record {
   una = k.una;
   nxt = k.nxt;
+  bare = k.bare;
   rnext = λ past_opening. subst (λ r. GoesOn v.receiving.rnext (told r).rnext) (sym same) (stays_at v.receiving.rnext (told v.receiving).rnext rnext);
   edge = λ past_opening. subst (λ r. GoesOn v.receiving.edge (told r).edge) (sym same) edge;
 }
@@ -277,8 +371,8 @@ by_text v stretch now sound few =
 by_probe : (v : View) → IsSound v → NeverBack v (after_ack_paid (after_probe v))
 by_probe v sound =
     let receiving = probe_receives v in
-    let few = either Stretch (λ t. end_of t < 2 ^ 21) (length v.sending.held == 0) _ _ (λ none. omega arith) (λ some. omega arith) in
-    pays v (after_probe v) sound receiving (goes_out v (after_probe v) (end_of (probe_stretch v)) sound few (probe_sends v) receiving)
+    let one = either Stretch (λ t. end_of t ≡ 1) (length v.sending.held == 0) _ _ (λ none. refl) (λ some. refl) in
+    pays v (after_probe v) sound receiving (probe_out v (after_probe v) (end_of (probe_stretch v)) sound one (probe_sends v) receiving)
 
 by_syn : (v : View) (now : Moment) → IsSound v → NeverBack v (after_going_out v Syn now)
 by_syn v now sound =
@@ -299,8 +393,8 @@ by_emission v now sound =
     let text : (stretch : Stretch) → end_of stretch < 2 ^ 21 → NeverBack v (after_first v (Some (Text stretch)) now) = λ stretch small.
     alike v (after_ack_paid (after_stretch v stretch now)) (after_emitted v (Text stretch) now) refl refl (by_text v stretch now sound small) in
     by_due (λ o. NeverBack v (after_first v o now)) v (record {
-      nothing = λ quiet heard. still v v refl refl refl;
-      rst = λ owes. still v _ refl refl refl;
+      nothing = λ quiet heard. still v v refl refl refl refl;
+      rst = λ owes. still v _ refl refl refl refl;
       syn = λ opening goes. let out = after_going_out v Syn now in alike v out (clocked false out now) refl refl (by_syn v now sound);
       once_more = λ opened place is goes.
           let within = goes_within v place goes in
@@ -316,29 +410,29 @@ by_emission v now sound =
           text stretch (omega (arith, end));
       fin = λ opened sends. text (fin_alone v) (omega (arith, few));
       probe = λ opened owes probes. alike v (after_ack_paid (after_probe v)) (after_emitted v Probe now) refl refl (by_probe v sound);
-      ack = λ owes. alike v (after_ack_paid v) (after_emitted v Ack now) refl refl (pays v v sound refl (still v v refl refl refl));
-      asks = λ quiet owes. alike v (after_ack_paid v) (after_emitted v KeepAlive now) refl refl (pays v v sound refl (still v v refl refl refl));
+      ack = λ owes. alike v (after_ack_paid v) (after_emitted v Ack now) refl refl (pays v v sound refl (still v v refl refl refl refl));
+      asks = λ quiet owes. alike v (after_ack_paid v) (after_emitted v KeepAlive now) refl refl (pays v v sound refl (still v v refl refl refl refl));
     })
 
 -- Every event.
 
 pub never_back : (v : View) (e : Event) → IsSound v → HasNumber e → NeverBack v (after_event v e)
 never_back v e sound = by_event (λ e w. HasNumber e → NeverBack v w) v (record {
-  same = λ e fits. still v v refl refl refl;
-  asks = λ e alive fits. still v _ refl refl refl;
-  silent = λ now fits. still v _ refl refl refl;
+  same = λ e fits. still v v refl refl refl refl;
+  asks = λ e alive fits. still v _ refl refl refl refl;
+  silent = λ now fits. still v _ refl refl refl refl;
   heard = λ s now lives fits. alike v (after_heard v s) _ refl refl (by_heard v s sound fits);
-  over = λ now ends fits. ended v (after_stop v) sound refl refl refl;
-  given_up = λ now waits expired fits. ended v (after_reset v (Some ETIMEDOUT)) sound refl refl refl;
+  over = λ now ends fits. ended v (after_stop v) sound refl refl (rests (bare_number v.sending)) refl;
+  given_up = λ now waits expired fits. ended v (after_reset v (Some ETIMEDOUT)) sound refl refl (rests (bare_number v.sending)) refl;
   acts = λ now fits. let asked = after_silence v now in let kept = timers_keep asked now in
-      alike v v (clocked false (after_timers asked now) now) (ap (λ (w : View). w.sending) kept) (ap (λ (w : View). w.receiving) kept) (still v v refl refl refl);
+      alike v v (clocked false (after_timers asked now) now) (ap (λ (w : View). w.sending) kept) (ap (λ (w : View). w.receiving) kept) (still v v refl refl refl refl);
   emits = λ now fits. by_emission v now sound;
-  sends = λ octets taken now opened fits. still v _ refl refl refl;
-  reads = λ len fits. record { una = rests v.sending.una; nxt = rests v.sending.nxt; rnext = λ opened. rests v.receiving.rnext; edge = λ opened. rests v.receiving.edge };
-  shuts = λ now fits. still v (after_shutdown v now) refl refl refl;
-  delays = λ on now fits. still v _ refl refl refl;
-  leaves = λ now lives fits. still v (after_release v now) refl refl refl;
-  aborts = λ e now at cause lives fits. ended v (aborted_at v now) sound refl refl refl;
-  refused = λ number hit fits. ended v (after_reset v (Some ECONNREFUSED)) sound refl refl refl;
-  hopless = λ now over fits. ended v (after_reset v (Some ETIMEDOUT)) sound refl refl refl;
+  sends = λ octets taken now opened fits. still v _ refl refl refl refl;
+  reads = λ len fits. record { una = rests v.sending.una; nxt = rests v.sending.nxt; bare = rests (bare_number v.sending); rnext = λ opened. rests v.receiving.rnext; edge = λ opened. rests v.receiving.edge };
+  shuts = λ now fits. still v (after_shutdown v now) refl refl refl refl;
+  delays = λ on now fits. still v _ refl refl refl refl;
+  leaves = λ now lives fits. still v (after_release v now) refl refl refl refl;
+  aborts = λ e now at cause lives fits. ended v (aborted_at v now) sound refl refl (rests (bare_number v.sending)) refl;
+  refused = λ number hit fits. ended v (after_reset v (Some ECONNREFUSED)) sound refl refl (rests (bare_number v.sending)) refl;
+  hopless = λ now over fits. ended v (after_reset v (Some ETIMEDOUT)) sound refl refl (rests (bare_number v.sending)) refl;
 }) e

@@ -1,19 +1,19 @@
 -- Why an acknowledgement that is owed goes out alone where nothing else waits.
-use Rattle.std.proofs.Common.{◌≡◌, ◌+◌, ◌≤◌, ◌==◌, ◌||◌, ◌&&◌, not, nat_lt, if◌then◌else◌, Bool, true, false, [], length, Some, None, is_some, inl, arith, refl, ◌∙◌, ap, subst}
+use Rattle.std.proofs.Common.{◌≡◌, ◌+◌, ◌≤◌, ◌==◌, ◌||◌, ◌&&◌, not, nat_lt, if◌then◌else◌, Bool, true, false, [], length, Some, None, is_some, arith, refl, ◌∙◌, ap, subst}
 use Rattle.std.specs.Option.{option_or}
 use Rattle.tcp_state.specs.Selective.{allowance}
 use Rattle.tcp_state.specs.declared.emission.Due.TheVariants.{Rst, Syn, Text, Probe, Ack, KeepAlive}
-use Rattle.tcp_halves.specs.Stream.{outstanding}
+use Rattle.tcp_halves.specs.Stream.{outstanding, bare_number}
 use Rattle.tcp_halves.specs.Windows.{sendable, is_worth_sending}
 use Rattle.tcp_state.specs.View.{View, IsSound, is_opening, is_closed, is_syn_sent, awaits_fin_ack, takes_flag_number}
 use Rattle.tcp_state.specs.Timing.{probes}
 use Rattle.tcp_state.specs.Alive.{is_alive_due}
 use Rattle.tcp_state.specs.New.{sends_fin, waits_no_longer}
-use Rattle.tcp_state.specs.Due.{is_ack_due, ack_due, again_from, new_octets, fin_alone, new_due, first_due, ack_number}
+use Rattle.tcp_state.specs.Due.{is_ack_due, ack_due, again_from, new_octets, fin_alone, new_due, first_due}
 use Rattle.tcp_state.specs.Said.{segment_of}
 use Rattle.tcp_state.specs.Progress.{IsAckAlone}
 use Rattle.tcp_halves.proofs.Choices.{and_false, or_left}
-use Rattle.tcp_state.proofs.AckNumbers.{ack_at_next}
+use Rattle.tcp_state.proofs.AckNumbers.{bare_at_rest}
 use Rattle.tcp_state.proofs.Unchanged.{none_below}
 use Rattle.tcp_state.proofs.ResetAges.{live}
 
@@ -59,14 +59,13 @@ ack_first v sound opened shut empty owes =
     let due : is_ack_due v ≡ true = or_left v.owes_ack _ owes in
     ack_or_probe v sound opened shut empty lives ∙ ap (λ b. if b then Some Ack else if is_alive_due v then Some KeepAlive else None) due
 
-alone_at_next : (v : View) → IsSound v → is_opening v.state ≡ false → awaits_fin_ack v.state ≡ false → v.sending.held ≡ [] → ack_number v ≡ v.sending.nxt
-alone_at_next v sound opened shut empty =
-    let none = none_out v sound opened shut empty in
-    ack_at_next v sound opened (inl (omega (arith, none)))
+alone_at_next : (v : View) → IsSound v → is_opening v.state ≡ false → awaits_fin_ack v.state ≡ false → v.sending.held ≡ [] → v.owes_ack ≡ true → bare_number v.sending ≡ v.sending.nxt
+alone_at_next v sound opened shut empty owes =
+    bare_at_rest v sound (owing_lives (is_syn_sent v.state) (is_closed v.state) v.owes_ack v.delays_ack sound.ack owes) (none_out v sound opened shut empty)
 
 pub owed_alone : (v : View) → IsSound v → is_opening v.state ≡ false → awaits_fin_ack v.state ≡ false → v.sending.held ≡ [] → v.owes_ack ≡ true
     → (first_due v ≡ Some Ack) × IsAckAlone v (segment_of v Ack)
 owed_alone v sound opened shut empty owes = (
   ack_first v sound opened shut empty owes,
-  record { number = alone_at_next v sound opened shut empty; acknowledgement = refl; octets = refl; no_fin = refl; ordinary = record { ack = refl; no_rst = refl; no_syn = refl } },
+  record { number = alone_at_next v sound opened shut empty owes; acknowledgement = refl; octets = refl; no_fin = refl; ordinary = record { ack = refl; no_rst = refl; no_syn = refl } },
 )

@@ -23,7 +23,7 @@ use Rattle.tcp_state.specs.Plain.{is_plain, acknowledges_octets}
 use Rattle.tcp_halves.proofs.Choices.{by, clash, and_left, and_right, and_false, not_true}
 use Rattle.tcp_state.proofs.Segments.{IsRead}
 use Rattle.tcp_state.proofs.Clocked.{silent_needed, reports_none, told_none}
-use Rattle.tcp_state.proofs.Guarded.{without_syn, read_draws_none}
+use Rattle.tcp_state.proofs.Guarded.{without_syn, read_draws_none, next_asks_none}
 use Rattle.tcp_state.proofs.Onward.{told_una}
 use Rattle.tcp_state.proofs.PlainSegments.{IsPlain, same_number, plain_tells, plain_read, plain_segment, plain_comes, plain_stays, by_text, no_wait, unguarded, not_new}
 
@@ -166,7 +166,7 @@ ack_taken v s now sound a =
     let x = record w { since = since_after b w now; resend = resend_left b w now; congestion = congestion_left b w now; alive = alive } in
     plain_comes v w s now a.plain (ack_heard v s sound a)
     ∙ ap (λ t. clocked t (guarded b x now) now) (ack_moved v s sound a)
-    ∙ ap (λ y. clocked true y now) (unguarded b x now (read_draws_none v s (ack_read v s sound a)) (without_syn v s (inr a.plain.no_syn)))
+    ∙ ap (λ y. clocked true y now) (unguarded b x now (read_draws_none v s (ack_read v s sound a) (next_asks_none v s sound.rnext a.plain.number)) (without_syn v s (inr a.plain.no_syn)) (next_asks_none v s sound.rnext a.plain.number))
     ∙ ap (λ at. clocked true (record w { since = at; resend = resend_left b w now; congestion = congestion_left b w now; alive = alive }) now) (no_wait v w s now a.plain (ack_state v s) (ack_owes v s))
     ∙ ap (λ (p : Resend). clocked true (record w { resend = p; congestion = congestion_left b w now; alive = alive }) now) (ack_resend v s now sound a)
     ∙ ap (λ (g : Window). clocked true (record w { resend = resend_acknowledged w.resend w.sending.una false now; congestion = g; alive = alive }) now) (ack_congestion v s now sound a)

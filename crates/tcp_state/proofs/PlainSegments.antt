@@ -1,13 +1,13 @@
 -- What a plain segment leaves: most steps that one is taken by change nothing then.
 use Rattle.std.proofs.Common.{◌≡◌, ℕ, zero, suc, ◌+◌, ◌%◌, ◌^◌, ◌<◌, ◌==◌, ◌||◌, ◌&&◌, not, nat_lt, nat_le, if◌then◌else◌, Bool, true, false, List, [], ◌∷◌, length, inl, inr, arith, refl, sym, ◌∙◌, ap, ap₂}
-use Rattle.std.proofs.lemmas.Bool.{lt-leb}
+use Rattle.std.proofs.lemmas.Bool.{lt-leb, le-leb}
 use Rattle.std.proofs.lemmas.Bool.Decides.{eqb_tells}
 use Rattle.clock.specs.declared.moment.Moment.{Moment}
 use Rattle.tcp_segment.specs.declared.blocks.Block.{Block}
 use Rattle.tcp_segment.specs.Segment.{Segment, blocks_of, span_of}
 use Rattle.tcp_segment.specs.Wire.{past}
 use Rattle.tcp_halves.specs.Halves.{Receiving}
-use Rattle.tcp_halves.specs.Stream.{outstanding, is_new_ack, receive_window, is_in_window, is_acceptable}
+use Rattle.tcp_halves.specs.Stream.{outstanding, is_new_ack, receive_window, is_in_window, is_acceptable, stands_before}
 use Rattle.tcp_halves.specs.Windows.{window_in}
 use Rattle.tcp_state.specs.declared.connection.Fate.TheVariants.{Stays, Removed, Rejected}
 use Rattle.tcp_state.specs.declared.state.State.{State}
@@ -20,12 +20,12 @@ use Rattle.tcp_state.specs.Resend.{mark_past}
 use Rattle.tcp_state.specs.Guard.{is_spent, guard_after}
 use Rattle.tcp_state.specs.declared.arrival.Before.{Before}
 use Rattle.tcp_state.specs.declared.reporting.Reporting.{Reporting}
-use Rattle.tcp_state.specs.Arrival.{is_receiving, is_acceptable_to, is_off, is_read_on, after_ack, is_of_fin, after_establishment, after_new_ack, fin_acknowledged, owing_ack, after_window, after_text, after_fin, counts_fin, is_read, brings_more, is_lost, after_lost, after_segment, is_rejected, ends_by_reset, ends_opening, fate, begins_wait, answers_probe, is_counted_duplicate, octets_outstanding, counts_duplicates, blocks_told, before, since_after, is_moved, guarded, timed_by, after_segment_at}
+use Rattle.tcp_state.specs.Arrival.{is_receiving, is_acceptable_to, is_off, is_read_on, after_ack, is_of_fin, after_establishment, after_new_ack, fin_acknowledged, owing_ack, after_window, after_text, after_fin, counts_fin, is_read, brings_more, is_lost, after_lost, after_segment, is_rejected, ends_by_reset, ends_opening, fate, begins_wait, answers_probe, is_counted_duplicate, octets_outstanding, counts_duplicates, blocks_told, before, since_after, is_moved, guarded, timed_by, after_segment_at, owes_answer}
 use Rattle.tcp_state.specs.Plain.{is_established, is_steady, has_ack_alone, reports_nothing, is_plain, brings_octets}
 use Rattle.tcp_halves.proofs.Choices.{either, clash, and_left, and_right, and_false, or_left, or_else, not_true}
 use Rattle.tcp_state.proofs.Segments.{IsRead, reads, not_rejected, fate_of_acknowledging}
 use Rattle.tcp_state.proofs.Clocked.{equal, comes_to, starts_none, silent_needed, timed_unmoved}
-use Rattle.tcp_state.proofs.Guarded.{in_reach, without_syn, read_draws_none}
+use Rattle.tcp_state.proofs.Guarded.{in_reach, without_syn, read_draws_none, next_asks_none, no_answer}
 use Rattle.tcp_state.proofs.Onward.{few_outstanding, told_una}
 
 -- What is known of one.
@@ -98,7 +98,7 @@ accepted_next : (r : Receiving) (span : ℕ) → r.rnext < 2 ^ 32 → nat_lt 0 (
 accepted_next r span few room = accepts span (ap (λ d. nat_lt d (receive_window r)) (past_itself r.rnext few) ∙ room)
   where
     accepts : (n : ℕ) → is_in_window r r.rnext ≡ true → is_acceptable r r.rnext n ≡ true
-    accepts zero inside = either Bool (λ b. b ≡ true) (receive_window r == 0) (r.rnext == r.rnext) (is_in_window r r.rnext) (λ shut. equal r.rnext) (λ some. inside)
+    accepts zero inside = or_left (nat_le (past r.rnext r.rnext) (receive_window r)) (stands_before r r.rnext) (le-leb (past r.rnext r.rnext) (receive_window r) (omega (arith, past_itself r.rnext few)))
     accepts (suc more) inside = or_left (is_in_window r r.rnext) (is_in_window r ((r.rnext + more) % 2 ^ 32)) inside
 
 pub plain_read : (v : View) (s : Segment) → IsSound v → IsPlain v s → is_read_on v s.acknowledgement ≡ true → IsRead v s
@@ -153,12 +153,14 @@ no_wait v w s now p state owes =
     ∙ ap (λ o. if begins_wait v.state v.state || (o && not v.owes_reset) then now else w.since) owes
     ∙ ap (λ b. if b then now else w.since) (starts_none v)
 
-pub unguarded : (b : Before) (x : View) (now : Moment) → b.draws_one ≡ false → b.asks_again ≡ false → guarded b x now ≡ x
-unguarded b x now none quiet = ap₂ (λ d a. let held = d && is_spent x.guard now in record x {
-  owes_ack = if held || a then false else x.owes_ack;
-  resend = record x.resend { mark = if a && not held then mark_past 0 (outstanding x.sending) else x.resend.mark };
-  guard = guard_after x.guard d now;
-}) none quiet
+pub unguarded : (b : Before) (x : View) (now : Moment) → b.draws_one ≡ false → b.asks_again ≡ false → b.asks ≡ false → guarded b x now ≡ x
+unguarded b x now none quiet unasked =
+    ap₂ (λ d a. let held = d && is_spent x.guard now in record x {
+      owes_ack = if held || a then false else owes_answer b x;
+      resend = record x.resend { mark = if a && not held then mark_past 0 (outstanding x.sending) else x.resend.mark };
+      guard = guard_after x.guard d now;
+    }) none quiet
+    ∙ ap (λ o. record x { owes_ack = o }) (no_answer b x unasked)
 
 -- Octets that stand next.
 
@@ -232,10 +234,10 @@ octets_taken v s now sound o =
     let probe : answers_probe v s ≡ false = ap (λ c. not (is_opening v.state) && c && is_acceptable_to v s && s.flags.ack && not s.flags.rst) p.sends ∙ ap (λ c. c && is_acceptable_to v s && s.flags.ack && not s.flags.rst) (and_false (not (is_opening v.state))) in
     let before_octets = not (is_opening v.state) && is_read v s && nat_lt 0 (octets_outstanding v) in
     let duplicate : is_counted_duplicate v s ≡ false =
-    ap (λ c. before_octets && c && not s.flags.fin && (s.acknowledgement == v.sending.una) && (window_in v.sending s.window == v.sending.window) && counts_duplicates v) o.some
-    ∙ ap (λ c. c && not s.flags.fin && (s.acknowledgement == v.sending.una) && (window_in v.sending s.window == v.sending.window) && counts_duplicates v) (and_false before_octets) in
+    ap (λ c. before_octets && c && not s.flags.fin && (s.acknowledgement == v.sending.una) && (window_in v.sending s.window == v.sending.window) && not (stands_before v.receiving s.number) && counts_duplicates v) o.some
+    ∙ ap (λ c. c && not s.flags.fin && (s.acknowledgement == v.sending.una) && (window_in v.sending s.window == v.sending.window) && not (stands_before v.receiving s.number) && counts_duplicates v) (and_false before_octets) in
     let x = record w { since = since_after b w now; alive = heard_now w.alive now } in
     plain_comes v w s now p (octets_heard v s sound o)
     ∙ timed_unmoved b w now moved probe duplicate p.silent (silent_needed v s p.silent)
-    ∙ ap (λ y. clocked false y now) (unguarded b x now (read_draws_none v s (octets_read v s sound o)) (without_syn v s (inr p.no_syn)))
+    ∙ ap (λ y. clocked false y now) (unguarded b x now (read_draws_none v s (octets_read v s sound o) (next_asks_none v s sound.rnext p.number)) (without_syn v s (inr p.no_syn)) (next_asks_none v s sound.rnext p.number))
     ∙ ap (λ at. clocked false (record w { since = at; alive = heard_now w.alive now }) now) (no_wait v w s now p state owes)

@@ -1,10 +1,11 @@
 -- Why the segments that are acceptable are those that meet the window.
-use Rattle.std.proofs.Common.{◌≡◌, ℕ, zero, suc, ◌+◌, ◌-◌, ◌%◌, ◌^◌, ◌<◌, ◌≤◌, ◌==◌, ◌⊎◌, ◌↔◌, if◌then◌else◌, true, false, inl, inr, arith, sym, ◌∙◌, ap, subst}
-use Rattle.std.proofs.lemmas.Bool.Decides.{leb_tells, eqb_tells}
+use Rattle.std.proofs.Common.{◌≡◌, ℕ, zero, suc, ◌+◌, ◌-◌, ◌%◌, ◌^◌, ◌<◌, ◌≤◌, ◌⊎◌, ◌↔◌, nat_le, true, false, inl, inr, arith, sym, ◌∙◌, ap, subst}
+use Rattle.std.proofs.lemmas.Bool.{eqb-true, leb-true, le-leb, eq-eqb}
+use Rattle.std.proofs.lemmas.Bool.Decides.{leb_tells}
 use Rattle.tcp_segment.specs.Wire.{wire, past}
 use Rattle.tcp_segment.specs.Segment.{Segment, span_of}
 use Rattle.tcp_halves.specs.Halves.{Receiving}
-use Rattle.tcp_halves.specs.Stream.{receive_window, is_in_window, is_acceptable}
+use Rattle.tcp_halves.specs.Stream.{receive_window, is_in_window, stands_before, is_acceptable}
 use Rattle.tcp_state.specs.Positions.{ReceivesAt, IsNear, MeetsWindow}
 use Rattle.tcp_state.specs.View.{View}
 use Rattle.tcp_state.specs.Arrival.{is_acceptable_to}
@@ -56,34 +57,25 @@ filled initial next edge first (suc more) r at near some =
     )
 
 -- a segment that takes none
-empty : (initial next edge first : ℕ) (r : Receiving) → ReceivesAt initial next edge r → IsNear next first 0 → (is_acceptable r (wire initial first) 0 ≡ true) ↔ ((first ≡ next) ⊎ ((next ≤ first) × (first < edge)))
+pub empty : (initial next edge first : ℕ) (r : Receiving) → ReceivesAt initial next edge r → IsNear next first 0 → (is_acceptable r (wire initial first) 0 ≡ true) ↔ ((next ≤ first + 1) × (first ≤ edge))
 empty initial next edge first r at near =
-    let ahead : first < next + 2 ^ 31 = omega (arith, near.ahead) in
     let window = window_at initial next edge r at in
     let number = wire initial first in
-    elim (eqb_tells (receive_window r) 0) [
-      | inl shut ↦
-          let same : is_acceptable r number 0 ≡ (number == r.rnext) = ap (λ b. if b then number == r.rnext else is_in_window r number) shut.0 in
-          elim (eqb_tells number r.rnext) [
-            | inl at_next ↦ (λ e. inl (omega (arith, at.next_number, at_next.1, near.behind, ahead)), λ m. same ∙ at_next.0)
-            | inr apart ↦ (
-              λ e. clash (number == r.rnext) (sym same ∙ e) apart.0,
-              λ m. elim m [
-                | inl is ↦ absurd (apart.1 (omega (arith, at.next_number, is)))
-                | inr inside ↦ absurd (omega (arith, inside.0, inside.1, window, shut.1))
-              ],
-            )
-          ]
-      | inr open_yet ↦
-          let same : is_acceptable r number 0 ≡ is_in_window r number = ap (λ b. if b then number == r.rnext else is_in_window r number) open_yet.0 in
-          let some : next < edge = omega (arith, window, open_yet.1, at.order) in (
-            λ e. inr (window_holds initial next edge first r at near.behind ahead (sym same ∙ e)),
-            λ m. same ∙ elim m [
-              | inl is ↦ in_window initial next edge first r at near.behind ahead (omega (arith, is)) (omega (arith, is, some))
-              | inr inside ↦ in_window initial next edge first r at near.behind ahead inside.0 inside.1
-            ],
-          )
-    ]
+    let inside = nat_le (past number r.rnext) (receive_window r) in
+    let before = stands_before r number in (
+      λ e. elim (or_else inside before e) [
+        | inl is ↦
+            let far = leb-true (past number r.rnext) (receive_window r) is in
+            (omega (arith, at.next_number, at.order, at.near, window, far, near.behind, near.ahead), omega (arith, at.next_number, at.order, at.near, window, far, near.behind, near.ahead))
+        | inr is ↦
+            let one = eqb-true (past r.rnext number) 1 is in
+            (omega (arith, at.next_number, one, near.behind, near.ahead), omega (arith, at.next_number, at.order, one, near.behind, near.ahead))
+      ],
+      λ m. elim (leb_tells next first) [
+        | inl le ↦ or_left inside before (le-leb (past number r.rnext) (receive_window r) (omega (arith, at.next_number, at.near, window, le.1, m.1, near.ahead)))
+        | inr lt ↦ or_right inside before (eq-eqb (past r.rnext number) 1 (omega (arith, at.next_number, lt.1, m.0)))
+      ],
+    )
 
 pub accepted_filled : (initial next edge first : ℕ) (v : View) (s : Segment) → ReceivesAt initial next edge v.receiving → s.number ≡ wire initial first → IsNear next first (span_of s) → 0 < span_of s
     → (is_acceptable_to v s ≡ true) ↔ MeetsWindow next edge first (span_of s)
@@ -91,7 +83,7 @@ accepted_filled initial next edge first v s at number near some =
     subst (λ n. (is_acceptable v.receiving n (span_of s) ≡ true) ↔ MeetsWindow next edge first (span_of s)) (sym number) (filled initial next edge first (span_of s) v.receiving at near some)
 
 pub accepted_empty : (initial next edge first : ℕ) (v : View) (s : Segment) → ReceivesAt initial next edge v.receiving → s.number ≡ wire initial first → IsNear next first 0 → span_of s ≡ 0
-    → (is_acceptable_to v s ≡ true) ↔ ((first ≡ next) ⊎ ((next ≤ first) × (first < edge)))
+    → (is_acceptable_to v s ≡ true) ↔ ((next ≤ first + 1) × (first ≤ edge))
 accepted_empty initial next edge first v s at number near none =
-    subst (λ n. (is_acceptable v.receiving s.number n ≡ true) ↔ ((first ≡ next) ⊎ ((next ≤ first) × (first < edge)))) (sym none)
-    (subst (λ n. (is_acceptable v.receiving n 0 ≡ true) ↔ ((first ≡ next) ⊎ ((next ≤ first) × (first < edge)))) (sym number) (empty initial next edge first v.receiving at near))
+    subst (λ n. (is_acceptable v.receiving s.number n ≡ true) ↔ ((next ≤ first + 1) × (first ≤ edge))) (sym none)
+    (subst (λ n. (is_acceptable v.receiving n 0 ≡ true) ↔ ((next ≤ first + 1) × (first ≤ edge))) (sym number) (empty initial next edge first v.receiving at near))

@@ -7,7 +7,7 @@ use Rattle.clock.specs.Moments.{has_come}
 use Rattle.tcp_state.specs.declared.emission.Due.{Due}
 use Rattle.tcp_state.specs.declared.emission.Due.TheVariants.{Rst, Syn, Text, Probe, Ack, KeepAlive}
 use Rattle.tcp_state.specs.declared.emission.Stretch.{Stretch}
-use Rattle.tcp_halves.specs.Stream.{outstanding, after_sent}
+use Rattle.tcp_halves.specs.Stream.{outstanding, after_probed}
 use Rattle.tcp_halves.proofs.Choices.{either, by, clash}
 use Rattle.tcp_state.specs.Resend.{Resend, stopped, once_more, resend_probed}
 use Rattle.tcp_state.specs.View.{View, is_closed, is_syn_received}
@@ -88,7 +88,7 @@ stretch_counts v stretch now count sent =
 
 probe_counts : (v : View) (now : Moment) → Is (once_more v.resend.resent) (after_emitted v Probe now)
 probe_counts v now =
-    let sent = record v { sending = after_sent v.sending (end_of (probe_stretch v)); resend = resend_probed v.resend } in
+    let sent = record v { sending = after_probed v.sending (end_of (probe_stretch v)); resend = resend_probed v.resend } in
     either View (Is (once_more v.resend.resent)) (brings_new_octets v (probe_stretch v)) (after_new_octets sent) sent (λ new. refl) (λ old. refl)
 
 emitted_again : (v : View) (due : Due) (now : Moment) → BringsAgain v due → Is (once_more v.resend.resent) (after_emitted v due now)

@@ -15,7 +15,7 @@ use Rattle.tcp_state.specs.declared.calls.Refusal.TheVariants.{ETIMEDOUT}
 use Rattle.tcp_state.specs.declared.emission.Due.{Due}
 use Rattle.tcp_state.specs.declared.emission.Due.TheVariants.{Rst, Syn, Text, Probe, Ack, KeepAlive}
 use Rattle.tcp_halves.specs.Halves.{Sending}
-use Rattle.tcp_halves.specs.Stream.{outstanding, after_sent}
+use Rattle.tcp_halves.specs.Stream.{outstanding, after_probed}
 use Rattle.tcp_halves.specs.Windows.{updates_window}
 use Rattle.tcp_state.specs.declared.state.State.{State}
 use Rattle.tcp_state.specs.declared.state.State.TheVariants.{SynSent, SynReceived, Established, FinWait1, FinWait2, Closing, LastAck}
@@ -163,7 +163,7 @@ emitted_left v (Text stretch) now =
     either View P (brings_new_octets v stretch) (after_new_text sent stretch) sent (λ new. all) (λ old. all)
 emitted_left v Probe now =
     let P : View → Type 0 = KeepsEnds v in
-    let sent = record v { sending = after_sent v.sending (end_of (probe_stretch v)); resend = resend_probed v.resend } in
+    let sent = record v { sending = after_probed v.sending (end_of (probe_stretch v)); resend = resend_probed v.resend } in
     either View P (brings_new_octets v (probe_stretch v)) (after_new_octets sent) sent (λ new. (refl, refl, refl, refl, refl, refl)) (λ old. (refl, refl, refl, refl, refl, refl))
 emitted_left v Ack now = (refl, refl, refl, refl, refl, refl)
 emitted_left v KeepAlive now = (refl, refl, refl, refl, refl, refl)

@@ -8,7 +8,7 @@ use Rattle.tcp_state.specs.declared.emission.Due.{Due}
 use Rattle.tcp_state.specs.declared.emission.Due.TheVariants.{Rst, Syn, Text, Probe, Ack, KeepAlive}
 use Rattle.tcp_state.specs.declared.emission.Stretch.{Stretch}
 use Rattle.tcp_halves.specs.Halves.{Receiving}
-use Rattle.tcp_halves.specs.Stream.{outstanding, after_sent}
+use Rattle.tcp_halves.specs.Stream.{outstanding, after_probed}
 use Rattle.tcp_halves.specs.Windows.{after_advertisement, after_syn_advertisement}
 use Rattle.tcp_state.specs.Resend.{Resend, stopped, timing_of, resend_probed}
 use Rattle.tcp_state.specs.View.{View, is_closed, is_syn_received}
@@ -150,7 +150,7 @@ stretch_out v stretch now =
 
 probe_out : (v : View) (now : Moment) → GoesOut v now (after_probe v)
 probe_out v now =
-    let sent = record v { sending = after_sent v.sending (end_of (probe_stretch v)); resend = resend_probed v.resend } in
+    let sent = record v { sending = after_probed v.sending (end_of (probe_stretch v)); resend = resend_probed v.resend } in
     let k : GoesOut v now sent = record { timeout = refl; timed = inr (inl refl); overriding = inl refl; others = refl; expiries = refl; interval = refl; overridden = inl refl } in
     either View (GoesOut v now) (brings_new_octets v (probe_stretch v)) (after_new_octets sent) sent (λ new. new_out v sent now k) (λ old. k)
 

@@ -1,7 +1,6 @@
 -- Why a reset acts only at RCV.NXT, and a segment that is not acceptable changes nothing.
-use Rattle.std.proofs.Common.{◌≡◌, ℕ, ◌+◌, ◌%◌, ◌^◌, ◌<◌, ◌≤◌, ◌==◌, ◌||◌, ◌&&◌, not, nat_lt, if◌then◌else◌, Bool, true, false, Option, length, inl, inr, arith, refl, ◌∙◌, ap}
-use Rattle.std.proofs.lemmas.Bool.{eqb-true, ltb-true, leb-true, lt-ltb, eq-eqb}
-use Rattle.std.proofs.lemmas.Bool.Decides.{eqb_tells}
+use Rattle.std.proofs.Common.{◌≡◌, ℕ, ◌+◌, ◌%◌, ◌^◌, ◌<◌, ◌≤◌, ◌==◌, ◌||◌, ◌&&◌, not, nat_lt, if◌then◌else◌, Bool, true, false, Option, length, inl, inr, arith, refl, ◌∙◌, ap, nat_le}
+use Rattle.std.proofs.lemmas.Bool.{eqb-true, ltb-true, leb-true, eq-eqb, le-leb}
 use Rattle.tcp_segment.specs.Wire.{past}
 use Rattle.tcp_segment.specs.Segment.{Segment, span_of}
 use Rattle.clock.specs.declared.moment.Moment.{Moment}
@@ -10,7 +9,7 @@ use Rattle.tcp_state.specs.declared.state.State.{State}
 use Rattle.tcp_state.specs.declared.state.State.TheVariants.{SynSent}
 use Rattle.tcp_halves.specs.Halves.{Receiving}
 use Rattle.tcp_halves.specs.Windows.{window_in}
-use Rattle.tcp_halves.specs.Stream.{outstanding, is_new_ack, is_in_window, receive_window, is_acceptable}
+use Rattle.tcp_halves.specs.Stream.{outstanding, is_new_ack, receive_window, is_acceptable, stands_before}
 use Rattle.tcp_state.specs.View.{View, IsSound, is_opening, is_syn_sent, is_syn_received, is_closed, is_over, is_time_wait, is_write_finished, takes_flag_number, after_reset}
 use Rattle.tcp_state.specs.Timing.{KeepsTime}
 use Rattle.tcp_state.specs.Arrival.{is_opening_syn, is_acceptable_to, is_acting_reset, is_read, octets_outstanding, is_duplicate, is_lost, after_lost, ends_by_syn, ends_by_reset, ends_opening, acknowledges_unsent, is_rejected, reset_error, after_rst_in_syn_sent, after_rst, after_segment, is_of_fin, begins_wait, repeats_fin, answers_probe, after_segment_at, after_heard, counts_duplicates, is_counted_duplicate}
@@ -114,7 +113,8 @@ duplicate_is_read v s same =
     let goes_on = bare && not s.flags.fin in
     let at_una = goes_on && (s.acknowledgement == v.sending.una) in
     and_right opened (is_read v s) (and_left read (nat_lt 0 (octets_outstanding v)) (and_left flies (length s.octets == 0)
-    (and_left bare (not s.flags.fin) (and_left goes_on (s.acknowledgement == v.sending.una) (and_left at_una (window_in v.sending s.window == v.sending.window) same)))))
+    (and_left bare (not s.flags.fin) (and_left goes_on (s.acknowledgement == v.sending.una) (and_left at_una (window_in v.sending s.window == v.sending.window)
+    (and_left (at_una && (window_in v.sending s.window == v.sending.window)) (not (stands_before v.receiving s.number)) same))))))
 
 unaccepted_repeats_none : (v : View) (s : Segment) → is_acceptable_to v s ≡ false → is_counted_duplicate v s ≡ false
 unaccepted_repeats_none v s refused = by (is_counted_duplicate v s ≡ false) (is_duplicate v s) (λ same. clash (is_acceptable_to v s) (read_is_accepted v s (duplicate_is_read v s same)) refused) (λ none. ap (λ b. b && counts_duplicates v) none)
@@ -185,14 +185,8 @@ elsewhere_changes v s now keeps past_opening rst apart =
 
 pub next_accepted : (r : Receiving) (number span : ℕ) → r.rnext < 2 ^ 32 → number ≡ r.rnext → span ≡ 0 → is_acceptable r number span ≡ true
 next_accepted r number span small same none =
-    let window = receive_window r in
     ap (is_acceptable r number) none
-    ∙ elim (eqb_tells window 0) [
-      | inl shut ↦ ap (λ b. if b then number == r.rnext else is_in_window r number) shut.0 ∙ eq-eqb number r.rnext same
-      | inr open_yet ↦
-          let here : past number r.rnext ≡ 0 = omega (arith, small, same) in
-          ap (λ b. if b then number == r.rnext else is_in_window r number) open_yet.0 ∙ lt-ltb (past number r.rnext) window (omega (arith, here, open_yet.1))
-    ]
+    ∙ or_left (nat_le (past number r.rnext) (receive_window r)) (stands_before r number) (le-leb (past number r.rnext) (receive_window r) (omega (arith, small, same)))
 
 taken_out : (closed lost over refused opening : Bool) → closed ≡ false → lost ≡ false → refused ≡ false → opening ≡ true
     → is_removed (if closed || lost then Stays else if over then Removed else if refused then Rejected else if opening then Removed else Stays) ≡ true

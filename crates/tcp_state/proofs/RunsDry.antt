@@ -10,7 +10,7 @@ use Rattle.tcp_state.specs.declared.emission.Due.TheVariants.{Rst, Syn, Text, Pr
 use Rattle.tcp_state.specs.declared.emission.Stretch.{Stretch}
 use Rattle.tcp_state.specs.declared.state.State.{State}
 use Rattle.tcp_halves.specs.Halves.{Sending, Receiving}
-use Rattle.tcp_halves.specs.Stream.{outstanding, after_sent}
+use Rattle.tcp_halves.specs.Stream.{outstanding, after_sent, after_probed}
 use Rattle.tcp_halves.specs.Windows.{receive_room, has_grown, whole_units, after_advertisement, after_syn_advertisement}
 use Rattle.tcp_halves.proofs.Keeping.{IsKeeping, in_units}
 use Rattle.tcp_state.proofs.Places.{IsMarked, goes_within}
@@ -209,8 +209,8 @@ probe_goes v sound owes =
     let stretch = probe_stretch v in
     let end = end_of stretch in
     let small : end ≤ 1 = either Stretch (λ t. end_of t ≤ 1) (length v.sending.held == 0) (record { offset = 0; count = 0; fin = true }) (record { offset = 0; count = 1; fin = false }) (λ none. omega arith) (λ some. omega arith) in
-    let sends : Sends v (sent (after_sent v.sending end)) = record {
-      fewer = fall_probe (most_outstanding v) (outstanding v.sending) (outstanding (after_sent v.sending end)) end (left_from v.resend.mark (most_outstanding v)) (one_if v.resend.owes_probe)
+    let sends : Sends v (sent (after_probed v.sending end)) = record {
+      fewer = fall_probe (most_outstanding v) (outstanding v.sending) (outstanding (after_probed v.sending end)) end (left_from v.resend.mark (most_outstanding v)) (one_if v.resend.owes_probe)
           (out_after v.sending end sound.una sound.nxt (omega (arith, small))) (ap one_if owes);
       reset = refl;
       owes = refl;
@@ -219,7 +219,7 @@ probe_goes v sound owes =
       receiving = refl;
       alive = refl;
     } in
-    either View (Sends v) (brings_new_octets v stretch) (after_new_octets (sent (after_sent v.sending end))) (sent (after_sent v.sending end)) (λ new. new_sends v (sent (after_sent v.sending end)) sends) (λ old. sends)
+    either View (Sends v) (brings_new_octets v stretch) (after_new_octets (sent (after_probed v.sending end))) (sent (after_probed v.sending end)) (λ new. new_sends v (sent (after_probed v.sending end)) sends) (λ old. sends)
   where
     sent : Sending → View
     sent sending = record v { sending = sending; resend = resend_probed v.resend }

@@ -28,7 +28,7 @@ use Rattle.tcp_state.specs.Said.{segment_of, IsSo, scale_offer, sack_offer}
 use Rattle.tcp_state.proofs.BlocksTold.{blocks_fit, reported_in}
 use Rattle.tcp_state.proofs.Sizes.{emitted_short}
 use Rattle.tcp_state.proofs.Sound.{sound_keeping}
-use Rattle.tcp_state.proofs.AckNumbers.{ack_fits}
+use Rattle.tcp_state.proofs.AckNumbers.{bare_fits}
 use Rattle.tcp_state.proofs.Clocked.{syn_out}
 use Rattle.tcp_state.proofs.Emissions.{numbers_receive, stretch_receives, probe_receives}
 
@@ -234,11 +234,11 @@ says_what_is_so v KeepAlive now sound may = record {
 -- The octets that go out spell it.
 
 number_fits : (v : View) (due : Due) → IsSound v → number_of v due < 2 ^ 32
-number_fits v Rst sound = sound.nxt
+number_fits v Rst sound = bare_fits v sound
 number_fits v Syn sound = sound.una
 number_fits v (Text stretch) sound = omega arith
 number_fits v Probe sound = sound.una
-number_fits v Ack sound = ack_fits v sound
+number_fits v Ack sound = bare_fits v sound
 number_fits v KeepAlive sound = omega arith
 
 pub window_fits : (v : View) (due : Due) → IsSound v → window_of v due < 2 ^ 16

@@ -1,7 +1,8 @@
 -- Why octets are acknowledged at the second segment that brings some, and soon after the first.
 use Rattle.std.proofs.Common.{◌≡◌, ℕ, ◌+◌, ◌<◌, ◌==◌, ◌&&◌, ◌||◌, ◌⊎◌, not, if◌then◌else◌, Bool, true, false, length, Option, Some, None, is_some, inl, inr, arith, refl, sym, ◌∙◌, ap, subst}
 use Rattle.std.proofs.lemmas.Bool.{eqb-true}
-use Rattle.tcp_segment.specs.Segment.{Segment}
+use Rattle.std.proofs.lemmas.Bool.{ne_eqb}
+use Rattle.tcp_segment.specs.Segment.{Segment, span_of}
 use Rattle.clock.specs.declared.moment.Moment.{Moment}
 use Rattle.clock.specs.Moments.{after}
 use Rattle.retransmit.specs.declared.timers.Timers.{Timers}
@@ -12,10 +13,10 @@ use Rattle.tcp_state.specs.declared.state.State.TheVariants.{SynSent, SynReceive
 use Rattle.tcp_state.specs.declared.timing.TheConstants.{DELAYED_ACK_WAIT}
 use Rattle.tcp_state.specs.View.{View, IsSound, is_opening, is_syn_sent, is_syn_received, is_closed}
 use Rattle.tcp_state.specs.Timing.{KeepsTime, running}
-use Rattle.tcp_state.specs.Arrival.{is_receiving, beyond_fin, after_ack, is_read, after_window, may_delay, after_text, after_fin, after_segment, brings_more, is_lost, after_lost, after_heard, before, timed_by, after_segment_at}
+use Rattle.tcp_state.specs.Arrival.{asks, is_receiving, beyond_fin, after_ack, is_read, after_window, may_delay, after_text, after_fin, after_segment, brings_more, is_lost, after_lost, after_heard, before, timed_by, after_segment_at}
 use Rattle.tcp_state.specs.Due.{first_due, again, new_octets, fin_alone, flags_of}
 use Rattle.tcp_halves.proofs.Choices.{either, by, clash, or_left, or_right, or_else, not_true}
-use Rattle.tcp_state.proofs.Guarded.{read_owes}
+use Rattle.tcp_state.proofs.Guarded.{filled_asks_none, read_owes}
 use Rattle.tcp_state.proofs.Segments.{after_reading, by_fin, by_ack, read_tells, reads, not_rejected}
 use Rattle.tcp_state.proofs.Clocked.{comes_to}
 use Rattle.tcp_state.proofs.Gains.{receiving_lives}
@@ -96,9 +97,13 @@ hears v s now kept on read =
     let lives = receiving_lives v.state on in
     comes_to v s now lives.0 (not_rejected v s lives.1 lives.2) ∙ ap (λ w. timed_by (before v s) w now) (read_whole v s kept on read)
 
+-- what brings octets asks for nothing
+some_asks_none : (v : View) (s : Segment) → 0 < length s.octets → asks v s ≡ false
+some_asks_none v s some = filled_asks_none v s (ne_eqb (span_of s) 0 (λ none. absurd (omega (arith, none, some))))
+
 pub second_answered : (v : View) (s : Segment) (now : Moment) → v.released ≡ false → is_receiving v.state ≡ true → is_read v s ≡ true → 0 < length s.octets → v.delays_ack ≡ true
     → (after_segment_at v s now).owes_ack ≡ true
-second_answered v s now kept on read some delays = ap (λ (w : View). w.owes_ack) (hears v s now kept on read) ∙ (read_owes v s (after_reading v s) now (read_tells v s read) ∙ (read_answers v s on some).second delays)
+second_answered v s now kept on read some delays = ap (λ (w : View). w.owes_ack) (hears v s now kept on read) ∙ (read_owes v s (after_reading v s) now (read_tells v s read) (some_asks_none v s some) ∙ (read_answers v s on some).second delays)
 
 -- the timer of one that waits for a second begins
 none_runs : (o : Option Moment) → is_some o ≡ false → o ≡ None
@@ -122,7 +127,7 @@ first_answered v s now keeps kept on read some =
     let x = timed_by (before v s) w now in
     let a = read_answers v s on some in
     let P : View → Type 0 = λ u. (u.owes_ack ≡ true) ⊎ ((deadline : Moment) × (u.timers.delayed_ack ≡ Some deadline) × (deadline.0 < now.0 + 500)) in
-    let same : x.owes_ack ≡ w.owes_ack = read_owes v s w now (read_tells v s read) in
+    let same : x.owes_ack ≡ w.owes_ack = read_owes v s w now (read_tells v s read) (some_asks_none v s some) in
     subst P (sym (hears v s now kept on read)) (by (P x) w.owes_ack (λ owed. inl (same ∙ owed))
     (λ unowed. inr (after now DELAYED_ACK_WAIT, begun w.delays_ack x.owes_ack w.timers.delayed_ack now a.waits (same ∙ unowed) (none_before v s keeps kept on read (first v w a unowed)), omega arith)))
   where

@@ -2,7 +2,7 @@
 use Rattle.tcp_state.proofs.Clocked.{recover_kept, told_moved, told_still, silent_needed}
 use Rattle.tcp_state.proofs.Selects.{more_counts, more_opened, silent_opening, silent_unselected, counted_selects_none}
 use Rattle.std.proofs.Common.{◌≡◌, ◌≢◌, ℕ, ◌+◌, ◌-◌, ◌%◌, ◌^◌, ◌<◌, ◌≤◌, ◌==◌, ◌&&◌, ◌||◌, ◌⊎◌, ◌↔◌, not, nat_lt, nat_le, min, if◌then◌else◌, Bool, true, false, List, [], ◌∷◌, length, drop, Some, inl, inr, arith, refl, sym, ◌∙◌, ap, ap₂, subst}
-use Rattle.std.proofs.lemmas.Bool.{eqb-true, eq-eqb, lt-ltb, ltb-true}
+use Rattle.std.proofs.lemmas.Bool.{eqb-true, eq-eqb, lt-ltb, ltb-true, ne_eqb}
 use Rattle.std.proofs.lemmas.Bool.Decides.{eqb_tells, leb_tells}
 use Rattle.std.proofs.lemmas.List.{length-drop}
 use Rattle.tcp_segment.specs.Segment.{Segment}
@@ -18,7 +18,7 @@ use Rattle.tcp_state.specs.declared.state.State.{State}
 use Rattle.tcp_state.specs.declared.state.State.TheVariants.{SynSent, SynReceived}
 use Rattle.tcp_halves.specs.Halves.{Sending}
 use Rattle.tcp_halves.specs.Numbers.{is_before}
-use Rattle.tcp_halves.specs.Stream.{outstanding, is_new_ack, stands_next, after_octets, after_end}
+use Rattle.tcp_halves.specs.Stream.{outstanding, is_new_ack, stands_next, after_octets, after_end, stands_before}
 use Rattle.tcp_halves.specs.Windows.{window_in, updates_window}
 use Rattle.tcp_halves.proofs.Choices.{either, by, clash, and_left, and_right, and_false, both, not_true, of_false, or_right}
 use Rattle.tcp_state.specs.View.{View, IsSound, is_opening, is_syn_sent, is_syn_received, is_closed, is_write_finished, takes_flag_number, is_at_end, after_stop, after_reset}
@@ -99,7 +99,10 @@ duplicate_tells v s e =
     let bare = flies && (length s.octets == 0) in
     let goes_on = bare && not s.flags.fin in
     let at_una = goes_on && (s.acknowledgement == v.sending.una) in
-    let six = and_left at_una (window_in v.sending s.window == v.sending.window) e in
+    let same = at_una && (window_in v.sending s.window == v.sending.window) in
+    let before = stands_before v.receiving s.number in
+    let seven = and_left same (not before) e in
+    let six = and_left at_una (window_in v.sending s.window == v.sending.window) seven in
     let five = and_left goes_on (s.acknowledgement == v.sending.una) six in
     let four = and_left bare (not s.flags.fin) five in
     let three = and_left flies (length s.octets == 0) four in
@@ -112,11 +115,12 @@ duplicate_tells v s e =
       acceptable = r.accepted;
       ack = r.ack;
       at_una = eqb-true s.acknowledgement v.sending.una (and_right goes_on (s.acknowledgement == v.sending.una) six);
-      window = eqb-true (window_in v.sending s.window) v.sending.window (and_right at_una (window_in v.sending s.window == v.sending.window) e);
+      window = eqb-true (window_in v.sending s.window) v.sending.window (and_right at_una (window_in v.sending s.window == v.sending.window) seven);
       octets = no_octets s.octets (eqb-true (length s.octets) 0 (and_right flies (length s.octets == 0) four));
       no_syn = r.no_syn;
       no_fin = not_true s.flags.fin (and_right bare (not s.flags.fin) five);
       no_rst = r.no_rst;
+      unasked = λ one. clash before (eq-eqb (past v.receiving.rnext s.number) 1 one) (not_true before (and_right same (not before) e));
     }
 
 is_repeated : (v : View) (s : Segment) → IsSound v → IsDuplicate v s → is_duplicate v s ≡ true
@@ -133,7 +137,9 @@ is_repeated v s sound d =
     let four = both flies (length s.octets == 0) three (eq-eqb (length s.octets) 0 (ap length d.octets)) in
     let five = both bare (not s.flags.fin) four (of_false s.flags.fin d.no_fin) in
     let six = both goes_on (s.acknowledgement == v.sending.una) five (eq-eqb s.acknowledgement v.sending.una d.at_una) in
-    both at_una (window_in v.sending s.window == v.sending.window) six (eq-eqb (window_in v.sending s.window) v.sending.window d.window)
+    let seven = both at_una (window_in v.sending s.window == v.sending.window) six (eq-eqb (window_in v.sending s.window) v.sending.window d.window) in
+    let before = stands_before v.receiving s.number in
+    both (at_una && (window_in v.sending s.window == v.sending.window)) (not before) seven (of_false before (ne_eqb (past v.receiving.rnext s.number) 1 d.unasked))
 
 pub duplicates_are : (v : View) (s : Segment) → IsSound v → (is_duplicate v s ≡ true) ↔ IsDuplicate v s
 duplicates_are v s sound = (duplicate_tells v s, is_repeated v s sound)

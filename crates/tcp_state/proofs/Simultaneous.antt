@@ -1,7 +1,7 @@
 -- Why two connections that open to each other at the same time both open.
 use Rattle.std.proofs.Common.{◌≡◌, ℕ, ◌+◌, ◌-◌, ◌*◌, ◌/◌, ◌%◌, ◌^◌, ◌<◌, ◌==◌, ◌||◌, ◌&&◌, not, min, max, nat_lt, nat_le, if◌then◌else◌, ◌⊎◌, ◌≤◌, Bool, true, false, List, [], ◌∷◌, Option, Some, None, is_some, unwrap_or, inl, inr, option_map, arith, refl, sym, ◌∙◌, ap, ap₂, subst}
 use Rattle.std.specs.List.{list_any}
-use Rattle.std.proofs.lemmas.Bool.{lt-ltb, le-ltb, lt-leb, le-leb, eq-eqb}
+use Rattle.std.proofs.lemmas.Bool.{le-ltb, lt-leb, le-leb}
 use Rattle.std.proofs.lemmas.Bool.Decides.{eqb_tells, leb_tells}
 use Rattle.ipv4.specs.declared.addr.Endpoint.{Endpoint}
 use Rattle.clock.specs.declared.moment.Moment.{Moment}
@@ -22,7 +22,7 @@ use Rattle.tcp_state.specs.declared.emission.Due.TheVariants.{Syn, Text, Ack}
 use Rattle.tcp_state.specs.declared.state.State.TheVariants.{SynReceived, Established}
 use Rattle.tcp_halves.specs.Numbers.{is_before, later_number}
 use Rattle.tcp_halves.specs.Halves.{Room, Receiving}
-use Rattle.tcp_halves.specs.Stream.{size_in, own_unit, peer_unit, size_of, outstanding, sending_from, receiving_nothing, receive_window, is_in_window, is_acceptable}
+use Rattle.tcp_halves.specs.Stream.{size_in, own_unit, peer_unit, size_of, outstanding, sending_from, receiving_nothing, receive_window, is_in_window, is_acceptable, stands_before}
 use Rattle.tcp_state.specs.New.{waits_no_longer}
 use Rattle.tcp_halves.specs.Windows.{window_in, updates_window, is_worth_sending, receive_room, has_grown, whole_units, after_advertisement, window_field, syn_window, after_syn_advertisement}
 use Rattle.tcp_state.specs.declared.arrival.Before.{Before}
@@ -35,12 +35,12 @@ use Rattle.tcp_state.specs.Alive.{asked}
 use Rattle.tcp_state.specs.View.{View, first_congestion, opened_actively}
 use Rattle.tcp_state.specs.Congestion.{after_signal}
 use Rattle.tcp_state.specs.Congestion.Signal.{Begins, Nothing}
-use Rattle.tcp_state.specs.Arrival.{owing_ack, after_establishment, after_window, after_text, after_fin, after_acceptable_segment, is_acceptable_to, acknowledges_unsent, answers_probe, draws_one, before, since_after, is_moved, resend_left, congestion_left, is_held_back, guarded, timed_by, after_heard, resend_signalled}
+use Rattle.tcp_state.specs.Arrival.{owing_ack, after_establishment, after_window, after_text, after_fin, after_acceptable_segment, is_acceptable_to, acknowledges_unsent, answers_probe, draws_one, before, since_after, is_moved, resend_left, congestion_left, is_held_back, guarded, timed_by, after_heard, resend_signalled, owes_answer}
 use Rattle.tcp_state.specs.Due.{first_due, ack_due, new_octets, head_of, octets_of, after_syn_ack_paid, after_resent, after_first_sent, after_syn_again}
 use Rattle.tcp_state.specs.Edges.{Hears, Emits, after_first, after_event}
 use Rattle.tcp_state.specs.Simultaneous.{first_segment, after_coming, Ends, crossed, AnswersSyn, CanBeMade, HasOpened, KnowsWindow}
 use Rattle.tcp_state.proofs.Selects.{silent_opening}
-use Rattle.tcp_state.proofs.Guarded.{fresh_unspent}
+use Rattle.tcp_state.proofs.Guarded.{fresh_unspent, no_answer, opening_asks_none}
 use Rattle.tcp_state.proofs.Clocked.{comes_to, unmoved, timed_unmoved, silent_needed}
 use Rattle.tcp_halves.proofs.Choices.{either, clash, both, or_left, and_false}
 use Rattle.tcp_halves.proofs.Keeping.{in_units}
@@ -114,7 +114,7 @@ abbrev answering : Meeting → Guard → ℕ → Bool → Bool → Resend → Mo
 answering m guard window owes spoke resend first last = record (opening m first) {
   state = SynReceived;
   scales = m.scales;
-  sending = record { held = []; una = m.isn; nxt = wire m.isn 1; window = m.theirs.told; max_window = max 0 m.theirs.told; wl1 = m.other; wl2 = m.isn; smss = 1460; size = m.mine.size; unit = m.unit };
+  sending = record { held = []; una = m.isn; nxt = wire m.isn 1; window = m.theirs.told; max_window = max 0 m.theirs.told; wl1 = m.other; wl2 = m.isn; smss = 1460; size = m.mine.size; unit = m.unit; probed = false };
   receiving = receives m window;
   owes_ack = owes;
   spoke = spoke;
@@ -131,7 +131,7 @@ abbrev taken : Meeting → Settled → ℕ → Option ℕ → Moment → View
 taken m t out mark first = record (opening m first) {
   state = SynReceived;
   scales = t.scales;
-  sending = record { held = []; una = m.isn; nxt = wire m.isn 1; window = t.heard; max_window = max 0 t.heard; wl1 = m.other; wl2 = m.isn; smss = t.smss; size = t.sends; unit = t.peer };
+  sending = record { held = []; una = m.isn; nxt = wire m.isn 1; window = t.heard; max_window = max 0 t.heard; wl1 = m.other; wl2 = m.isn; smss = t.smss; size = t.sends; unit = t.peer; probed = false };
   receiving = record { readable = []; kept = (receiving_nothing m.mine.room).kept; rnext = wire m.other 1; edge = (wire m.other 1 + (if out == 0 then 0 else t.told)) % 2 ^ 32; size = t.takes; capacity = m.mine.room.capacity; unit = t.own };
   resend = record (timed_from m.mine.room.manner.least_timeout m.isn first) { mark = mark };
   timers = runs_from first;
@@ -159,7 +159,7 @@ abbrev opened : Meeting → Guard → Moment → View
 opened m guard last = record (opening m (record { 0 = 0 })) {
   state = Established;
   scales = m.scales;
-  sending = record { held = []; una = wire m.isn 1; nxt = wire m.isn 1; window = known m; max_window = max (max 0 m.theirs.told) (known m); wl1 = wire m.other 1; wl2 = wire m.isn 1; smss = 1460; size = m.mine.size; unit = m.unit };
+  sending = record { held = []; una = wire m.isn 1; nxt = wire m.isn 1; window = known m; max_window = max (max 0 m.theirs.told) (known m); wl1 = wire m.other 1; wl2 = wire m.isn 1; smss = 1460; size = m.mine.size; unit = m.unit; probed = false };
   receiving = receives m m.mine.wide;
   spoke = true;
   resend = resent_once m.mine.room.manner.least_timeout;
@@ -202,14 +202,14 @@ drawn_once g drew now =
     (λ none. omega arith)
 
 -- so what is owed stays, and what goes out again
-unguarded : (b : Before) (x : View) (now : Moment) → b.asks_again ≡ false → x.guard.drawn < MOST_DRAWN → guarded b x now ≡ record x { guard = guard_after x.guard b.draws_one now }
-unguarded b x now quiet few =
+unguarded : (b : Before) (x : View) (now : Moment) → b.asks_again ≡ false → b.asks ≡ false → x.guard.drawn < MOST_DRAWN → guarded b x now ≡ record x { guard = guard_after x.guard b.draws_one now }
+unguarded b x now quiet unasked few =
     let held : is_held_back b x now ≡ false = ap (λ u. b.draws_one && u) (fresh_unspent x.guard now few) ∙ and_false b.draws_one in
     ap₂ (λ h a. record x {
-      owes_ack = if h || a then false else x.owes_ack;
+      owes_ack = if h || a then false else owes_answer b x;
       resend = record x.resend { mark = if a && not h then mark_past 0 (outstanding x.sending) else x.resend.mark };
       guard = guard_after x.guard b.draws_one now;
-    }) held quiet
+    }) held quiet ∙ ap (λ o. record x { owes_ack = o; guard = guard_after x.guard b.draws_one now }) (no_answer b x unasked)
 
 -- What holds of them.
 
@@ -339,7 +339,7 @@ syn_comes m now f =
     ap (λ n. timed_by b (taken m (read_of m) n (mark_past 0 n) now) now) (one_out m.isn f.isn)
     ∙ (ap (λ t. timed_by b (taken m t 1 (Some 0) now) now) f.settles
     ∙ (timed_unmoved b w now (unmoved v) refl refl (silent_opening v (syn_of (mirror m)) refl) (silent_needed v (syn_of (mirror m)) (silent_opening v (syn_of (mirror m)) refl))
-    ∙ (ap (λ x. clocked false x now) (unguarded b w now (and_false on) (omega arith)) ∙ ap (running_if (again_due m (guard_at m now) now) None now now) (one_out m.isn f.isn))))
+    ∙ (ap (λ x. clocked false x now) (unguarded b w now (and_false on) (opening_asks_none v (syn_of (mirror m)) refl) (omega arith)) ∙ ap (running_if (again_due m (guard_at m now) now) None now now) (one_out m.isn f.isn))))
 
 -- The SYN-ACK.
 
@@ -383,7 +383,7 @@ syn_ack_comes m guard first now f few =
     comes_to v s now refl (and_no (acknowledges_unsent v s) (is_acceptable_to v s && false) (and_no (is_acceptable_to v s) false refl))
     ∙ (ap (λ a. timed_by b (if a then after_acceptable_segment v s else owing_ack v) now) (unacceptable m f)
     ∙ (timed_unmoved b w now (unmoved v) refl refl (silent_opening v s refl) (silent_needed v s (silent_opening v s refl))
-    ∙ (ap (λ x. clocked false x now) (unguarded b w now (and_false guard.on) few) ∙ ap (running_if (again_sent m (guard_again m guard first now) m.mine.told true false first now) None now first) (one_out m.isn f.isn))))
+    ∙ (ap (λ x. clocked false x now) (unguarded b w now (and_false guard.on) (opening_asks_none v s refl) few) ∙ ap (running_if (again_sent m (guard_again m guard first now) m.mine.told true false first now) None now first) (one_out m.isn f.isn))))
 
 -- The acknowledgement.
 
@@ -401,9 +401,7 @@ in_order : (m : Meeting) → Fits m → is_acceptable (receives m m.mine.wide) (
 in_order m f =
     let r = receives m m.mine.wide in
     let next = wire m.other 1 in
-    either Bool (λ b. b ≡ true) (receive_window r == 0) (next == next) (is_in_window r next)
-    (λ none. eq-eqb next next refl)
-    (λ some. lt-ltb (past next next) (receive_window r) (omega (arith, none_out next (omega arith), window_is m m.mine.wide f.mine.most, f.mine.least)))
+    or_left (nat_le (past next next) (receive_window r)) (stands_before r next) (le-leb (past next next) (receive_window r) (omega (arith, none_out next (omega arith))))
 
 -- our SYN is acknowledged by a segment one further than the other's SYN
 acknowledges : (isn : ℕ) → isn < 2 ^ 32 → (nat_lt 0 (past (wire isn 1) isn) && nat_le (past (wire isn 1) isn) (past (wire isn 1) isn)) ≡ true
@@ -480,7 +478,7 @@ ack_comes m guard first last now f few =
     comes_to v s now refl (ap (λ a. not a && (is_acceptable_to v s && true)) (acknowledges m.isn f.isn))
     ∙ (ap (λ x. timed_by b x now) (ack_heard m guard first last f)
     ∙ (ap₂ (λ bs t. timed_by (record b { blocks = bs; needless = t }) w now) (silent_opening v s refl) (silent_needed v s (silent_opening v s refl))
-    ∙ (ap (λ x. clocked (is_moved silent w) x now) (unguarded silent (record w { since = since_after silent w now; resend = resend_left silent w now; congestion = congestion_left silent w now; alive = asked None now }) now (and_false guard.on) few)
+    ∙ (ap (λ x. clocked (is_moved silent w) x now) (unguarded silent (record w { since = since_after silent w now; resend = resend_left silent w now; congestion = congestion_left silent w now; alive = asked None now }) now (and_false guard.on) (opening_asks_none v s refl) few)
     ∙ (ap (λ x. clocked x (record w {
       resend = let resend : Resend = record (if x then once else if answers_probe v s then once else once) { reported = [] } in resend_signalled resend (if x then Begins else Nothing) w.congestion (outstanding w.sending);
       congestion = after_signal w.congestion (if x then Begins else Nothing) 1460 false;

@@ -6,12 +6,12 @@ use Rattle.tcp_segment.specs.Wire.{wire, past}
 use Rattle.tcp_segment.specs.Segment.{Segment}
 use Rattle.tcp_halves.specs.Numbers.{is_before}
 use Rattle.tcp_halves.specs.Halves.{Sending, Receiving}
-use Rattle.tcp_halves.specs.Stream.{outstanding, is_new_ack, is_in_window, is_acceptable, receive_window}
+use Rattle.tcp_halves.specs.Stream.{outstanding, is_new_ack, is_in_window, is_acceptable, receive_window, stands_before}
 use Rattle.tcp_state.specs.View.{View, IsSound}
 use Rattle.tcp_state.specs.Positions.{ReceivesAt}
 use Rattle.tcp_state.specs.Arrival.{is_too_old, is_off}
 use Rattle.tcp_state.specs.Duties.{Places, StandsAt, is_aged, is_out_of_reach, is_in_reach}
-use Rattle.tcp_halves.proofs.Choices.{either, by, and_left, and_right, and_false, or_left}
+use Rattle.tcp_halves.proofs.Choices.{by, and_left, and_right, and_false, or_left}
 use Rattle.tcp_state.proofs.Positions.{window_tells}
 use Rattle.tcp_state.proofs.Freed.{named_is_new}
 
@@ -148,10 +148,8 @@ number_tells initial next edge first number r at is behind ahead =
 -- a number in the window makes a segment acceptable, whatever numbers it takes
 pub inside_accepted : (r : Receiving) (number span : ℕ) → is_in_window r number ≡ true → is_acceptable r number span ≡ true
 inside_accepted r number zero inside =
-    either Bool (λ b. b ≡ true) (receive_window r == 0) (number == r.rnext) (is_in_window r number)
-    (λ shut. let some : past number r.rnext < receive_window r = ltb-true (past number r.rnext) (receive_window r) inside in
-    let none : receive_window r ≡ 0 = eqb-true (receive_window r) 0 shut in absurd (omega (arith, some, none)))
-    (λ open_yet. inside)
+    let some = ltb-true (past number r.rnext) (receive_window r) inside in
+    or_left (nat_le (past number r.rnext) (receive_window r)) (stands_before r number) (le-leb (past number r.rnext) (receive_window r) (omega (arith, some)))
 inside_accepted r number (suc more) inside = or_left (is_in_window r number) _ inside
 
 -- Both, of a segment that stands somewhere.

@@ -1,5 +1,5 @@
 -- Why the clock, and what goes out, leave the streams as they are.
-use Rattle.std.proofs.Common.{◌≡◌, ℕ, ◌+◌, nat_le, true, false, [], Option, Some, None, refl, sym, ◌∙◌, ap}
+use Rattle.std.proofs.Common.{◌≡◌, ℕ, ◌+◌, nat_le, Bool, true, false, [], Option, Some, None, refl, sym, ◌∙◌, ap, ap₂}
 use Rattle.clock.specs.declared.moment.Moment.{Moment}
 use Rattle.clock.specs.Moments.{has_come}
 use Rattle.retransmit.specs.Deadlines.{next_of}
@@ -43,12 +43,12 @@ ends_leave v now =
 
 -- What goes out.
 
--- SND.NXT moves, and the edge
+-- SND.NXT moves, with whether only a probe took the number before it, and the edge
 abbrev Moves : View → View → Type 0
-Moves v w = (w.sending ≡ record v.sending { nxt = w.sending.nxt }) × (w.receiving ≡ record v.receiving { edge = w.receiving.edge })
+Moves v w = (w.sending ≡ record v.sending { nxt = w.sending.nxt; probed = w.sending.probed }) × (w.receiving ≡ record v.receiving { edge = w.receiving.edge })
 
-sent_as : (s t : Sending) (n : ℕ) → t ≡ record s { nxt = n } → t ≡ record s { nxt = t.nxt }
-sent_as s t n is = is ∙ ap (λ m. record s { nxt = m }) (sym (ap (λ (x : Sending). x.nxt) is))
+sent_as : (s t : Sending) (n : ℕ) (b : Bool) → t ≡ record s { nxt = n; probed = b } → t ≡ record s { nxt = t.nxt; probed = t.probed }
+sent_as s t n b is = is ∙ ap₂ (λ m c. record s { nxt = m; probed = c }) (sym (ap (λ (x : Sending). x.nxt) is)) (sym (ap (λ (x : Sending). x.probed) is))
 
 advertised : (r : Receiving) → after_advertisement r ≡ record r { edge = (after_advertisement r).edge }
 advertised r = either Receiving (λ t. t ≡ record r { edge = t.edge }) (has_grown r) _ r (λ grown. refl) (λ small. refl)
@@ -57,27 +57,27 @@ syn_advertised : (r : Receiving) → after_syn_advertisement r ≡ record r { ed
 syn_advertised r = either Receiving (λ t. t ≡ record r { edge = t.edge }) (nat_le (receive_window r + 1460) (syn_window r)) _ r (λ grown. refl) (λ small. refl)
 
 -- an acknowledgement goes with it, which advertises a window
-paid : (v w : View) (n : ℕ) (told : Receiving → Receiving) → ((r : Receiving) → told r ≡ record r { edge = (told r).edge }) → w.sending ≡ record v.sending { nxt = n } → w.receiving ≡ v.receiving
+paid : (v w : View) (n : ℕ) (b : Bool) (told : Receiving → Receiving) → ((r : Receiving) → told r ≡ record r { edge = (told r).edge }) → w.sending ≡ record v.sending { nxt = n; probed = b } → w.receiving ≡ v.receiving
     → Moves v (record w { receiving = told w.receiving; owes_ack = false; delays_ack = false })
-paid v w n told edge sends receives =
-    (sent_as v.sending w.sending n sends, ap told receives ∙ edge v.receiving ∙ ap (λ r. record v.receiving { edge = (told r).edge }) (sym receives))
+paid v w n b told edge sends receives =
+    (sent_as v.sending w.sending n b sends, ap told receives ∙ edge v.receiving ∙ ap (λ r. record v.receiving { edge = (told r).edge }) (sym receives))
 
 moves : (v : View) (due : Due) (now : Moment) → Moves v (after_emitted v due now)
 moves v Rst now = (refl, refl)
 moves v Syn now =
     let sent = after_syn_out v now in
     let receives : sent.receiving ≡ v.receiving = syn_out v now (λ w. w.receiving ≡ v.receiving) (numbers_receive v 0 1 now) (numbers_receive v 0 1 now) in
-    either View (Moves v) (is_syn_received v.state) (after_syn_ack_paid sent) sent (λ received. paid v sent _ after_syn_advertisement syn_advertised (syn_sends v now) receives)
-    (λ first. (sent_as v.sending sent.sending _ (syn_sends v now), receives ∙ ap (λ (r : Receiving). record v.receiving { edge = r.edge }) (sym receives)))
-moves v (Text stretch) now = paid v (after_stretch v stretch now) _ after_advertisement advertised (stretch_sends v stretch now) (stretch_receives v stretch now)
-moves v Probe now = paid v (after_probe v) _ after_advertisement advertised (probe_sends v) (probe_receives v)
-moves v Ack now = paid v v _ after_advertisement advertised refl refl
+    either View (Moves v) (is_syn_received v.state) (after_syn_ack_paid sent) sent (λ received. paid v sent _ _ after_syn_advertisement syn_advertised (syn_sends v now) receives)
+    (λ first. (sent_as v.sending sent.sending _ _ (syn_sends v now), receives ∙ ap (λ (r : Receiving). record v.receiving { edge = r.edge }) (sym receives)))
+moves v (Text stretch) now = paid v (after_stretch v stretch now) _ _ after_advertisement advertised (stretch_sends v stretch now) (stretch_receives v stretch now)
+moves v Probe now = paid v (after_probe v) _ _ after_advertisement advertised (probe_sends v) (probe_receives v)
+moves v Ack now = paid v v _ _ after_advertisement advertised refl refl
 moves v KeepAlive now = (refl, advertised v.receiving)
 
 moves_first : (v : View) (o : Option Due) (now : Moment) → Moves v (after_first v o now)
 moves_first v None now = (refl, refl)
 moves_first v (Some due) now = moves v due now
 
-pub emissions_leave : (v : View) (now : Moment) → ((after_event v (Emits now)).sending ≡ record v.sending { nxt = (after_event v (Emits now)).sending.nxt })
+pub emissions_leave : (v : View) (now : Moment) → ((after_event v (Emits now)).sending ≡ record v.sending { nxt = (after_event v (Emits now)).sending.nxt; probed = (after_event v (Emits now)).sending.probed })
     × ((after_event v (Emits now)).receiving ≡ record v.receiving { edge = (after_event v (Emits now)).receiving.edge }) × ((after_event v (Emits now)).state ≡ v.state)
 emissions_leave v now = let k = moves_first v (first_due v) now in (k.0, k.1, emitted-state v (first_due v) now)

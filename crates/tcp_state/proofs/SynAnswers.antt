@@ -15,14 +15,14 @@ use Rattle.tcp_state.specs.declared.state.State.TheVariants.{SynSent, SynReceive
 use Rattle.tcp_halves.specs.Numbers.{later_number}
 use Rattle.tcp_halves.specs.Halves.{Sending}
 use Rattle.tcp_halves.specs.Windows.{window_in}
-use Rattle.tcp_halves.specs.Stream.{outstanding, is_new_ack}
+use Rattle.tcp_halves.specs.Stream.{outstanding, is_new_ack, stands_before}
 use Rattle.tcp_state.specs.View.{View, IsSound, is_opening, is_syn_sent, is_syn_received, is_closed, is_over, is_write_closed, after_reset}
 use Rattle.tcp_state.specs.Tail.{tail_by}
 use Rattle.tcp_state.specs.Resend.{mark_past}
 use Rattle.tcp_state.specs.Guard.{guard_after}
 use Rattle.tcp_state.specs.Timing.{probes, clocked}
 use Rattle.tcp_state.specs.Alive.{heard_now}
-use Rattle.tcp_state.proofs.Guarded.{sent_not_received, kept_mark, guarded_quiet, active_asks_none}
+use Rattle.tcp_state.proofs.Guarded.{sent_not_received, kept_mark, guarded_quiet, active_asks_none, opening_asks_none}
 use Rattle.tcp_state.proofs.Selects.{silent_opening}
 use Rattle.tcp_state.specs.Arrival.{reset_error, after_rst_in_syn_sent, after_rst, is_acting_reset, ends_by_reset, ends_by_syn, ends_opening, is_acceptable_to, is_simultaneous_syn, after_simultaneous_syn, after_syn_ack, after_segment, is_receiving, is_read, octets_outstanding, brings_more, is_lost, after_lost, after_heard, before, is_moved, timed_by, after_segment_at, is_rejected, fate, counts_duplicates, is_counted_duplicate, resend_left, since_after, congestion_left}
 use Rattle.tcp_state.specs.Due.{first_due, ack_due}
@@ -64,7 +64,7 @@ then_sent una nxt small fits few =
 -- while the connection opens, no segment is a duplicate ACK
 repeats_none : (v : View) (s : Segment) → is_opening v.state ≡ true → is_counted_duplicate v s ≡ false
 repeats_none v s opens =
-    ap (λ b. not b && is_read v s && nat_lt 0 (octets_outstanding v) && (length s.octets == 0) && not s.flags.fin && (s.acknowledgement == v.sending.una) && (window_in v.sending s.window == v.sending.window) && counts_duplicates v) opens
+    ap (λ b. not b && is_read v s && nat_lt 0 (octets_outstanding v) && (length s.octets == 0) && not s.flags.fin && (s.acknowledgement == v.sending.una) && (window_in v.sending s.window == v.sending.window) && not (stands_before v.receiving s.number) && counts_duplicates v) opens
 
 answers : (v : View) (s : Segment) (now : Moment) → IsSound v → v.state ≡ SynSent → AnswersSyn v.sending.una s.number (timed_by (before v s) (after_simultaneous_syn v s) now)
 answers v s now sound opens =
@@ -151,7 +151,7 @@ refused v s now sound is quiet active =
     let x = record w { since = since_after b w now; resend = resend; congestion = congestion_left b w now; alive = heard_now w.alive now } in
     let guard = guard_after v.guard b.draws_one now in
     let timed = clocked (is_moved b w) (record x { guard = guard }) now in
-    subst (λ y. IsRefused (clocked (is_moved b w) y now)) (sym (guarded_quiet b x now (active_asks_none v s active) refl)) (record {
+    subst (λ y. IsRefused (clocked (is_moved b w) y now)) (sym (guarded_quiet b x now (active_asks_none v s active) refl (opening_asks_none v s (ap is_opening is)))) (record {
       closed = refl;
       send = λ octets. refl;
       recv = λ len. refl;

@@ -122,6 +122,7 @@ silent_sound v now k = record {
   mark = either (Option ℕ) (λ m. ForSome m (λ distance. distance < outstanding v.sending)) (is_tail_due v now) (Some (outstanding v.sending - v.sending.smss)) v.resend.mark
       (λ due. marked_within v (due_awaits v now due).large k.segment_least) (λ none. k.mark);
   small = k.small;
+  probed = k.probed;
   recover = k.recover;
   tail = either ℕ (λ n. n ≤ outstanding v.sending) (is_tail_due v now) (outstanding v.sending) v.resend.tail (λ due. omega arith) (λ none. k.tail);
   resend = let r = k.resend in record { floor = r.floor; ceiling = r.ceiling; timeout_least = r.timeout_least; timeout_most = r.timeout_most; interval_least = r.interval_least; interval_most = r.interval_most; expiries = r.expiries; reported = r.reported };
@@ -152,6 +153,7 @@ marked_sound v p now k due sound is =
       flight = k.flight;
       mark = marked_within v (due_awaits v now due).large k.segment_least;
       small = k.small;
+      probed = k.probed;
       recover = k.recover;
       tail = omega arith;
       resend = subst IsSoundResend is sound;

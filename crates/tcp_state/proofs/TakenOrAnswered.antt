@@ -17,7 +17,7 @@ use Rattle.tcp_state.specs.View.{View, IsSound, is_opening, is_syn_received, is_
 use Rattle.tcp_state.specs.Arrival.{is_acceptable_to, is_receiving, is_read, brings_more, is_lost, ends_by_syn, is_opening_syn, holds_back, is_silenced, after_segment_at}
 use Rattle.tcp_state.specs.Edges.{Hears, is_last_ack, is_reset_by, ends_by, ends_by_ack, is_removed, fate_by}
 use Rattle.tcp_state.specs.Positions.{ReceivesAt, IsNear, known_at, places_after}
-use Rattle.tcp_state.specs.Duties.{acknowledges, Places, StandsAt, is_unacceptable, is_challenged, is_another_syn, is_astray, is_aged, is_out_of_reach, is_in_reach, is_used, may_bring, brings_text, hurries, draws}
+use Rattle.tcp_state.specs.Duties.{acknowledges, Places, StandsAt, is_unacceptable, is_challenged, is_another_syn, is_astray, is_aged, is_out_of_reach, is_in_reach, is_used, may_bring, brings_text, hurries, draws, is_asking}
 use Rattle.tcp_state.specs.Progress.{IsOrdinary}
 use Rattle.tcp_halves.proofs.Choices.{by, clash, and_left, and_right, and_false, both, or_left, or_right, or_else, of_false}
 use Rattle.tcp_state.proofs.Positions.{window_at, in_window, accepted_filled}
@@ -27,6 +27,7 @@ use Rattle.tcp_state.proofs.Standing.{inside_accepted}
 use Rattle.tcp_state.proofs.Used.{read_as_used, more_as_new}
 use Rattle.tcp_state.proofs.Causes.{ends_caused}
 use Rattle.tcp_state.proofs.Drawn.{owed_as_drawn}
+use Rattle.tcp_state.proofs.DrawTests.{drawn_at}
 
 -- It is acceptable.
 
@@ -163,11 +164,11 @@ opened FinWait1 e = refl
 opened FinWait2 e = refl
 opened _ e = cc
 
-drawn : (at : Places) (v : View) (s : Segment) → IsSound v → StandsAt at v s → is_receiving v.state ≡ true → IsOrdinary s → at.ack ≤ at.una + outstanding v.sending → 0 < length s.octets → at.first + length s.octets ≤ at.next → draws at v s ≡ true
-drawn at v s sound stands receives plain sent some old =
+drawn_by_kind : (at : Places) (v : View) (s : Segment) → IsSound v → StandsAt at v s → is_receiving v.state ≡ true → IsOrdinary s → at.ack ≤ at.una + outstanding v.sending → 0 < length s.octets → at.first + length s.octets ≤ at.next → drawn_at at v s ≡ true
+drawn_by_kind at v s sound stands receives plain sent some old =
     let text = brings_text at v s && (s.flags.fin || hurries at v s) in
-    by (draws at v s ≡ true) (is_acceptable_to v s)
-    (λ acceptable. by (draws at v s ≡ true) (is_aged at v)
+    by (drawn_at at v s ≡ true) (is_acceptable_to v s)
+    (λ acceptable. by (drawn_at at v s ≡ true) (is_aged at v)
     (λ aged.
     let astray : is_astray at v s ≡ true = both (acknowledges v s && not (is_opening v.state)) (is_out_of_reach at v)
     (both (acknowledges v s) (not (is_opening v.state)) (says v s plain acceptable) (of_false (is_opening v.state) (opened v.state receives)))
@@ -193,6 +194,9 @@ drawn at v s sound stands receives plain sent some old =
     brings FinWait1 e = refl
     brings FinWait2 e = refl
     brings _ e = cc
+
+drawn : (at : Places) (v : View) (s : Segment) → IsSound v → StandsAt at v s → is_receiving v.state ≡ true → IsOrdinary s → at.ack ≤ at.una + outstanding v.sending → 0 < length s.octets → at.first + length s.octets ≤ at.next → draws at v s ≡ true
+drawn at v s sound stands receives plain sent some old = or_left (drawn_at at v s) (is_asking at v s) (drawn_by_kind at v s sound stands receives plain sent some old)
 
 pub answered_at_once : (at : Places) (v : View) (s : Segment) (now : Moment) → IsSound v → StandsAt at v s → is_receiving v.state ≡ true → IsOrdinary s → at.ack ≤ at.una + outstanding v.sending
     → 0 < length s.octets → at.first + length s.octets ≤ at.next → holds_back v s now ≡ false → (after_segment_at v s now).owes_ack ≡ true

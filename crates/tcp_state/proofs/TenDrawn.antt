@@ -1,20 +1,18 @@
 -- Why ten segments at most that aren't used draw an acknowledgement in a second, and what is known of the peer's windows.
-use Rattle.std.proofs.Common.{◌≡◌, ◌≢◌, ℕ, ◌+◌, ◌-◌, ◌<◌, ◌≤◌, ◌⊎◌, ◌==◌, ◌&&◌, ◌||◌, not, nat_lt, nat_le, max, true, false, if◌then◌else◌, List, [], ◌∷◌, Some, is_some, inl, inr, arith, refl, sym, ◌∙◌, ap, ap₂, subst}
+use Rattle.std.proofs.Common.{◌≡◌, ◌≢◌, ℕ, ◌+◌, ◌-◌, ◌<◌, ◌≤◌, ◌⊎◌, ◌==◌, ◌&&◌, ◌||◌, not, nat_lt, nat_le, true, false, if◌then◌else◌, List, [], ◌∷◌, Some, is_some, inl, inr, arith, refl, sym, ◌∙◌, ap, ap₂, subst}
 use Rattle.std.proofs.lemmas.Bool.{leb-true, lt-ltb, le-leb, le-ltb}
 use Rattle.std.proofs.lemmas.Bool.Decides.{leb_tells}
 use Rattle.clock.specs.declared.moment.Moment.{Moment}
-use Rattle.ipv4.specs.declared.addr.Endpoint.{Endpoint}
 use Rattle.tcp_segment.specs.Segment.{Segment}
-use Rattle.tcp_halves.specs.Halves.{Room}
 use Rattle.tcp_halves.specs.Stream.{outstanding}
-use Rattle.tcp_halves.proofs.Choices.{either, by, clash, and_left, and_right, and_false, neither, not_true, unowed}
+use Rattle.tcp_halves.proofs.Choices.{either, by, clash, both, or_left, or_right, and_left, and_right, and_false, neither, not_true, unowed}
 use Rattle.tcp_state.specs.declared.guard.Guard.{Guard}
 use Rattle.tcp_state.specs.declared.emission.Due.TheVariants.{Rst, Syn}
 use Rattle.tcp_state.specs.Guard.{counting_at, is_spent, guard_after}
 use Rattle.tcp_state.specs.Resend.{mark_past}
 use Rattle.tcp_state.specs.View.{View, IsSound, is_opening, is_syn_sent, is_closed}
 use Rattle.tcp_state.specs.Alive.{after_silence}
-use Rattle.tcp_state.specs.Arrival.{opened_passively, owing_ack, is_rejected, draws_one, is_opening_syn, holds_back, resend_left, before, timed_by, after_heard, after_segment_at}
+use Rattle.tcp_state.specs.Arrival.{owing_ack, is_rejected, asks, draws_one, is_opening_syn, holds_back, owes_answer, is_held_back, resend_left, before, timed_by, after_heard, after_segment_at}
 use Rattle.std.specs.Option.{option_or}
 use Rattle.tcp_state.specs.Due.{first_due, ack_due, again_from, new_due}
 use Rattle.tcp_state.specs.Duties.{Places, StandsAt, acknowledges, is_aged, is_in_reach, is_used}
@@ -22,6 +20,7 @@ use Rattle.tcp_state.specs.Edges.{Event, Hears, Ticks, Emits, Sends, Receives, S
 use Rattle.tcp_state.specs.Drawn.{is_answered, answered_among, IsWithin, EachWithin}
 use Rattle.tcp_state.proofs.Clocked.{timers_keep, emission_keeps, comes_to}
 use Rattle.tcp_state.proofs.Events.{by_event}
+use Rattle.tcp_state.proofs.Bare.{leaves, asking_tells}
 use Rattle.tcp_state.proofs.Guarded.{heard_guard}
 use Rattle.tcp_state.proofs.Unused.{drawing_tells, unused_owes, asking_owes, rejected_draws_none}
 use Rattle.tcp_state.proofs.EndInOrder.{unused_stays}
@@ -169,11 +168,25 @@ few_in_a_second v events from each = let few = few_from v events from each in om
 
 -- Held back, and later.
 
-heard_so : (v : View) (s : Segment) (now : Moment) → is_closed v.state ≡ false → draws_one v s ≡ true → after_segment_at v s now ≡ timed_by (before v s) (owing_ack v) now
-heard_so v s now lives draws =
+drawn_taken : (v : View) (s : Segment) → draws_one v s ≡ true → is_rejected v s ≡ false
+drawn_taken v s draws = by (is_rejected v s ≡ false) (is_rejected v s) (λ rejected. clash (draws_one v s) draws (rejected_draws_none v s rejected)) (λ none. none)
+
+heard_so : (v : View) (s : Segment) (now : Moment) → is_closed v.state ≡ false → draws_one v s ≡ true → after_segment_at v s now ≡ timed_by (before v s) (after_heard v s) now
+heard_so v s now lives draws = comes_to v s now lives (drawn_taken v s draws)
+
+-- what draws one is owed it, unless it ends the connection
+owed_one : (v : View) (s : Segment) → is_closed v.state ≡ false → draws_one v s ≡ true → is_closed (after_heard v s).state ≡ false → owes_answer (before v s) (after_heard v s) ≡ true
+owed_one v s lives draws alive =
     let d = drawing_tells v s draws in
-    let taken : is_rejected v s ≡ false = by (is_rejected v s ≡ false) (is_rejected v s) (λ rejected. clash (draws_one v s) draws (rejected_draws_none v s rejected)) (λ none. none) in
-    comes_to v s now lives taken ∙ ap (λ w. timed_by (before v s) w now) (unused_owes v s lives d.past d.unused)
+    let w = after_heard v s in
+    elim d.unused [
+      | inl unused ↦ or_left w.owes_ack (asks v s && not (is_syn_sent w.state || is_closed w.state)) (ap (λ (x : View). x.owes_ack) (unused_owes v s lives d.past unused))
+      | inr is ↦
+          let a = asking_tells v s is in
+          let l = leaves v s a.opened a.none in
+          or_right w.owes_ack (asks v s && not (is_syn_sent w.state || is_closed w.state))
+          (both (asks v s) (not (is_syn_sent w.state || is_closed w.state)) is (ap₂ (λ b c. not (b || c)) l.past alive))
+    ]
 
 pub held_counts_none : (v : View) (s : Segment) (now : Moment) → is_closed v.state ≡ false → holds_back v s now ≡ true
     → (let w = after_segment_at v s now in (w.owes_ack ≡ false) × (w.guard.drawn ≡ v.guard.drawn) × (w.guard.latest ≡ v.guard.latest))
@@ -182,19 +195,26 @@ held_counts_none v s now lives holds =
     let spent = and_right (draws_one v s) (is_spent v.guard now) holds in
     let at = heard_so v s now lives draws in
     let b = before v s in
+    let w = after_heard v s in
+    let held : is_held_back b w now ≡ true = ap (λ g. draws_one v s && is_spent g now) (heard_guard v s) ∙ holds in
+    let left = heard_leaves v s now lives (drawn_taken v s draws) in
     let none : (draws_one v s && not (is_spent v.guard now)) ≡ false = ap (λ u. draws_one v s && not u) spent ∙ and_false (draws_one v s) in (
-      ap (λ (w : View). w.owes_ack) at ∙ ap (λ h. if h || b.asks_again then false else true) holds,
-      ap (λ (w : View). w.guard.drawn) at ∙ ap (λ c. if c then counting_at v.guard now + 1 else v.guard.drawn) none,
-      ap (λ (w : View). w.guard.latest) at ∙ ap (λ c. if c then now else v.guard.latest) none,
+      ap (λ (x : View). x.owes_ack) at ∙ ap (λ h. if h || b.asks_again then false else owes_answer b w) held,
+      ap (λ (g : Guard). g.drawn) left ∙ ap (λ c. if c then counting_at v.guard now + 1 else v.guard.drawn) none,
+      ap (λ (g : Guard). g.latest) left ∙ ap (λ c. if c then now else v.guard.latest) none,
     )
 
-pub drawn_later : (v : View) (s : Segment) (now : Moment) → is_closed v.state ≡ false → draws_one v s ≡ true → v.guard.latest.0 + 1000 ≤ now.0 → is_opening_syn v s ≡ false → (after_segment_at v s now).owes_ack ≡ true
-drawn_later v s now lives draws over plain =
+pub drawn_later : (v : View) (s : Segment) (now : Moment) → is_closed v.state ≡ false → draws_one v s ≡ true → v.guard.latest.0 + 1000 ≤ now.0 → is_opening_syn v s ≡ false
+    → is_closed (after_segment_at v s now).state ≡ false → (after_segment_at v s now).owes_ack ≡ true
+drawn_later v s now lives draws over plain alive =
     let b = before v s in
     let free : is_spent v.guard now ≡ false = ap (λ c. nat_le 10 (if c then v.guard.drawn else 0)) (le-ltb (now.0 - v.guard.latest.0) 1000 (omega (arith, over))) in
     let loose : (draws_one v s && is_spent v.guard now) ≡ false = ap (λ u. draws_one v s && u) free ∙ and_false (draws_one v s) in
     let quiet : b.asks_again ≡ false = ap (λ p. v.guard.on && p) plain ∙ and_false v.guard.on in
-    ap (λ (w : View). w.owes_ack) (heard_so v s now lives draws) ∙ ap₂ (λ h a. if h || a then false else true) loose quiet
+    let w = after_heard v s in
+    let at = heard_so v s now lives draws in
+    let held : is_held_back b w now ≡ false = ap (λ g. draws_one v s && is_spent g now) (heard_guard v s) ∙ loose in
+    ap (λ (x : View). x.owes_ack) at ∙ (ap₂ (λ h a. if h || a then false else owes_answer b w) held quiet ∙ owed_one v s lives draws (sym (ap (λ (x : View). is_closed x.state) at) ∙ alive))
 
 -- The SYN again.
 
@@ -207,7 +227,7 @@ syn_draws_syn_ack v s now sound on asks free =
     let x = timed_by b w now in
     let at : after_segment_at v s now ≡ x = comes_to v s now a.lives a.taken ∙ ap (λ y. timed_by b y now) a.heard in
     let again : b.asks_again ≡ true = ap (λ o. o && is_opening_syn v s) on ∙ asks in
-    let silent : x.owes_ack ≡ false = ap₂ (λ h y. if h || y then false else true) free again in
+    let silent : x.owes_ack ≡ false = ap₂ (λ h y. if h || y then false else owes_answer b w) free again in
     let mark : x.resend.mark ≡ mark_past 0 (outstanding v.sending) = ap₂ (λ y h. if y && not h then mark_past 0 (outstanding v.sending) else (resend_left b w now).mark) again free in
     let quiet : v.owes_reset ≡ false = unowed v.owes_reset (is_closed v.state) v.released a.lives sound.reset in
     let due : first_due x ≡ Some Syn =

@@ -4,7 +4,7 @@ use Rattle.clock.specs.declared.moment.Moment.{Moment}
 use Rattle.tcp_segment.specs.declared.blocks.Block.{Block}
 use Rattle.tcp_segment.specs.Segment.{Segment, blocks_of}
 use Rattle.tcp_halves.specs.Numbers.{is_before}
-use Rattle.tcp_halves.specs.Stream.{is_new_ack, is_in_window, outstanding}
+use Rattle.tcp_halves.specs.Stream.{is_new_ack, is_in_window, outstanding, stands_before}
 use Rattle.tcp_halves.specs.Windows.{window_in}
 use Rattle.tcp_halves.proofs.Choices.{neither}
 use Rattle.tcp_state.specs.declared.arrival.Before.{Before}
@@ -13,7 +13,7 @@ use Rattle.tcp_state.specs.Resend.{mark_past}
 use Rattle.tcp_state.specs.Selective.{selects}
 use Rattle.tcp_state.specs.Timing.{probes, clocked}
 use Rattle.tcp_state.specs.View.{View, is_opening, is_syn_sent, is_syn_received, is_closed, after_reset}
-use Rattle.tcp_state.specs.Arrival.{owing_ack, reset_error, after_rst_in_syn_sent, after_rst, is_simultaneous_syn, after_simultaneous_syn, is_right_syn_ack, after_syn_ack, is_acceptable_to, is_acting_reset, ends_by_reset, ends_by_syn, after_establishment, is_of_fin, fin_acknowledged, after_new_ack, is_too_old, is_off, after_ack, is_read_on, after_window, is_receiving, after_text, counts_fin, after_fin, after_acknowledging_segment, after_acceptable_segment, after_segment, brings_more, is_read, is_lost, after_lost, after_heard, is_rejected, octets_outstanding, counts_duplicates, is_counted_duplicate, blocks_told, came_twice, is_since_loss, tells_needless, draws_one, is_silenced, before, is_moved, is_held_back, noted_by, timed_by, after_segment_at}
+use Rattle.tcp_state.specs.Arrival.{owing_ack, reset_error, after_rst_in_syn_sent, after_rst, is_simultaneous_syn, after_simultaneous_syn, is_right_syn_ack, after_syn_ack, is_acceptable_to, is_acting_reset, ends_by_reset, ends_by_syn, after_establishment, is_of_fin, fin_acknowledged, after_new_ack, is_too_old, is_off, after_ack, is_read_on, after_window, is_receiving, after_text, counts_fin, after_fin, after_acknowledging_segment, after_acceptable_segment, after_segment, brings_more, is_read, is_lost, after_lost, after_heard, is_rejected, octets_outstanding, counts_duplicates, is_counted_duplicate, blocks_told, came_twice, is_since_loss, tells_needless, draws_one, is_silenced, before, is_moved, is_held_back, noted_by, timed_by, after_segment_at, owes_answer}
 use Rattle.tcp_state.specs.Calls.{aborted}
 use Rattle.tcp_state.specs.Drawn.{unguarded}
 use Rattle.tcp_state.proofs.Segments.{opened_by_syn_ack}
@@ -96,7 +96,7 @@ module _ (v : View) (s : Segment) (young : is_too_old v s.acknowledgement ≡ fa
   counted_same : is_counted_duplicate (unguarded v) s ≡ is_counted_duplicate v s
   counted_same =
       ap (λ r. not (is_opening v.state) && r && nat_lt 0 (octets_outstanding v) && (length s.octets == 0) && not s.flags.fin && (s.acknowledgement == v.sending.una)
-      && (window_in v.sending s.window == v.sending.window) && counts_duplicates v) is_read_same
+      && (window_in v.sending s.window == v.sending.window) && not (stands_before v.receiving s.number) && counts_duplicates v) is_read_same
 
   blocks_same : blocks_told (unguarded v) s ≡ blocks_told v s
   blocks_same = ap (λ r. if selects v && not (is_opening v.state) && r then blocks_of s else []) is_read_same
@@ -125,7 +125,7 @@ module _ (v : View) (s : Segment) (young : is_too_old v s.acknowledgement ≡ fa
       let n = noted_by b w now in
       let plain = (noted_by (record b { draws_one = false; asks_again = false }) w now).resend.mark in
       ap₂ (λ h a. record (clocked (is_moved b w) (record n {
-        owes_ack = if h || a then false else w.owes_ack;
+        owes_ack = if h || a then false else owes_answer b w;
         resend = record n.resend { mark = if a && not h then mark_past 0 (outstanding w.sending) else plain };
       }) now) { guard = x.guard }) free parts.1
 

@@ -1,14 +1,14 @@
 -- What a segment that isn't used leaves: an acknowledgement is owed.
-use Rattle.std.proofs.Common.{◌≡◌, ℕ, ◌&&◌, ◌||◌, not, if◌then◌else◌, Bool, true, false, refl, sym, ◌∙◌, ap, ap₂}
+use Rattle.std.proofs.Common.{◌≡◌, ℕ, ◌&&◌, ◌||◌, not, if◌then◌else◌, Bool, true, false, refl, sym, ◌∙◌, ap, ap₂, ◌⊎◌}
 use Rattle.tcp_segment.specs.Segment.{Segment}
 use Rattle.tcp_halves.specs.Stream.{is_new_ack, is_in_window}
-use Rattle.tcp_halves.proofs.Choices.{either, by, clash, and_left, and_right, and_false, not_true}
+use Rattle.tcp_halves.proofs.Choices.{either, by, clash, and_left, and_right, and_false, not_true, or_else}
 use Rattle.tcp_state.specs.declared.state.State.{State}
 use Rattle.tcp_state.specs.declared.state.State.TheVariants.{SynReceived}
 use Rattle.tcp_state.specs.View.{View, is_opening, is_syn_sent, is_syn_received, is_closed}
-use Rattle.tcp_state.specs.Arrival.{owing_ack, is_acting_reset, is_acceptable_to, ends_by_syn, is_off, after_ack, is_read_on, after_acceptable_segment, after_segment, is_lost, after_lost, after_heard, is_rejected, is_unused, draws_one, is_opening_syn}
+use Rattle.tcp_state.specs.Arrival.{owing_ack, is_acting_reset, is_acceptable_to, ends_by_syn, is_off, after_ack, is_read_on, after_acceptable_segment, after_segment, is_lost, after_lost, after_heard, is_rejected, is_unused, draws_one, is_opening_syn, asks}
 use Rattle.tcp_state.proofs.Segments.{read_tells}
-use Rattle.tcp_state.proofs.Guarded.{opening_syn_received, read_is_used, sent_draws_none}
+use Rattle.tcp_state.proofs.Guarded.{opening_syn_received, read_is_used, sent_draws_none, opening_asks_none}
 use Rattle.tcp_state.proofs.Unchanged.{IsUnsent, unsent}
 use Rattle.tcp_state.proofs.AckAnswers.{not_on}
 use Rattle.tcp_state.proofs.Resets.{lost_is_read}
@@ -88,17 +88,17 @@ unused_owes v s lives past is =
 pub record Draws (v : View) (s : Segment) : Type 0 where
   pub free : v.owes_ack ≡ false
   pub past : is_syn_sent v.state ≡ false
-  pub unused : is_unused v s ≡ true
+  pub unused : (is_unused v s ≡ true) ⊎ (asks v s ≡ true)
 
 pub drawing_tells : (v : View) (s : Segment) → draws_one v s ≡ true → Draws v s
 drawing_tells v s is =
     let one = v.guard.on && not v.owes_ack in
     let two = one && not (is_syn_sent v.state) in
-    let first = and_left two (is_unused v s) is in
+    let first = and_left two (is_unused v s || asks v s) is in
     record {
       free = not_true v.owes_ack (and_right v.guard.on (not v.owes_ack) (and_left one (not (is_syn_sent v.state)) first));
       past = not_true (is_syn_sent v.state) (and_right one (not (is_syn_sent v.state)) first);
-      unused = and_right two (is_unused v s) is;
+      unused = or_else (is_unused v s) (asks v s) (and_right two (is_unused v s || asks v s) is);
     }
 
 -- and so is the SYN that opened it
@@ -145,4 +145,10 @@ unsent_used v s past u =
 
 pub rejected_draws_none : (v : View) (s : Segment) → is_rejected v s ≡ true → draws_one v s ≡ false
 rejected_draws_none v s rejected = by (draws_one v s ≡ false) (is_syn_sent v.state) (sent_draws_none v s)
-    (λ past. let one = v.guard.on && not v.owes_ack && not (is_syn_sent v.state) in ap (λ b. one && b) (unsent_used v s past (unsent v s rejected)) ∙ and_false one)
+    (λ past. let one = v.guard.on && not v.owes_ack && not (is_syn_sent v.state) in
+    let opening = received_opens v.state ((unsent v s rejected).received past).0 in
+    ap₂ (λ b c. one && (b || c)) (unsent_used v s past (unsent v s rejected)) (opening_asks_none v s opening) ∙ and_false one)
+  where
+    received_opens : (t : State) → is_syn_received t ≡ true → is_opening t ≡ true
+    received_opens SynReceived e = refl
+    received_opens _ e = cc

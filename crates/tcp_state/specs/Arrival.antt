@@ -12,7 +12,7 @@ use Rattle.clock.specs.declared.moment.Moment.{Moment}
 use Rattle.tcp_state.specs.declared.state.State.{State}
 use Rattle.tcp_state.specs.declared.state.State.TheVariants.{SynSent, SynReceived, Established, FinWait1, FinWait2, CloseWait, Closing, LastAck, TimeWait, Closed}
 use Rattle.tcp_halves.specs.Halves.{Room}
-use Rattle.tcp_halves.specs.Stream.{outstanding, is_new_ack, sending_settled, receiving_settled, after_syn_acknowledged, after_acknowledged, is_in_window, is_acceptable, after_syn, after_octets, stands_next, after_end}
+use Rattle.tcp_halves.specs.Stream.{outstanding, is_new_ack, sending_settled, receiving_settled, after_syn_acknowledged, after_acknowledged, is_in_window, stands_before, is_acceptable, after_syn, after_octets, stands_next, after_end}
 use Rattle.tcp_halves.specs.Windows.{window_in, after_syn_heard, after_window_update, syn_window}
 use Rattle.tcp_state.specs.View.{View, opened_actively, is_opening, is_syn_sent, is_syn_received, is_closed, is_fin_wait_2, is_time_wait, awaits_fin_ack, after_reset, is_over}
 use Rattle.tcp_state.specs.Resend.{Resend, stopped, mark_past, mark_moved, unmarked, resend_acknowledged, resend_first, resend_lost, resend_ends, excused_by, gives_back}
@@ -266,6 +266,11 @@ begins_wait before _ = false
 abbrev pub repeats_fin : View → Segment → Bool
 repeats_fin v s = is_time_wait v.state && not s.flags.rst && not (is_acceptable_to v s) && s.flags.fin && ((s.number + span_of s) % 2 ^ 32 == v.receiving.rnext)
 
+-- Past the opening, a segment that takes no number stands one before RCV.NXT. Its peer asks whether this side is there (section 3.8.4), or doesn't know yet that the probe of a closed window was taken: what it acknowledges and its window are used,
+-- and it draws an acknowledgement at once.
+abbrev pub asks : View → Segment → Bool
+asks v s = not s.flags.rst && not (is_opening v.state) && (span_of s == 0) && stands_before v.receiving s.number
+
 -- While its window is closed, a peer that acknowledges is there, whatever it acknowledges: that is progress (section 3.8.6.1).
 abbrev pub answers_probe : View → Segment → Bool
 answers_probe v s = not (is_opening v.state) && (v.sending.window == 0) && is_acceptable_to v s && s.flags.ack && not s.flags.rst
@@ -274,12 +279,12 @@ answers_probe v s = not (is_opening v.state) && (v.sending.window == 0) && is_ac
 abbrev pub octets_outstanding : View → ℕ
 octets_outstanding v = min (length v.sending.held) (outstanding v.sending)
 
--- A duplicate ACK (RFC 5681 section 2): octets are outstanding, and the segment brings none, nor a SYN or a FIN; it acknowledges what is acknowledged and tells the window that is known.
+-- A duplicate ACK (RFC 5681 section 2): octets are outstanding, and the segment brings none, nor a SYN or a FIN, and doesn't ask for an acknowledgement; it acknowledges what is acknowledged and tells the window that is known.
 abbrev pub is_duplicate : View → Segment → Bool
 is_duplicate v s =
     not (is_opening v.state) && is_read v s && nat_lt 0 (octets_outstanding v)
     && (length s.octets == 0) && not s.flags.fin
-    && (s.acknowledgement == v.sending.una) && (window_in v.sending s.window == v.sending.window)
+    && (s.acknowledgement == v.sending.una) && (window_in v.sending s.window == v.sending.window) && not (stands_before v.receiving s.number)
 
 -- Where losses are repaired, it counts in a recovery, and where all is acknowledged that was outstanding when the last one began or the timer expired (RFC 6582 section 3.2, steps 2 and 4); not while the peer's closed window is
 -- probed, for it answers each probe with one; nor where reports are taken, which count instead.
@@ -323,9 +328,9 @@ is_unused v s =
     else if s.flags.syn then not (ends_by_syn v s)
     else s.flags.ack && not (is_syn_received v.state) && not (is_read_on v s.acknowledgement)
 
--- on guard it draws one that isn't owed already
+-- on guard it draws one that isn't owed already, or asks for one
 abbrev pub draws_one : View → Segment → Bool
-draws_one v s = v.guard.on && not v.owes_ack && not (is_syn_sent v.state) && is_unused v s
+draws_one v s = v.guard.on && not v.owes_ack && not (is_syn_sent v.state) && (is_unused v s || asks v s)
 
 -- the SYN that opened it at a listener comes again
 abbrev pub is_opening_syn : View → Segment → Bool
@@ -353,6 +358,7 @@ before v s = record {
   held = length v.sending.held;
   tail = v.resend.tail;
   needless = tells_needless v s;
+  asks = asks v s;
   draws_one = draws_one v s;
   asks_again = v.guard.on && is_opening_syn v s;
 }
@@ -474,7 +480,11 @@ resend_left b w now = excused_by b.needless (resend_after b w now)
 abbrev pub congestion_left : Before → View → Moment → Window
 congestion_left b w now = given_back (gives_back b.needless (resend_left b w now)) (congestion_after b w)
 
--- Of the acknowledgements that segments draw on guard which aren't used, ten go out in a second, and those behind them are held back (RFC 5961 section 7) ..
+-- one is owed to a segment that asks for it, where any may be
+abbrev pub owes_answer : Before → View → Bool
+owes_answer b w = w.owes_ack || (b.asks && not (is_syn_sent w.state || is_closed w.state))
+
+-- Of the acknowledgements that segments draw on guard which aren't used or ask for one, ten go out in a second, and those behind them are held back (RFC 5961 section 7) ..
 abbrev pub is_held_back : Before → View → Moment → Bool
 is_held_back b w now = b.draws_one && is_spent w.guard now
 
@@ -484,7 +494,7 @@ answers_again b w now = b.asks_again && not (is_held_back b w now)
 
 abbrev pub guarded : Before → View → Moment → View
 guarded b w now = record w {
-  owes_ack = if is_held_back b w now || b.asks_again then false else w.owes_ack;
+  owes_ack = if is_held_back b w now || b.asks_again then false else owes_answer b w;
   resend = record w.resend { mark = if answers_again b w now then mark_past 0 (outstanding w.sending) else w.resend.mark };
   guard = guard_after w.guard b.draws_one now;
 }

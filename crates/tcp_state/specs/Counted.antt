@@ -1,5 +1,5 @@
 -- From when a connection counts its waits, and what it takes an event for (RFC 9293 sections 3.6.1 and 3.10.7.4, RFC 5681 section 2, RFC 6298).
-use Rattle.std.specs.Prelude.{◌≡◌, None, ℕ, length, ◌<◌, ◌≤◌, ◌⊎◌, true, false, []}
+use Rattle.std.specs.Prelude.{◌≡◌, ◌≢◌, None, ℕ, length, ◌<◌, ◌≤◌, ◌⊎◌, true, false, []}
 use Rattle.tcp_segment.specs.Segment.{Segment, span_of}
 use Rattle.tcp_segment.specs.Wire.{wire, past}
 use Rattle.tcp_state.specs.declared.emission.Due.{Due}
@@ -38,7 +38,7 @@ pub record BringsSyn (v : View) (s : Segment) : Type 0 where
 abbrev pub HasOctetOut : View → Type 0
 HasOctetOut v = (i : ℕ) × (i < length v.sending.held) × (i < past v.sending.nxt v.sending.una)
 
--- A duplicate ACK (RFC 5681 section 2): octets are outstanding, not only our FIN, and an acceptable segment acknowledges none of them and tells the window that is known; it brings no octets, no SYN, FIN or RST.
+-- A duplicate ACK (RFC 5681 section 2): octets are outstanding, not only our FIN, and an acceptable segment acknowledges none of them and tells the window that is known; it brings no octets, no SYN, FIN or RST, and doesn't ask for an acknowledgement by the number before RCV.NXT.
 pub record IsDuplicate (v : View) (s : Segment) : Type 0 where
   pub opened : is_opening v.state ≡ false
   pub outstanding : HasOctetOut v
@@ -50,6 +50,7 @@ pub record IsDuplicate (v : View) (s : Segment) : Type 0 where
   pub no_syn : s.flags.syn ≡ false
   pub no_fin : s.flags.fin ≡ false
   pub no_rst : s.flags.rst ≡ false
+  pub unasked : past v.receiving.rnext s.number ≢ 1
 
 -- A connection that was given up: it is CLOSED, every call is told ETIMEDOUT, it holds nothing and nothing is outstanding, nothing of it is due, and the clock does nothing more to it.
 pub record IsGivenUp (w : View) : Type 0 where

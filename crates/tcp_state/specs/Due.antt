@@ -11,8 +11,8 @@ use Rattle.tcp_state.specs.declared.emission.Stretch.{Stretch}
 use Rattle.clock.specs.declared.moment.Moment.{Moment}
 use Rattle.tcp_state.specs.Resend.{resend_again, resend_sent, resend_probed, resend_syn_again}
 use Rattle.tcp_halves.specs.declared.buffers.TheConstants.{CAPACITY}
-use Rattle.tcp_halves.specs.Stream.{outstanding, after_sent, receive_window}
-use Rattle.tcp_halves.specs.Windows.{hears_next, open_window, next_count, has_grown, after_advertisement, window_field, after_syn_advertisement}
+use Rattle.tcp_halves.specs.Stream.{outstanding, after_sent, after_probed, bare_number, number_before, receive_window}
+use Rattle.tcp_halves.specs.Windows.{open_window, next_count, has_grown, after_advertisement, window_field, after_syn_advertisement}
 use Rattle.stream_buf.specs.Scoreboard.{first_gap, gap_len, reported_end}
 use Rattle.tcp_state.specs.View.{View, is_opening, is_syn_sent, is_syn_received, is_closed, awaits_fin_ack}
 use Rattle.tcp_state.specs.Selective.{repairs_gaps, loss_end, pipe, allowance}
@@ -55,21 +55,14 @@ flags_of v Probe = flags_of_stretch v (probe_stretch v)
 flags_of v Ack = record { fin = false; syn = false; rst = false; psh = false; ack = true; urg = false }
 flags_of v KeepAlive = record { fin = false; syn = false; rst = false; psh = false; ack = true; urg = false }
 
--- The number of an acknowledgement alone: SND.NXT, as far as the peer hears that; or where a probe brought numbers past its window, the end of that window, since it hears nothing from
--- further on (sections 3.8.6.1 and 3.10.7.4, RFC 7323 section 2.4). While the connection opens no window bounds it.
-abbrev pub ack_number : View → ℕ
-ack_number v = if is_opening v.state || hears_next v.sending then v.sending.nxt else (v.sending.una + v.sending.window) % 2 ^ 32
-
--- The number before another: a probe of a silent peer has that before SND.NXT, which its window doesn't have any more, so that it answers (section 3.8.4).
-abbrev pub number_before : ℕ → ℕ
-number_before number = (number + (2 ^ 32 - 1)) % 2 ^ 32
-
+-- An acknowledgement alone, and the reset of an abort, stand at SND.NXT (section 3.10.7.4), or before what only a probe of a closed window took. A probe of a silent peer has the number before SND.NXT, which the peer's window
+-- doesn't have any more, so that it answers (section 3.8.4).
 abbrev pub number_of : View → Due → ℕ
-number_of v Rst = v.sending.nxt
+number_of v Rst = bare_number v.sending
 number_of v Syn = v.sending.una
 number_of v (Text stretch) = (v.sending.una + stretch.offset) % 2 ^ 32
 number_of v Probe = v.sending.una
-number_of v Ack = ack_number v
+number_of v Ack = bare_number v.sending
 number_of v KeepAlive = number_before v.sending.nxt
 
 abbrev pub octets_of_stretch : View → Stretch → List ℕ
@@ -180,7 +173,7 @@ after_stretch v stretch now =
 abbrev pub after_probe : View → View
 after_probe v =
     let stretch = probe_stretch v in
-    let sent = record v { sending = after_sent v.sending (end_of stretch); resend = resend_probed v.resend } in
+    let sent = record v { sending = after_probed v.sending (end_of stretch); resend = resend_probed v.resend } in
     if brings_new_octets v stretch then after_new_octets sent else sent
 
 abbrev pub after_syn_again : View → View

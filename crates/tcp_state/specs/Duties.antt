@@ -1,7 +1,7 @@
 -- What a segment or a call asks of a connection, by its flags, by the states, and by positions in the two streams (RFC 9293 sections 3.4, 3.8 and 3.10.7.4), for laws that don't go by the steps of its arrival.
 use Rattle.std.specs.Prelude.{◌≡◌, ◌≢◌, ℕ, ◌+◌, ◌<◌, ◌≤◌, ◌^◌, ◌==◌, ◌&&◌, ◌||◌, not, nat_lt, nat_le, Bool, true, false, List, ◌++◌, length, drop, slice_index_or, None, Err}
 use Rattle.stream_buf.specs.Receiving.{ranges}
-use Rattle.tcp_segment.specs.Segment.{Segment}
+use Rattle.tcp_segment.specs.Segment.{Segment, span_of}
 use Rattle.tcp_segment.specs.Wire.{wire}
 use Rattle.tcp_halves.specs.Stream.{outstanding}
 use Rattle.tcp_state.specs.declared.state.State.{State}
@@ -61,6 +61,10 @@ is_challenged at s = s.flags.rst && nat_lt at.next at.first && nat_lt at.first a
 abbrev pub is_another_syn : View → Segment → Bool
 is_another_syn v s = not s.flags.rst && is_acceptable_to v s && s.flags.syn && not (v.passive && is_syn_received v.state)
 
+-- past the opening, it takes no number, and stands one before RCV.NXT (section 3.8.4)
+abbrev pub is_asking : Places → View → Segment → Bool
+is_asking at v s = not s.flags.rst && not (is_opening v.state) && (span_of s == 0) && (at.first + 1 == at.next)
+
 -- on guard, further behind SND.UNA than the largest window that the peer ever told is wide (RFC 5961 section 5.2)
 abbrev pub is_aged : Places → View → Bool
 is_aged at v = v.guard.on && nat_lt (at.ack + v.sending.max_window) at.una
@@ -101,6 +105,7 @@ abbrev pub draws : Places → View → Segment → Bool
 draws at v s =
     is_unacceptable v s || is_challenged at s || is_another_syn v s || is_astray at v s
     || (brings_text at v s && (s.flags.fin || hurries at v s))
+    || is_asking at v s
 
 -- What comes after the caller closed a connection (section 3.6.1).
 

@@ -3,6 +3,7 @@ pub use Rattle.tcp_halves.specs.Halves
 pub use Rattle.tcp_halves.specs.Stream
 pub use Rattle.tcp_halves.specs.Windows
 pub use Rattle.tcp_halves.specs.Blocks
+pub use Rattle.tcp_halves.specs.Heard
 pub mod Resend
 pub mod ResendInside
 pub mod Guard

@@ -2,12 +2,13 @@
 -- for. A position is a whole number without bound, and `wire initial position` is its sequence number.
 use Rattle.std.specs.Prelude.{◌≡◌, ℕ, ◌+◌, ◌-◌, ◌<◌, ◌≤◌, ◌^◌, ◌⊎◌, ◌&&◌, nat_le, nat_lt, Bool, false, true, if◌then◌else◌, List, ◌++◌, length, map, slice_get, slice_index_or, Option, Some, None, ⊤}
 use Rattle.stream_buf.specs.Receiving.{laid, is_taken}
-use Rattle.tcp_segment.specs.Wire.{wire}
+use Rattle.tcp_segment.specs.Segment.{Segment}
+use Rattle.tcp_segment.specs.Wire.{wire, past}
 use Rattle.tcp_state.specs.declared.emission.Due.{Due}
 use Rattle.tcp_state.specs.declared.emission.Due.TheVariants.{Syn, Text, Probe}
 use Rattle.tcp_halves.specs.Halves.{Receiving}
-use Rattle.tcp_halves.specs.Stream.{buffer_of, distance_of, octets_within, octets_gained, after_octets}
-use Rattle.tcp_state.specs.View.{View, is_opening, is_syn_sent, awaits_fin_ack}
+use Rattle.tcp_halves.specs.Stream.{bare_number, buffer_of, distance_of, octets_within, octets_gained, after_octets}
+use Rattle.tcp_state.specs.View.{View, is_opening, is_syn_sent, is_closed, awaits_fin_ack}
 use Rattle.tcp_state.specs.Edges.{Event, Hears}
 
 -- RCV.NXT is the number of one position, and the window that is advertised reaches up to another
@@ -57,6 +58,12 @@ kept_with r number octets = laid r.kept (distance_of r number) (octets_within r 
 abbrev pub AreFree : List (Option ℕ) → Type 0
 AreFree places = (distance : ℕ) → slice_index_or places distance None ≡ None
 
+-- A segment leaves the peer's window where it ends: what it acknowledges comes off it, but for our SYN, which takes no room in it. Of what is CLOSED no window is left.
+abbrev pub LeavesWindow : View → Segment → View → Type 0
+LeavesWindow v s w =
+    ((w.sending.window ≡ v.sending.window) × ((w.sending.una ≡ v.sending.una) ⊎ ((is_opening v.state ≡ true) ⊎ (is_closed w.state ≡ true))))
+    ⊎ ((w.sending.window ≡ v.sending.window - past s.acknowledgement v.sending.una) × ((w.sending.una ≡ s.acknowledgement) ⊎ (is_closed w.state ≡ true)))
+
 -- at whatever position the one number stands, the other stands there or less than 2^31 further on
 abbrev pub GoesOn : ℕ → ℕ → Type 0
 GoesOn before after = (initial position : ℕ) → before ≡ wire initial position → (further : ℕ) × (further < 2 ^ 31) × (after ≡ wire initial (position + further))
@@ -66,6 +73,7 @@ GoesOn before after = (initial position : ℕ) → before ≡ wire initial posit
 pub record NeverBack (v w : View) : Type 0 where
   pub una : GoesOn v.sending.una w.sending.una
   pub nxt : GoesOn v.sending.nxt w.sending.nxt
+  pub bare : GoesOn (bare_number v.sending) (bare_number w.sending)
   pub rnext : is_syn_sent v.state ≡ false → GoesOn v.receiving.rnext w.receiving.rnext
   pub edge : is_syn_sent v.state ≡ false → GoesOn v.receiving.edge w.receiving.edge
 

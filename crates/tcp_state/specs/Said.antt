@@ -7,7 +7,7 @@ use Rattle.tcp_segment.specs.Segment.{Segment, blocks_of}
 use Rattle.tcp_segment.specs.Sent.{report, sent_segment}
 use Rattle.tcp_segment.specs.Wire.{wire, past}
 use Rattle.tcp_state.specs.declared.emission.Due.{Due}
-use Rattle.tcp_state.specs.declared.emission.Due.TheVariants.{Rst, Syn, Text, Probe}
+use Rattle.tcp_state.specs.declared.emission.Due.TheVariants.{Rst, Syn, Text, Probe, Ack}
 use Rattle.tcp_state.specs.declared.emission.Stretch.{Stretch}
 use Rattle.tcp_state.specs.declared.calls.Refusal.{Refusal}
 use Rattle.tcp_state.specs.declared.state.State.{State}
@@ -15,7 +15,7 @@ use Rattle.tcp_state.specs.declared.state.State.TheVariants.{Closed, SynSent, Sy
 use Rattle.tcp_state.specs.View.{View}
 use Rattle.tcp_state.specs.Calls.{send_answer, recv_answer, shutdown_refusal}
 use Rattle.tcp_state.specs.Arrival.{is_acceptable_to}
-use Rattle.tcp_state.specs.Due.{head_of, octets_of}
+use Rattle.tcp_state.specs.Due.{head_of, octets_of, number_of}
 
 -- the segment that goes out for what is due, as the other end reads it
 abbrev pub segment_of : View → Due → Segment
@@ -46,7 +46,7 @@ sack_offer sacks = if sacks then NoOperation ∷ NoOperation ∷ Other 4 [] ∷ 
 
 -- What a segment says is so. Each of its octets is the one that is held for its number, and its FIN has the number behind all that is held. It acknowledges RCV.NXT, and tells the window
 -- from there up to the right edge that the connection keeps: in whole units, and in octets where SYN stands, as many of them as 16 bits hold (RFC 7323 section 2.2). The SYN that acknowledges nothing tells as
--- much of the whole size of the receiving half. A reset has the number SND.NXT and a SYN that of our SYN, and
+-- much of the whole size of the receiving half. A reset has the number of an acknowledgement alone and a SYN that of our SYN, and
 -- neither has octets. A SYN has the size of the segments that this stack takes (section 3.7.1), where windows are scaled the shift of its own (RFC 7323 section 2.2), and where this side takes selective
 -- acknowledgements a word of that (RFC 2018 section 2); another segment has no option but a report of blocks.
 pub record IsSo (v : View) (edge : ℕ) (s : Segment) : Type 0 where
@@ -62,7 +62,7 @@ pub record IsSo (v : View) (edge : ℕ) (s : Segment) : Type 0 where
   pub first : s.flags.syn ≡ true → s.flags.ack ≡ false → s.window ≡ min v.receiving.size CAPACITY
   pub syn : s.flags.syn ≡ true → (s.number ≡ v.sending.una) × (s.octets ≡ []) × (s.options ≡ MaximumSegmentSize 1460 ∷ (scale_offer v.scales ++ sack_offer v.reporting.sacks))
   pub plain : s.flags.syn ≡ false → s.options ≡ report (blocks_of s)
-  pub rst : s.flags.rst ≡ true → (s.number ≡ v.sending.nxt) × (s.window ≡ 0) × (s.octets ≡ [])
+  pub rst : s.flags.rst ≡ true → (s.number ≡ number_of v Ack) × (s.window ≡ 0) × (s.octets ≡ [])
   pub small : s.window < 2 ^ 16
   pub urgent : s.urgent ≡ 0
 

@@ -227,7 +227,7 @@ pub record AreTerms (scales : Bool) (sent peer size made unit : ℕ) : Type 0 wh
   pub settled_peer_unit : scales ≡ false → peer ≡ 1
 
 -- What holds of every connection. While it opens, nothing is held or readable, and before the peer's SYN came no window is advertised and a unit of the peer's is an octet; nothing is held once our FIN is acknowledged or all is closed. What is
--- outstanding is of what is held, with the SYN or the FIN; the resend mark stands within it, and the ends of the last small segment, of a recovery and of a probe of the tail. A segment may
+-- outstanding is of what is held, with the SYN or the FIN; the resend mark stands within it, and the ends of the last small segment, of a recovery and of a probe of the tail; what only a probe of a closed window took is all of it, and past the opening. A segment may
 -- have `LEAST_MSS` octets at least, so that what is held can always go out. An acknowledgement is owed once a SYN came, and none when all is closed.
 -- An error is pending, and a reset owed, only where all is closed; what its caller closed is closed on our side.
 pub record IsSound (v : View) : Type 0 where
@@ -244,6 +244,7 @@ pub record IsSound (v : View) : Type 0 where
   pub flight : outstanding v.sending ≤ most_outstanding v
   pub mark : ForSome v.resend.mark (λ distance. distance < outstanding v.sending)
   pub small : v.resend.small ≤ outstanding v.sending
+  pub probed : (v.sending.probed && not (is_closed v.state) && (is_opening v.state || not (outstanding v.sending == 1))) ≡ false
   pub recover : v.resend.recover ≤ outstanding v.sending
   pub tail : v.resend.tail ≤ outstanding v.sending
   pub resend : IsSoundResend v.resend

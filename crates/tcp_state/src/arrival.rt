@@ -2,7 +2,7 @@
 
 ghost use Rattle.std.specs.Prelude.{◌≡◌, ◌≤◌, ◌-◌, [], length, min, true, false, ◌&&◌, ◌||◌, not, if◌then◌else◌, IsTrue, ◌==◌};
 ghost use Rattle.tcp_state.specs.View.{is_opening, is_syn_sent, is_syn_received, is_closed, awaits_fin_ack, after_reset};
-ghost use Rattle.tcp_state.specs.Arrival.{after_segment, scales_with, after_first_syn, after_syn_ack, owing_ack, after_establishment, after_ack, is_read_on, after_window, after_text, after_acknowledging_segment, after_acceptable_segment, ends_by_syn, is_acceptable_to, fin_acknowledged, after_new_ack, after_fin, reset_error, after_rst_in_syn_sent, after_rst, is_acting_reset, ends_by_reset, is_right_syn_ack, is_simultaneous_syn, after_simultaneous_syn, fate, after_segment_at, after_heard, is_lost, is_read, brings_more, after_lost, repeats_fin, is_rejected, ends_opening, is_of_fin, may_delay, answers_probe, octets_outstanding, is_duplicate, counts_duplicates, before, is_moved, resend_heard, signal_of, tells_loss, report_signal, given_back, ends_tail, whole_signal, resend_signalled, timed_by, begins_wait};
+ghost use Rattle.tcp_state.specs.Arrival.{after_segment, scales_with, after_first_syn, after_syn_ack, owing_ack, after_establishment, after_ack, is_off, is_read_on, after_window, after_text, after_acknowledging_segment, after_acceptable_segment, ends_by_syn, is_acceptable_to, fin_acknowledged, after_new_ack, after_fin, reset_error, after_rst_in_syn_sent, after_rst, is_acting_reset, ends_by_reset, is_right_syn_ack, is_simultaneous_syn, after_simultaneous_syn, fate, after_segment_at, after_heard, is_lost, is_read, brings_more, after_lost, repeats_fin, is_rejected, ends_opening, is_of_fin, may_delay, asks, answers_probe, octets_outstanding, is_duplicate, counts_duplicates, before, is_moved, resend_heard, signal_of, tells_loss, report_signal, given_back, ends_tail, whole_signal, resend_signalled, timed_by, begins_wait};
 ghost use Rattle.congestion.specs.Events.{after_event};
 ghost use Rattle.congestion.specs.Events.Event.{PartialAck, Duplicate};
 ghost use Rattle.congestion.specs.Control.{is_selective};
@@ -51,7 +51,9 @@ pub(crate) struct Before {
     tail: u32,
     /// Whether it tells that octets went out again which needn't have.
     needless: bool,
-    /// Whether it isn't used, on guard, and draws an acknowledgement that isn't owed already.
+    /// Whether it asks for an acknowledgement, by the number before RCV.NXT.
+    pub(crate) asks: bool,
+    /// Whether it isn't used or asks for one, on guard, and draws an acknowledgement that isn't owed already.
     pub(crate) draws_one: bool,
     /// Whether it is, on guard, the SYN that opened the connection at a listener, and comes again.
     pub(crate) asks_again: bool,
@@ -109,6 +111,7 @@ impl Connection {
             held: self.sender.held_len() as u32,
             tail: self.resend.tail(),
             needless,
+            asks: self.asks(segment),
             draws_one: self.draws_one(segment),
             asks_again: self.guard.on && self.is_opening_syn(segment),
         }
@@ -139,6 +142,7 @@ impl Connection {
             && !segment.flags().fin
             && segment.acknowledgement() == self.sender.una()
             && self.sender.window_in(segment.window()) == self.sender.window()
+            && !self.receiver.stands_before(segment.number())
     }
 
     /// Whether a duplicate ACK counts: where losses are repaired, not below the end of the last recovery or of what was outstanding at an expiry
@@ -158,6 +162,16 @@ impl Connection {
     {
         let outstanding = self.sender.outstanding() as usize;
         self.sender.held_len().min(outstanding)
+    }
+
+    /// Whether a segment that takes no number stands one before RCV.NXT, past the opening.
+    pub(crate) fn asks(&self, segment: &TcpView<'_>) -> bool
+        ensures { result ≡ asks self.now segment.now }
+    {
+        !segment.flags().rst
+            && !self.state.is_opening()
+            && segment.span() == 0
+            && self.receiver.stands_before(segment.number())
     }
 
     /// Whether a segment shows that a peer whose window is closed is there.
@@ -625,10 +639,20 @@ impl Connection {
             }
         } else if is_new {
             self.hear_new_ack(acknowledgement);
-        } else if !is_read_on {
-            self.owes_ack = true;
+        } else {
+            self.hear_old_ack(acknowledgement);
         }
         is_read_on
+    }
+
+    /// Nothing that is outstanding is acknowledged: what was not sent, or too long ago, draws an ACK.
+    fn hear_old_ack(&mut self, acknowledgement: Seq)
+        requires { (is_syn_sent self.old.state || is_closed self.old.state) ≡ false }
+        ensures { self.new ≡ (if is_off self.old acknowledgement.0 then owing_ack self.old else self.old) }
+    {
+        if self.is_off(acknowledgement) {
+            self.owes_ack = true;
+        }
     }
 
     /// Numbers that were outstanding are acknowledged: octets, and the FIN behind them.

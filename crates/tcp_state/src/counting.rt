@@ -111,14 +111,14 @@ pub fn the_timeout_moves_by_events()
 {}
 
 /// The clock and what goes out leave the streams as they are: the octets that are held to be sent and those that can be read or are kept ahead of a gap, and whether either side is closed. A segment that goes out moves
-/// at most SND.NXT and the right edge of the window. Where a tick ends the connection, the receiving half stays so too, and nothing is held to be sent any longer.
+/// at most SND.NXT, with it whether only a probe took the number before, and the right edge of the window. Where a tick ends the connection, the receiving half stays so too, and nothing is held to be sent any longer.
 pub fn ticks_leave_the_streams()
     ensures ticks { (v : View) (now : Moment) → is_closed (after_event v (Event.Ticks now)).state ≡ false
         → ((after_event v (Event.Ticks now)).sending ≡ v.sending) × ((after_event v (Event.Ticks now)).receiving ≡ v.receiving) × ((after_event v (Event.Ticks now)).state ≡ v.state) }
     ensures ends { (v : View) (now : Moment) → is_closed (after_event v (Event.Ticks now)).state ≡ true → is_closed v.state ≡ false
         → ((after_event v (Event.Ticks now)).receiving ≡ v.receiving) × ((after_event v (Event.Ticks now)).sending.held ≡ []) }
     ensures goes_out { (v : View) (now : Moment)
-        → ((after_event v (Event.Emits now)).sending ≡ record v.sending { nxt = (after_event v (Event.Emits now)).sending.nxt })
+        → (let t = (after_event v (Event.Emits now)).sending in t ≡ record v.sending { nxt = t.nxt; probed = t.probed })
         × ((after_event v (Event.Emits now)).receiving ≡ record v.receiving { edge = (after_event v (Event.Emits now)).receiving.edge }) × ((after_event v (Event.Emits now)).state ≡ v.state) }
 {}
 

@@ -3,13 +3,13 @@
 ghost use Rattle.std.specs.Prelude.{◌≡◌, ◌+◌, ◌<◌, ◌≤◌, ◌++◌, length, drop, IfSome, is_some, if◌then◌else◌, ◌||◌, ◌==◌, ◌^◌, true, false, Some};
 ghost use Rattle.inet_sum.specs.Sum.{sum_of};
 ghost use Rattle.tcp_state.specs.View.{is_opening, is_syn_sent, most_outstanding};
-ghost use Rattle.tcp_halves.specs.Stream.{outstanding};
+ghost use Rattle.tcp_halves.specs.Stream.{outstanding, after_sent};
 ghost use Rattle.tcp_halves.specs.Windows.{after_advertisement};
 ghost use Rattle.tcp_segment.specs.declared.TheConstants.{MSS};
 ghost use Rattle.tcp_state.specs.Selective.{allowance};
 ghost use Rattle.tcp_state.specs.New.{takes_last, passes_full, waits_no_longer, sends_new, takes_fin, sends_fin};
 ghost use Rattle.tcp_state.specs.Timing.{probes};
-ghost use Rattle.tcp_state.specs.Due.{MayGoOut, IsHeld, first_due, ack_due, again, again_at, is_missing, goes_by_reports, goes_by_windows, goes_again, again_from, new_octets, fin_alone, new_due, probe_stretch, numbers_of, end_of, flags_of, flags_of_stretch, ack_number, number_of, octets_of, window_of, head_of, segment_octets, emitted_len, after_emitted, after_going_out, after_syn_ack_paid, after_speaking, after_asking, after_numbers, after_resent, after_first_sent, after_new_octets, small_with, brings_new_octets, after_stretch, after_probe, after_syn_out};
+ghost use Rattle.tcp_state.specs.Due.{MayGoOut, IsHeld, first_due, ack_due, again, again_at, is_missing, goes_by_reports, goes_by_windows, goes_again, again_from, new_octets, fin_alone, new_due, probe_stretch, numbers_of, end_of, flags_of, flags_of_stretch, number_of, octets_of, window_of, head_of, segment_octets, emitted_len, after_emitted, after_going_out, after_syn_ack_paid, after_speaking, after_asking, after_numbers, after_resent, after_first_sent, after_new_octets, small_with, brings_new_octets, after_stretch, after_probe, after_syn_out};
 
 use crate::connection::Connection;
 use crate::state::State;
@@ -460,20 +460,8 @@ impl Connection {
         match due {
             Due::Syn | Due::Probe => self.sender.una(),
             Due::Text(stretch) => self.sender.una() + stretch.offset as u32,
-            Due::Rst => self.sender.nxt(),
-            Due::Ack => self.ack_number(),
+            Due::Rst | Due::Ack => self.sender.bare_number(),
             Due::KeepAlive => self.sender.nxt() + u32::MAX,
-        }
-    }
-
-    /// The number of an acknowledgement alone: SND.NXT, as far as the peer hears that, or the end of its window where a probe brought numbers past it.
-    fn ack_number(&self) -> Seq
-        ensures { result.0 ≡ ack_number self.now }
-    {
-        if self.state.is_opening() || self.sender.hears_next() {
-            self.sender.nxt()
-        } else {
-            self.sender.una() + self.sender.window()
         }
     }
 
@@ -609,7 +597,7 @@ impl Connection {
         ensures { self.new ≡ after_probe self.old }
     {
         let is_new = self.brings_new_octets(self.probe_stretch());
-        self.sender.sent(1);
+        self.sender.probe_sent(1);
         self.resend.note_probe();
         if is_new {
             self.end_override();
@@ -633,12 +621,22 @@ impl Connection {
         ensures reached { end ≤ outstanding self.new.sending }
     {
         let is_new = self.sender.outstanding() <= offset;
-        self.sender.sent(end);
+        self.send_numbers(end);
         if is_new {
             self.resend.note_sent(self.sender.nxt(), now);
         } else {
             self.resend.note_resent(end, self.sender.outstanding());
         }
+    }
+
+    /// The numbers up to a distance past SND.UNA went out.
+    #[tactic(auto, using(crate::proofs::SentNumbers::still_probed))]
+    fn send_numbers(&mut self, end: u32)
+        requires { end ≤ most_outstanding self.old }
+        ensures after { self.new ≡ record self.old { sending = after_sent self.old.sending end } }
+        ensures reached { end ≤ outstanding self.new.sending }
+    {
+        self.sender.sent(end);
     }
 
     /// A segment with ACK and without SYN went out, and advertised the window.

@@ -2,6 +2,7 @@
 
 ghost use Rattle.std.specs.Prelude.{◌≡◌, ◌&&◌, ◌||◌, not, false, if◌then◌else◌};
 ghost use Rattle.tcp_halves.specs.Stream.{outstanding};
+ghost use Rattle.tcp_state.specs.View.{is_syn_sent, is_closed};
 ghost use Rattle.tcp_state.specs.Arrival.{is_too_old, is_off, is_unused, draws_one, is_opening_syn, guarded};
 ghost use Rattle.tcp_state.specs.Resend.{mark_past};
 ghost use Rattle.tcp_state.specs.Guard.{first_guard, counting_at, is_spent, guard_after};
@@ -102,11 +103,14 @@ impl Connection {
         flags.ack && self.state != State::SynReceived && !self.is_read_on(segment.acknowledgement())
     }
 
-    /// Whether a segment draws an acknowledgement, on guard, that isn't owed already.
+    /// Whether a segment that isn't used, or asks for one, draws an acknowledgement, on guard, that isn't owed already.
     pub(crate) fn draws_one(&self, segment: &TcpView<'_>) -> bool
         ensures { result ≡ draws_one self.now segment.now }
     {
-        self.guard.on && !self.owes_ack && self.state != State::SynSent && self.is_unused(segment)
+        self.guard.on
+            && !self.owes_ack
+            && self.state != State::SynSent
+            && (self.is_unused(segment) || self.asks(segment))
     }
 
     /// Whether a segment is the SYN that opened the connection at a listener, and comes again.
@@ -123,14 +127,24 @@ impl Connection {
             && segment.number() + 1 == self.receiver.rnext()
     }
 
-    /// What a segment leaves that was heard: on guard an acknowledgement that it drew may be held back, and the SYN-ACK goes out again in place of one.
+    /// What a segment leaves that was heard: an acknowledgement is owed where it asks for one; on guard what it drew may be held back, and the SYN-ACK goes out again in place of one.
     pub(crate) fn note_guard(&mut self, before: &Before, now: Moment)
         ensures { self.new ≡ guarded before.now self.old now }
     {
+        self.answer_asking(before.asks);
         if before.draws_one || before.asks_again {
             self.answer_unused(before.draws_one, before.asks_again, now);
         }
         self.guard.note(before.draws_one, now);
+    }
+
+    /// An acknowledgement is owed to a segment that asks for it, where any may be.
+    fn answer_asking(&mut self, asks: bool)
+        ensures { self.new ≡ record self.old { owes_ack = self.old.owes_ack || (asks && not (is_syn_sent self.old.state || is_closed self.old.state)) } }
+    {
+        if asks && self.state != State::SynSent && self.state != State::Closed {
+            self.owes_ack = true;
+        }
     }
 
     /// What such a segment draws is held back, or it draws the SYN-ACK again, or an acknowledgement as it is.

@@ -23,12 +23,14 @@ pub fn guards_move_by_segments()
     ensures { (v : View) (e : Event) → ((after_event v e).guard ≡ v.guard) ⊎ ((s : Segment) × (now : Moment) × (e ≡ Event.Hears s now)) }
 {}
 
-/// Of what comes within a second, ten segments at most that aren't used draw an acknowledgement (RFC 5961 section 7). One that is held back leaves all but the peer's being heard, and doesn't count; a second after the last that was drawn the next is drawn again.
+/// Of what comes within a second, ten segments at most that aren't used, or ask for one, draw an acknowledgement (RFC 5961 section 7). One that is held back doesn't count; a second after the last that was drawn the next is drawn again, unless it ends
+/// the connection.
 pub fn ten_are_answered_in_a_second()
     ensures few { (v : View) (events : List Event) (from : Moment) → EachWithin from events → answered_among v events ≤ 10 }
     ensures held { (v : View) (s : Segment) (now : Moment) → is_closed v.state ≡ false → holds_back v s now ≡ true
         → (let w = after_segment_at v s now in (w.owes_ack ≡ false) × (w.guard.drawn ≡ v.guard.drawn) × (w.guard.latest ≡ v.guard.latest)) }
-    ensures later { (v : View) (s : Segment) (now : Moment) → is_closed v.state ≡ false → draws_one v s ≡ true → v.guard.latest.0 + 1000 ≤ now.0 → is_opening_syn v s ≡ false → (after_segment_at v s now).owes_ack ≡ true }
+    ensures later { (v : View) (s : Segment) (now : Moment) → is_closed v.state ≡ false → draws_one v s ≡ true → v.guard.latest.0 + 1000 ≤ now.0 → is_opening_syn v s ≡ false
+        → is_closed (after_segment_at v s now).state ≡ false → (after_segment_at v s now).owes_ack ≡ true }
 {}
 
 /// The SYN that opened a connection at a listener, and comes again while it opens, draws the SYN-ACK again on guard, and no acknowledgement alone.

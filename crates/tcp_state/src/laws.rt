@@ -22,8 +22,9 @@ ghost use Rattle.tcp_halves.specs.Halves.{Room, Sending, Receiving};
 ghost use Rattle.std.specs.Option.{option_or};
 ghost use Rattle.stream_buf.specs.Receiving.{ranges, IsReceiving};
 ghost use Rattle.tcp_halves.specs.Stream.{size_in, size_of, peer_unit, outstanding, receive_window, is_acceptable, buffer_of, octets_gained, after_octets};
+ghost use Rattle.tcp_halves.specs.Heard.{settled};
 ghost use Rattle.tcp_halves.specs.Windows.{window_in, updates_window, receive_room, whole_units, syn_window};
-ghost use Rattle.tcp_state.specs.Positions.{ReceivesAt, IsNear, MeetsWindow, AreNear, brought, known_at, places_after, takes_octets, kept_with, AreFree, NeverBack, HasNumber, HasToSend, takes_numbers};
+ghost use Rattle.tcp_state.specs.Positions.{ReceivesAt, IsNear, MeetsWindow, AreNear, brought, known_at, places_after, takes_octets, kept_with, AreFree, NeverBack, LeavesWindow, HasNumber, HasToSend, takes_numbers};
 ghost use Rattle.retransmit.specs.declared.timers.TimerKind.{TimerKind};
 ghost use Rattle.retransmit.specs.Deadlines.{deadline_of};
 ghost use Rattle.tcp_state.specs.declared.resend.Timed.{Timed};
@@ -173,13 +174,13 @@ pub fn released_takes_no_octets()
 {}
 
 /// Which segments are acceptable, by positions (RFC 9293 section 3.10.7.4, first): of those that take numbers the ones that meet the window advertised, from RCV.NXT
-/// up to its edge; of the others those at RCV.NXT and those in the window. What is not acceptable changes at most that an acknowledgement is owed, so that none is delayed, the wait of TIME-WAIT, and when the peer was last heard;
+/// up to its edge; of the others those from the number before RCV.NXT on up to that edge, both included. What is not acceptable changes at most that an acknowledgement is owed, so that none is delayed, the wait of TIME-WAIT, and when the peer was last heard;
 /// and on guard what is kept for that, and that our SYN goes out again.
 pub fn acceptable_segments_meet_the_window()
     ensures filled { (initial next edge first : ℕ) (v : View) (s : Segment) → ReceivesAt initial next edge v.receiving → s.number ≡ wire initial first → IsNear next first (span_of s)
         → 0 < span_of s → (is_acceptable_to v s ≡ true) ↔ MeetsWindow next edge first (span_of s) }
     ensures empty { (initial next edge first : ℕ) (v : View) (s : Segment) → ReceivesAt initial next edge v.receiving → s.number ≡ wire initial first → IsNear next first 0
-        → span_of s ≡ 0 → (is_acceptable_to v s ≡ true) ↔ ((first ≡ next) ⊎ ((next ≤ first) × (first < edge))) }
+        → span_of s ≡ 0 → (is_acceptable_to v s ≡ true) ↔ ((next ≤ first + 1) × (first ≤ edge)) }
     ensures others { (v : View) (s : Segment) (now : Moment) → KeepsTime v → is_syn_sent v.state ≡ false → is_acceptable_to v s ≡ false
         → (let w = after_segment_at v s now in
         (w ≡ record v { owes_ack = w.owes_ack; since = w.since; resend = record v.resend { mark = w.resend.mark }; timers = record v.timers { delayed_ack = w.timers.delayed_ack }; alive = w.alive; guard = w.guard })
@@ -227,33 +228,31 @@ pub fn resets_act_at_the_next_number()
 
 /// A window is believed exactly from a segment that is no older than the one that updated it last, by the position of its first number and then by that of its
 /// acknowledgement, and that acknowledges no less than is acknowledged (RFC 9293 section 3.10.7.4, fifth); but for the SYN that opens a connection, no segment
-/// changes it otherwise. The window of that SYN is in octets, and any other's in units of the peer's (RFC 7323 sections 2.2 and 2.3).
+/// changes it otherwise, but that what it acknowledges past the opening comes off. The window of that SYN is in octets, and any other's in units of the peer's (RFC 7323 sections 2.2 and 2.3).
 pub fn no_older_window_is_believed()
     ensures test { (peer own una last latest number ack : ℕ) (s : Sending) → s.una ≡ wire own una → s.wl1 ≡ wire peer last → s.wl2 ≡ wire own latest
         → AreNear ack una → AreNear last number → AreNear ack latest
         → (updates_window s (wire peer number) (wire own ack) ≡ true) ↔ ((una ≤ ack) × ((last < number) ⊎ ((last ≡ number) × (latest ≤ ack)))) }
     ensures alone { (v : View) (s : Segment) (now : Moment)
-        → (((after_segment_at v s now).sending.window ≡ v.sending.window) × ((after_segment_at v s now).sending.wl1 ≡ v.sending.wl1))
+        → (((after_segment_at v s now).sending.wl1 ≡ v.sending.wl1) × LeavesWindow v s (after_segment_at v s now))
         ⊎ (((after_segment_at v s now).sending.wl1 ≡ s.number) × (((is_syn_sent v.state ≡ true) × ((after_segment_at v s now).sending.window ≡ s.window))
         ⊎ (((after_segment_at v s now).sending.window ≡ window_in v.sending s.window)
         × (updates_window (after_ack v s.acknowledgement).sending s.number s.acknowledgement ≡ true) × ((after_segment_at v s now).sending.wl2 ≡ s.acknowledgement)))) }
 {}
 
-/// An acknowledgement alone is heard by a peer that has probed, or was probed (RFC 9293 sections 3.4 and 3.8.6.1). Once a connection is open it goes out at SND.NXT, also where
-/// that lies past a window that isn't closed by less than one of the peer's units, which rounding takes in ordinary traffic (RFC 7323 section 2.4), and else at the end of the peer's window. So a peer whose window is closed, and that stands at SND.UNA, takes it for acceptable (section 3.10.7.4, first), and with it what it
-/// acknowledges and the window that it advertises.
+/// An acknowledgement alone is heard, whatever windows the two ends have (RFC 9293 sections 3.4, 3.8.6.1 and 3.10.7.4). It stands behind all that went out, but for a number that only a probe of a closed window took, which the peer may have
+/// refused. So where the peer's RCV.NXT stands at SND.UNA, at SND.NXT or between, and what went out, but for such a number, lies within what the peer told, the peer takes it for acceptable, and with it what it acknowledges and
+/// the window that it tells; and the probe of a silent peer, too. It lies within the peer's window wherever what went out does so, but for that number.
 pub fn acknowledgements_are_heard()
-    ensures within { (v : View) → IsSound v → is_opening v.state ≡ false → (past (number_of v Due.Ack) v.sending.una ≤ v.sending.window)
-        ⊎ ((0 < v.sending.window) × (past (number_of v Due.Ack) v.sending.una < v.sending.window + v.sending.unit)) }
-    ensures next { (v : View) → IsSound v → is_opening v.state ≡ false → (outstanding v.sending ≤ v.sending.window) ⊎ ((0 < v.sending.window) × (outstanding v.sending < v.sending.window + v.sending.unit))
-        → number_of v Due.Ack ≡ v.sending.nxt }
-    ensures end { (v : View) → IsSound v → is_opening v.state ≡ false → v.sending.window < outstanding v.sending → (v.sending.window ≡ 0) ⊎ (v.sending.window + v.sending.unit ≤ outstanding v.sending)
-        → past (number_of v Due.Ack) v.sending.una ≡ v.sending.window }
-    ensures closed { (v : View) (peer : Receiving) → IsSound v → is_opening v.state ≡ false → v.sending.window ≡ 0 → peer.rnext ≡ v.sending.una → receive_window peer ≡ 0
-        → is_acceptable peer (number_of v Due.Ack) 0 ≡ true }
+    ensures heard { (initial una next edge : ℕ) (v : View) (peer : Receiving) → IsSound v → is_closed v.state ≡ false → v.sending.una ≡ wire initial una → ReceivesAt initial next edge peer
+        → una ≤ next → next ≤ una + outstanding v.sending → una + settled v.sending ≤ edge → is_acceptable peer (number_of v Due.Ack) 0 ≡ true }
+    ensures asks { (v : View) (peer : Receiving) → IsSound v → peer.rnext ≡ v.sending.nxt → is_acceptable peer (number_of v Due.KeepAlive) 0 ≡ true }
+    ensures within { (v : View) → IsSound v → is_closed v.state ≡ false → settled v.sending ≤ v.sending.window → past (number_of v Due.Ack) v.sending.una ≤ v.sending.window }
+    ensures next { (v : View) → v.sending.probed ≡ false → number_of v Due.Ack ≡ v.sending.nxt }
+    ensures probed { (v : View) → IsSound v → is_closed v.state ≡ false → v.sending.probed ≡ true → (number_of v Due.Ack ≡ v.sending.una) × (wire v.sending.una 1 ≡ v.sending.nxt) }
 {}
 
-/// SND.UNA, SND.NXT, RCV.NXT and the right edge of the window advertised never go back (RFC 9293 sections 3.4 and 3.8.6), whatever happens to a connection.
+/// SND.UNA, SND.NXT, the number of an acknowledgement alone, RCV.NXT and the right edge of the window advertised never go back (RFC 9293 sections 3.4 and 3.8.6), whatever happens to a connection.
 pub fn numbers_never_go_back()
     ensures { (v : View) (e : Event) → IsSound v → HasNumber e → NeverBack v (after_event v e) }
 {}
@@ -545,7 +544,8 @@ pub fn probes_wait_twice_as_long()
 {}
 
 /// The clock ends a connection, but at the end of its wait, at the thirteenth expiry without progress and at no other (RFC 9293 section 3.8.3), or in the silence of a peer that was asked twelve times in vain whether it is there
-/// (section 3.8.4), and then every call reports ETIMEDOUT. Each expiry counts, and only progress begins the count anew: SND.UNA moved, or a peer whose window is closed acknowledged. Either always does: a peer that answers the probes of its closed window is never given up.
+/// (section 3.8.4), and then every call reports ETIMEDOUT. Each expiry counts, and only progress begins the count anew: SND.UNA moved, or a peer whose window is closed acknowledged. Either always does. So a peer that answers the probes of its closed window by what is acceptable is never given up, and that is the acknowledgement of a peer of this stack which stands between SND.UNA and SND.NXT, whatever its window, where what
+/// the peer sent, but for a number that only a probe took, lies within what it was told.
 pub fn the_thirteenth_expiry_ends()
     ensures ends { (v : View) (now : Moment) → IsSound v → is_closed v.state ≡ false → is_at_end v now ≡ false → is_closed (after_tick v now).state ≡ true
         → (((v.resend.expiries ≡ 12) × (expires v now ≡ true)) ⊎ ((12 ≤ v.alive.unanswered) × (is_silent v now ≡ true))) × ((after_tick v now).pending_error ≡ Some Refusal.ETIMEDOUT) }
@@ -557,4 +557,7 @@ pub fn the_thirteenth_expiry_ends()
     ensures progress { (v : View) (s : Segment) (now : Moment) → (after_event v (Event.Hears s now)).sending.una ≢ v.sending.una → (after_event v (Event.Hears s now)).resend.expiries ≡ 0 }
     ensures answered { (v : View) (s : Segment) (now : Moment) → is_closed v.state ≡ false → is_opening v.state ≡ false → v.sending.window ≡ 0 → is_acceptable_to v s ≡ true
         → s.flags.ack ≡ true → s.flags.rst ≡ false → (after_event v (Event.Hears s now)).resend.expiries ≡ 0 }
+    ensures peer { (initial una next edge : ℕ) (v peer : View) (now : Moment) → is_closed v.state ≡ false → is_opening v.state ≡ false → v.sending.window ≡ 0
+        → IsSound peer → (is_syn_sent peer.state || is_closed peer.state) ≡ false → peer.sending.una ≡ wire initial una → ReceivesAt initial next edge v.receiving → una ≤ next → next ≤ una + outstanding peer.sending
+        → una + settled peer.sending ≤ edge → (after_event v (Event.Hears (segment_of peer Due.Ack) now)).resend.expiries ≡ 0 }
 {}

@@ -11,7 +11,6 @@ ghost use Rattle.tcp_state.specs.declared.emission.Due.{Due};
 ghost use Rattle.tcp_state.specs.declared.emission.Stretch.{Stretch};
 ghost use Rattle.tcp_state.specs.Selective.{repairs_gaps, pipe, allowance};
 ghost use Rattle.tcp_halves.specs.Stream.{outstanding};
-ghost use Rattle.tcp_halves.specs.Windows.{hears_next};
 ghost use Rattle.tcp_state.specs.View.{View, IsSound, is_opening, awaits_fin_ack};
 ghost use Rattle.tcp_state.specs.Most.{most_due};
 ghost use Rattle.tcp_state.specs.New.{takes_fin};
@@ -22,8 +21,8 @@ ghost use Rattle.tcp_state.specs.Said.{segment_of, HasFlags, IsSo, IsResetAtNext
 
 /// What each segment that goes out says is so of the connection that sends it (RFC 9293 sections 3.1, 3.4, 3.8.6 and 3.10.7.4): its octets are those that are held for their numbers; it acknowledges
 /// RCV.NXT, and the window that it tells, in whole units, or in octets where SYN stands, ends at the right edge that the connection keeps from then on. Each control bit stands exactly where it is due. A stretch has its place, its octets and its FIN, a
-/// probe the oldest octet, or the FIN where none is held; a SYN, a reset and an acknowledgement alone have no octets, and the last has the number SND.NXT, as far as the peer hears that, or that of the end of its
-/// window where probes brought numbers past it; a probe of a silent peer has none either, and the number before SND.NXT (section 3.8.4). The octets that go out spell that segment.
+/// probe the oldest octet, or the FIN where none is held; a SYN, a reset and an acknowledgement alone have no octets, and the last has the number SND.NXT, or the one before where only a
+/// probe of a closed window took that; a probe of a silent peer has none either, and the number before SND.NXT (section 3.8.4). The octets that go out spell that segment.
 pub fn segments_say_what_is_so()
     ensures says { (v : View) (due : Due) (now : Moment) → IsSound v → MayGoOut v due → IsSo v (after_emitted v due now).receiving.edge (segment_of v due) }
     ensures flags { (v : View) (due : Due) → MayGoOut v due → HasFlags v due (let s = segment_of v due in s.flags) }
@@ -31,8 +30,7 @@ pub fn segments_say_what_is_so()
         → (let s = segment_of v (Due.Text stretch) in (s.number ≡ wire v.sending.una stretch.offset) × (length s.octets ≡ stretch.count)) }
     ensures probes { (v : View) → MayGoOut v Due.Probe
         → (let s = segment_of v Due.Probe in (s.number ≡ v.sending.una) × ((length s.octets ≡ 1) ⊎ ((v.sending.held ≡ []) × (s.octets ≡ [])))) }
-    ensures alone { (v : View) → (let s = segment_of v Due.Ack in (s.octets ≡ []) × ((is_opening v.state || hears_next v.sending) ≡ true → s.number ≡ v.sending.nxt)
-        × ((is_opening v.state || hears_next v.sending) ≡ false → s.number ≡ wire v.sending.una v.sending.window)) }
+    ensures alone { (v : View) → IsSound v → (let s = segment_of v Due.Ack in (s.octets ≡ []) × (v.sending.probed ≡ false → s.number ≡ v.sending.nxt) × (v.sending.probed ≡ true → wire s.number 1 ≡ v.sending.nxt)) }
     ensures asks { (v : View) → IsSound v → (let s = segment_of v Due.KeepAlive in (s.octets ≡ []) × (wire s.number 1 ≡ v.sending.nxt)) }
     ensures spelled { (v : View) (due : Due) → IsSound v → MayGoOut v due → length v.local.addr.0 ≡ 4 → length v.peer.addr.0 ≡ 4 → v.local.port < 2 ^ 16 → v.peer.port < 2 ^ 16
         → Spells v.local.addr v.peer.addr (segment_of v due) (segment_octets v due) }

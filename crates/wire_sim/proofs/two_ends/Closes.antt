@@ -22,7 +22,7 @@ use Rattle.tcp_state.specs.View.{View, IsSound, is_opening, is_closed, is_over, 
 use Rattle.tcp_state.specs.Due.{first_due}
 use Rattle.tcp_state.specs.Resend.{Resend, stopped, mark_left}
 use Rattle.tcp_state.proofs.Clocked.{comes_to, unmarked_after}
-use Rattle.tcp_state.proofs.Guarded.{in_reach, kept_mark, read_owes}
+use Rattle.tcp_state.proofs.Guarded.{in_reach, kept_mark, read_owes, filled_asks_none}
 use Rattle.tcp_state.proofs.Segments.{IsRead, reads}
 use Rattle.wire_sim.specs.Handshakes.{IsOut, IsAtRest, IsEnding, fin_alone}
 use Rattle.wire_sim.proofs.two_ends.Opens.{one_past, one_out, new_one, ack_due_first, ack_at_next, next_acceptable}
@@ -215,7 +215,7 @@ first_fin state ours theirs c v now solid ends sound rests room =
           held = held;
           expects = ap (λ n. wire n 1) rests.expects;
         },
-        ack_due_first w reset (ap is_opening state_is) (ap awaits_fin_ack state_is) (kept_mark v s y now (inr refl) ∙ mark) held (read_owes v s y now (read v s now h)),
+        ack_due_first w reset (ap is_opening state_is) (ap awaits_fin_ack state_is) (kept_mark v s y now (inr refl) ∙ mark) held (read_owes v s y now (read v s now h) (filled_asks_none v s refl)),
       ),
       keeps_open v s (ap (λ (u : View). is_closed u.state) (is_heard v s now h ∙ heard) ∙ ap is_closed state_is) (unrefused v s now h) (unended v s now h),
     )
@@ -268,7 +268,7 @@ last_fin state ours theirs c v now solid ends sound waits out room =
           held = held;
           expects = ap (λ n. wire n 1) waits.expects;
         },
-        ack_due_first w reset (ap is_opening state_is) (ap awaits_fin_ack state_is) (kept_mark v s y now (inr refl) ∙ mark) held (read_owes v s y now (read v s now h)),
+        ack_due_first w reset (ap is_opening state_is) (ap awaits_fin_ack state_is) (kept_mark v s y now (inr refl) ∙ mark) held (read_owes v s y now (read v s now h) (filled_asks_none v s refl)),
       ),
       keeps_open v s (ap (λ (u : View). is_closed u.state) (is_heard v s now h ∙ heard) ∙ ap is_closed state_is) (unrefused v s now h) (unended v s now h),
     )
@@ -281,14 +281,14 @@ last_fin state ours theirs c v now solid ends sound waits out room =
         never n = grind arith
 
 -- The acknowledgement of that FIN comes to the end that sent it.
-pub last_ack : (ours theirs : ℕ) (e v : View) (now : Moment) → IsAtRest TimeWait (wire theirs 1) (wire ours 1) e → IsSound v → IsEnding LastAck ours (wire theirs 1) v → IsOut v
+pub last_ack : (ours theirs : ℕ) (e v : View) (now : Moment) → IsSound e → IsAtRest TimeWait (wire theirs 1) (wire ours 1) e → IsSound v → IsEnding LastAck ours (wire theirs 1) v → IsOut v
     → ((let w = after_event v (Hears (segment_of e Ack) now) in w.state) ≡ Closed) × (fate v (segment_of e Ack) ≡ (if v.released then Removed else Stays))
-last_ack ours theirs e v now rests sound waits out =
+last_ack ours theirs e v now solid rests sound waits out =
     let s = segment_of e Ack in
     let past_opening : is_opening v.state ≡ false = ap is_opening waits.in_state in
     let received : is_syn_received v.state ≡ false = ap is_syn_received waits.in_state in
     let sent : v.sending.nxt ≡ wire ours 1 = ending_out v sound past_opening (ap awaits_fin_ack waits.in_state) waits.held out ∙ ap (λ n. wire n 1) waits.fin in
-    let number : s.number ≡ wire theirs 1 = ack_at_next e (wire theirs 1) (omega arith) (ap is_opening rests.in_state) rests.acknowledged rests.sent in
+    let number : s.number ≡ wire theirs 1 = ack_at_next e (wire theirs 1) solid (ap is_closed rests.in_state) rests.acknowledged rests.sent in
     let accepted : is_acceptable_to v s ≡ true = next_acceptable v.receiving s.number (number ∙ sym waits.expects) sound.rnext in
     let new : is_new_ack v.sending s.acknowledgement ≡ true = new_one v ours s.acknowledgement sound waits.fin sent rests.expects in
     let on : is_read_on v s.acknowledgement ≡ true =

@@ -117,7 +117,8 @@ ack_ends limit side id other l m ours theirs e v w0 w1 w2 w3 answer isn t has re
     let s = segment_of e Ack in
     let a = travelled limit side s w0 w1 w2 w3 answer isn t in
     let sound : IsSound v = sound_under (host_of w2.network (other_side side)) other v m a.there there in
-    let meets = λ (now : Moment). last_ack ours theirs e v now rests sound waits out in
+    let solid : IsSound e = sound_under (host_of w0.network side) id e l a.sound has in
+    let meets = λ (now : Moment). last_ack ours theirs e v now solid rests sound waits out in
     let leaves : fate v s ≡ (if v.released then Removed else Stays) = (meets a.moment).1 in
     let h = heard side s w0 w2 w3 answer isn other m v a (awaits side w0 w2 w3 answer isn Ack id other l m e v a has there two (ap is_closed waits.in_state) (λ kept. unless_removed v.released (fate v s) leaves kept)) in
     let w = edge.after_event v (edge.Hears s h.now) in
@@ -149,7 +150,8 @@ ack_confirms limit side id waiting listener ours theirs e f w0 w1 w2 w3 answer i
     let a = travelled limit side s w0 w1 w2 w3 answer isn t in
     let table : SocketsView = table_of w2.network (other_side side) in
     let sound : IsSound f = sound_under (host_of w2.network (other_side side)) waiting f (Some listener) a.there there in
-    let meets = λ (now : Moment). confirmed_by ours theirs e f now opened sound answers out in
+    let solid : IsSound e = sound_under (host_of w0.network side) id e None a.sound has in
+    let meets = λ (now : Moment). confirmed_by ours theirs e f now solid opened sound answers out in
     let stays : fate f s ≡ Stays = (meets a.moment).1 in
     let h = heard side s w0 w2 w3 answer isn waiting (Some listener) f a (awaits side w0 w2 w3 answer isn Ack id waiting None (Some listener) e f a has there two (ap is_closed answers.state) (λ kept. stays)) in
     let g = edge.after_event f (edge.Hears s h.now) in

@@ -1,12 +1,12 @@
 -- Why the segments of an opening that come lead both ends on.
-use Rattle.std.proofs.Common.{◌≡◌, ◌≢◌, ℕ, ◌+◌, ◌-◌, ◌%◌, ◌^◌, ◌<◌, ◌≤◌, ◌==◌, ◌||◌, ◌&&◌, not, nat_le, nat_lt, if◌then◌else◌, Bool, true, false, [], length, Option, Some, None, is_some, arith, refl, sym, ◌∙◌, ap, subst, inl, inr}
+use Rattle.std.proofs.Common.{◌≡◌, ◌≢◌, ℕ, ◌-◌, ◌^◌, ◌<◌, ◌≤◌, ◌==◌, ◌||◌, ◌&&◌, not, nat_le, nat_lt, if◌then◌else◌, Bool, true, false, [], length, Option, Some, None, is_some, arith, refl, sym, ◌∙◌, ap, subst, inl, inr}
 use Rattle.std.proofs.lemmas.Bool.{le-leb}
 use Rattle.clock.specs.declared.moment.Moment.{Moment}
 use Rattle.tcp_segment.specs.Segment.{Segment}
 use Rattle.tcp_segment.specs.Wire.{past, wire}
 use Rattle.tcp_halves.specs.Halves.{Receiving}
-use Rattle.tcp_halves.specs.Stream.{outstanding, is_new_ack, is_acceptable, receive_window}
-use Rattle.tcp_halves.proofs.Choices.{either, by, both, and_false}
+use Rattle.tcp_halves.specs.Stream.{outstanding, is_new_ack, is_acceptable, receive_window, stands_before, bare_number}
+use Rattle.tcp_halves.proofs.Choices.{either, both, and_false, or_left}
 use Rattle.tcp_state.specs.Selective.{allowance}
 use Rattle.tcp_state.specs.declared.calls.Refusal.TheVariants.{ECONNREFUSED}
 use Rattle.tcp_state.specs.declared.connection.Fate.TheVariants.{Stays, Removed, Rejected}
@@ -19,9 +19,9 @@ use Rattle.tcp_state.specs.Said.{segment_of, IsClosedBy}
 use Rattle.tcp_state.specs.View.{View, IsSound, is_opening, is_closed, is_over, is_syn_sent, is_syn_received, awaits_fin_ack, is_write_closed}
 use Rattle.tcp_state.specs.Alive.{is_alive_due}
 use Rattle.tcp_state.specs.New.{sends_new, sends_fin, waits_no_longer}
-use Rattle.tcp_state.specs.Due.{ack_number, first_due, new_octets, fin_alone as fin_alone_of, ack_due, again_from, new_due}
+use Rattle.tcp_state.specs.Due.{first_due, new_octets, fin_alone as fin_alone_of, ack_due, again_from, new_due}
 use Rattle.tcp_state.specs.Timing.{has_unacknowledged, probes}
-use Rattle.tcp_halves.specs.Windows.{window_in, hears_next, sendable, is_worth_sending, has_grown}
+use Rattle.tcp_halves.specs.Windows.{window_in, sendable, is_worth_sending, has_grown}
 use Rattle.tcp_state.specs.declared.emission.Due.{Due}
 use Rattle.std.specs.Option.{option_or}
 use Rattle.tcp_state.proofs.Selects.{silent_opening}
@@ -33,6 +33,7 @@ use Rattle.tcp_state.proofs.ThreeSteps.{ack_confirms}
 use Rattle.tcp_state.proofs.Unreachable.{none_listed, opening}
 use Rattle.stream_law.proofs.Sizes.{opening-holds-nothing}
 use Rattle.wire_sim.specs.Handshakes.{IsOut, IsAsking, IsAnswering, IsOpen}
+use Rattle.tcp_state.proofs.AckNumbers.{bare_at_rest}
 
 -- What a segment leaves of a connection whose caller has not left it.
 
@@ -175,7 +176,7 @@ opened_by ours theirs f v now answers sound asks out =
     let heard : after_heard v s ≡ opened_by_syn_ack v s = ap (λ b. if b then after_lost v s else after_segment v s) kept ∙ syn_ack_heard v s asks.state refl refl ack new in
     let u = opened_by_syn_ack v s in
     let at : after_segment_at v s now ≡ timed_by (before v s) u now = comes_to v s now (ap is_closed asks.state) taken ∙ ap (λ w. timed_by (before v s) w now) heard in
-    let mark : (resend_after (before v s) u now).mark ≡ None = marks_kept (before v s) u now (inr opens) (ap (λ b. not b && is_read v s && nat_lt 0 (octets_outstanding v) && (length s.octets == 0) && not s.flags.fin && (s.acknowledgement == v.sending.una) && (window_in v.sending s.window == v.sending.window) && counts_duplicates v) opens) (silent_opening v s opens) in
+    let mark : (resend_after (before v s) u now).mark ≡ None = marks_kept (before v s) u now (inr opens) (ap (λ b. not b && is_read v s && nat_lt 0 (octets_outstanding v) && (length s.octets == 0) && not s.flags.fin && (s.acknowledgement == v.sending.una) && (window_in v.sending s.window == v.sending.window) && not (stands_before v.receiving s.number) && counts_duplicates v) opens) (silent_opening v s opens) in
     let w = timed_by (before v s) u now in
     let P : View → Type 0 = λ e. IsOpen ours theirs e × (first_due e ≡ Some Ack) in (
       subst P (sym at) (
@@ -188,40 +189,28 @@ opened_by ours theirs f v now answers sound asks out =
 -- The acknowledgement of that.
 
 -- where all is acknowledged, an acknowledgement alone has the next number
-pub ack_at_next : (v : View) (n : ℕ) → n < 2 ^ 32 → is_opening v.state ≡ false → v.sending.una ≡ n → v.sending.nxt ≡ n → ack_number v ≡ n
-ack_at_next v n small opened una nxt =
-    let none : outstanding v.sending ≡ 0 = ap (λ m. past m v.sending.una) nxt ∙ (ap (past n) una ∙ none_past n small) in
-    ap (λ b. if b || hears_next v.sending then v.sending.nxt else (v.sending.una + v.sending.window) % 2 ^ 32) opened
-    ∙ (ap (λ m. if nat_le m v.sending.window || (nat_lt 0 v.sending.window && nat_lt (m - v.sending.window) v.sending.unit) then v.sending.nxt else (v.sending.una + v.sending.window) % 2 ^ 32) none
-    ∙ (ap (λ b. if b || (nat_lt 0 v.sending.window && nat_lt (0 - v.sending.window) v.sending.unit) then v.sending.nxt else (v.sending.una + v.sending.window) % 2 ^ 32) (le-leb 0 v.sending.window (omega arith)) ∙ nxt))
-  where
-    none_past : (n : ℕ) → n < 2 ^ 32 → past n n ≡ 0
-    none_past n small = omega (arith, small)
+pub ack_at_next : (v : View) (n : ℕ) → IsSound v → is_closed v.state ≡ false → v.sending.una ≡ n → v.sending.nxt ≡ n → bare_number v.sending ≡ n
+ack_at_next v n sound lives una nxt =
+    let none : outstanding v.sending ≡ 0 = omega (arith, nxt ∙ sym una, sound.una) in
+    bare_at_rest v sound lives none ∙ nxt
 
 -- one at RCV.NXT is acceptable, whatever the window
 pub next_acceptable : (r : Receiving) (number : ℕ) → number ≡ r.rnext → r.rnext < 2 ^ 32 → is_acceptable r number 0 ≡ true
-next_acceptable r number next small = by (is_acceptable r number 0 ≡ true) (receive_window r == 0)
-    (λ closed. rw closed (rw next (eqb-same r.rnext)))
-    (λ opened. rw opened (rw next (within r.rnext (receive_window r) small opened)))
-  where
-    eqb-same : (n : ℕ) → (n == n) ≡ true
-    eqb-same n = grind arith
-
-    within : (n w : ℕ) → n < 2 ^ 32 → (w == 0) ≡ false → nat_lt (past n n) w ≡ true
-    within n w small some = grind (arith, small, some)
+next_acceptable r number next small =
+    or_left (nat_le (past number r.rnext) (receive_window r)) (stands_before r number) (le-leb (past number r.rnext) (receive_window r) (omega (arith, next, small)))
 
 unleft : (t : State) (left : Bool) → t ≡ SynReceived → (left && not (is_write_closed t)) ≡ false → left ≡ false
 unleft SynReceived true e f = cc
 unleft SynReceived false e f = refl
 unleft _ left e f = cc
 
-pub confirmed_by : (ours theirs : ℕ) (e v : View) (now : Moment) → IsOpen theirs ours e → IsSound v → IsAnswering ours theirs v → IsOut v
+pub confirmed_by : (ours theirs : ℕ) (e v : View) (now : Moment) → IsSound e → IsOpen theirs ours e → IsSound v → IsAnswering ours theirs v → IsOut v
     → IsOpen ours theirs (after_event v (Hears (segment_of e Ack) now)) × (fate v (segment_of e Ack) ≡ Stays) × ((let w = after_event v (Hears (segment_of e Ack) now) in w.released) ≡ false)
-confirmed_by ours theirs e v now opened sound answers out =
+confirmed_by ours theirs e v now solid opened sound answers out =
     let s = segment_of e Ack in
     let opens : is_opening v.state ≡ true = ap is_opening answers.state in
     let sent : v.sending.nxt ≡ wire ours 1 = opening_out v sound opens out ∙ ap (λ n. wire n 1) answers.syn in
-    let number : s.number ≡ wire theirs 1 = ack_at_next e (wire theirs 1) (small theirs) (ap is_opening opened.state) opened.acknowledged opened.sent in
+    let number : s.number ≡ wire theirs 1 = ack_at_next e (wire theirs 1) solid (ap is_closed opened.state) opened.acknowledged opened.sent in
     let accepted : is_acceptable_to v s ≡ true = next_acceptable v.receiving s.number (number ∙ sym answers.expects) sound.rnext in
     let left : v.released ≡ false = unleft v.state v.released answers.state sound.release in
     let new = new_one v ours s.acknowledgement sound answers.syn sent opened.expects in

@@ -1,5 +1,5 @@
-use Rattle.tcp_state.proofs.AckNumbers.{ack_within, ack_at_next, ack_at_end, ack_heard}
+use Rattle.tcp_state.proofs.AckNumbers.{ack_heard, asking_heard, ack_within, number_next, number_probed}
 use Rattle.tcp_state.proofs.laws.acknowledgements_are_heard.Goals as goal
 
 pub returns : goal.returns
-returns c = record { within = ack_within; next = ack_at_next; end = ack_at_end; closed = ack_heard }
+returns c = record { heard = ack_heard; asks = asking_heard; within = ack_within; next = number_next; probed = number_probed }
