@@ -6,6 +6,7 @@ mod captures;
 mod closing;
 mod command_words;
 mod copying;
+mod crossing;
 mod datagrams;
 mod drops;
 mod examples;
@@ -71,10 +72,11 @@ pass 0 -> a 1 b 0
 
 /// All transcripts. Each is a list of parts, in whose lines an arrow parts a script's line from what it prints; a line without
 /// one prints nothing. Where it prints several lines, each further one stands behind an arrow of its own.
-const TRANSCRIPTS: [&[&[&str]]; 18] = [
+const TRANSCRIPTS: [&[&[&str]]; 19] = [
     aborts::TRANSCRIPTS,
     backlog::TRANSCRIPTS,
     closing::TRANSCRIPTS,
+    crossing::TRANSCRIPTS,
     datagrams::TRANSCRIPTS,
     drops::TRANSCRIPTS,
     examples::TRANSCRIPTS,
