@@ -30,7 +30,7 @@ pub fn acknowledgements_free_what_they_name()
 
 /// Past SYN-SENT these segments, and no others, make an acknowledgement owed at once, where they don't end the connection (RFC 9293 sections 3.8.6.3 and 3.10.7.4, RFC 1122 section 4.2.3.2): one that is not
 /// acceptable and no reset; a reset in the window behind RCV.NXT; an acceptable SYN; an acknowledgement of what was not sent; one that takes no number and, past the opening, has that before RCV.NXT; a FIN; and octets that don't stand next, come while some are kept ahead of a gap, or are
-/// those of a second segment. So an acknowledgement alone draws none. Octets, and nothing else, make one wait. On guard one that is too old draws one, too, and ten at most in a second go out
+/// those of a second segment. So an acknowledgement alone draws none, but at the number before RCV.NXT. Octets, and nothing else, make one wait. On guard one that is too old draws one, too, and ten at most in a second go out
 /// for segments that aren't used (RFC 5961 sections 5.2 and 7).
 pub fn what_draws_an_acknowledgement()
     ensures owed { (at : Places) (v : View) (s : Segment) (now : Moment) → IsSound v → v.guard.on ≡ false → is_syn_sent v.state ≡ false → StandsAt at v s → is_closed (after_segment_at v s now).state ≡ false
