@@ -42,7 +42,7 @@ use Rattle.sockets.specs.declared.emission.Emitted.TheVariants as what
 use Rattle.sockets.specs.declared.emission.Outgoing.{Outgoing}
 use Rattle.sockets.specs.declared.emission.Outgoing.TheVariants as outgoing
 use Rattle.sockets.specs.Entries.{HasOutgoing, due_emitted, due_octets, due_to, sends, with_first}
-use Rattle.sockets.specs.Emission.{emitted_octets}
+use Rattle.sockets.specs.Emission.{emitted_octets, in_turn}
 use Rattle.sockets.specs.Order.{IsOrdered, LiesAt}
 use Rattle.sockets.specs.Sound.{IsSoundConnection, IsSoundRole}
 use Rattle.sockets.specs.SocketsView.{later_moment}
@@ -163,7 +163,7 @@ replies-go h moment place sound = by_place (slice_get h.interface.replies place)
 record Sending (h : HostView) (moment : Moment) (mac : Mac) (to : Addr) : Type 0 where
   pub e : Entry
   pub due : Endpoint × Outgoing
-  pub found : find (sends (goes_out_from h moment)) h.sockets.entries ≡ Some e
+  pub found : find (in_turn h.sockets (sends (goes_out_from h moment))) h.sockets.entries ≡ Some e
   pub is : due_to (goes_out_from h moment) e.role ≡ Some due
   pub is_to : to ≡ due.0.addr
   pub leads : way h.interface moment to ≡ To mac
@@ -174,7 +174,7 @@ sending h moment mac to = by_place (position (is_due h.interface moment) h.inter
     goes : Addr → Bool
     goes = goes_out_from h moment
 
-    by_way : (e : Entry) (due : Endpoint × Outgoing) → find (sends goes) h.sockets.entries ≡ Some e → due_to goes e.role ≡ Some due → (w : Way) → way h.interface moment due.0.addr ≡ w
+    by_way : (e : Entry) (due : Endpoint × Outgoing) → find (in_turn h.sockets (sends goes)) h.sockets.entries ≡ Some e → due_to goes e.role ≡ Some due → (w : Way) → way h.interface moment due.0.addr ≡ w
         → emission_by due.0.addr w ≡ Sends mac to → Sending h moment mac to
     by_way e due found its (To theirs) leads same =
         let macs : theirs ≡ mac = cc in
@@ -183,7 +183,7 @@ sending h moment mac to = by_place (position (is_due h.interface moment) h.inter
     by_way e due found its (Ask hop) leads same = cc
     by_way e due found its Waits leads same = cc
 
-    by_entry : (o : Option Entry) → find (sends goes) h.sockets.entries ≡ o → table_emission h moment ≡ Sends mac to → Sending h moment mac to
+    by_entry : (o : Option Entry) → find (in_turn h.sockets (sends goes)) h.sockets.entries ≡ o → table_emission h moment ≡ Sends mac to → Sending h moment mac to
     by_entry None found same = let none = sym (none_from h moment found) ∙ same in cc
     by_entry (Some e) found same =
         let due = found_due h.sockets goes e found in
@@ -191,7 +191,7 @@ sending h moment mac to = by_place (position (is_due h.interface moment) h.inter
 
     by_place : (o : Option ℕ) → emission_at h moment o ≡ Sends mac to → Sending h moment mac to
     by_place (Some place) same = cc
-    by_place None same = by_entry (find (sends goes) h.sockets.entries) refl same
+    by_place None same = by_entry (find (in_turn h.sockets (sends goes)) h.sockets.entries) refl same
 
 first-octets : (own : Addr) (w : Outgoing) (c : View) (l : Option SocketId) (due : Due) → first_due c ≡ Some due → due_octets own w (Connected c l) ≡ connection_octets c due
 first-octets own w c l due first = rw first
@@ -202,29 +202,29 @@ pub data IsSending (h : HostView) (moment : Moment) (mac : Mac) (to : Addr) : Ty
   SendsPart : (part : Part) (octets : List ℕ) → carried_by h moment (Sends mac to) ≡ None → octets_of h moment (Sends mac to) ≡ part_frame_to h.interface mac to part octets → length mac.0 ≡ 6 → IsSending h moment mac to
 
 -- in the frame is what the entry has due
-sent-frame : (h : HostView) (moment : Moment) (mac : Mac) (to : Addr) (e : Entry) (role : Role) (due : Endpoint × Outgoing) → find (sends (goes_out_from h moment)) h.sockets.entries ≡ Some e → due_to (goes_out_from h moment) e.role ≡ Some due → e.role ≡ role
+sent-frame : (h : HostView) (moment : Moment) (mac : Mac) (to : Addr) (e : Entry) (role : Role) (due : Endpoint × Outgoing) → find (in_turn h.sockets (sends (goes_out_from h moment))) h.sockets.entries ≡ Some e → due_to (goes_out_from h moment) e.role ≡ Some due → e.role ≡ role
     → octets_of h moment (Sends mac to) ≡ emitted_frame h.interface mac to (due_emitted due.1 role) (due_octets h.sockets.addr due.1 role)
 sent-frame h moment mac to e role due found its is =
     let goes : Addr → Bool = goes_out_from h moment in
     ap (λ (o : Option Emitted). emitted_frame h.interface mac to o (emitted_octets h.sockets goes)) (emitted-found h.sockets goes e due found its ∙ ap (due_emitted due.1) is)
     ∙ ap (λ (l : List ℕ). emitted_frame h.interface mac to (due_emitted due.1 role) l) (emitted_octets-found h.sockets goes e due found its ∙ ap (due_octets h.sockets.addr due.1) is)
 
-carried-so : (h : HostView) (moment : Moment) (mac : Mac) (to : Addr) (e : Entry) (role : Role) → find (sends (goes_out_from h moment)) h.sockets.entries ≡ Some e → e.role ≡ role
+carried-so : (h : HostView) (moment : Moment) (mac : Mac) (to : Addr) (e : Entry) (role : Role) → find (in_turn h.sockets (sends (goes_out_from h moment))) h.sockets.entries ≡ Some e → e.role ≡ role
     → carried_by h moment (Sends mac to) ≡ option_map (λ segment. record { mac = mac; to = to; segment = segment }) (due_segment role)
 carried-so h moment mac to e role found is =
     let made : Segment → Carried = λ s. record { mac = mac; to = to; segment = s } in
     ap (λ (o : Option Entry). option_map made (option_and_then (λ (x : Entry). due_segment x.role) o)) found ∙ ap (λ (r : Role). option_map made (due_segment r)) is
 
 of-connection : (h : HostView) (moment : Moment) (mac : Mac) (to : Addr) (e : Entry) (c : View) (l : Option SocketId) (first : Endpoint × Outgoing) (due : Due) → IsSoundHost h → IsOrdered h.sockets
-    → find (sends (goes_out_from h moment)) h.sockets.entries ≡ Some e → due_to (goes_out_from h moment) e.role ≡ Some first → e.role ≡ Connected c l → first_due c ≡ Some due → to ≡ c.peer.addr → way h.interface moment to ≡ To mac → IsSending h moment mac to
+    → find (in_turn h.sockets (sends (goes_out_from h moment))) h.sockets.entries ≡ Some e → due_to (goes_out_from h moment) e.role ≡ Some first → e.role ≡ Connected c l → first_due c ≡ Some due → to ≡ c.peer.addr → way h.interface moment to ≡ To mac → IsSending h moment mac to
 of-connection h moment mac to e c l out due sound ordered found its role first is_to leads =
     let goes : Addr → Bool = goes_out_from h moment in
     let head : Head = head_of c due in
     let text : List ℕ = text_of c due in
     let table = sound.table in
-    let solid : IsSoundConnection c = subst IsSoundRole role (found-all (λ (x : Entry). IsSoundRole x.role) (sends goes) h.sockets.entries e table.entries found) in
+    let solid : IsSoundConnection c = subst IsSoundRole role (found-all (λ (x : Entry). IsSoundRole x.role) (in_turn h.sockets (sends goes)) h.sockets.entries e table.entries found) in
     let may = due-may c due solid.sound first in
-    let lies : LiesAt h.sockets.addr (Connected c l) = subst (LiesAt h.sockets.addr) role (found-all (λ (x : Entry). LiesAt h.sockets.addr x.role) (sends goes) h.sockets.entries e ordered.own found) in
+    let lies : LiesAt h.sockets.addr (Connected c l) = subst (LiesAt h.sockets.addr) role (found-all (λ (x : Entry). LiesAt h.sockets.addr x.role) (in_turn h.sockets (sends goes)) h.sockets.entries e ordered.own found) in
     let source : c.local.addr ≡ h.interface.addr = lies.0 ∙ sym sound.own in
     let own : Carried = record { mac = mac; to = to; segment = sent_segment head text } in
     let made : Segment → Carried = λ s. record { mac = mac; to = to; segment = s } in
@@ -250,7 +250,7 @@ of-connection h moment mac to e c l out due sound ordered found its role first i
     })
 
 of-datagrams : (h : HostView) (moment : Moment) (mac : Mac) (to : Addr) (e : Entry) (bound : Option Endpoint) (socket : SocketView) (due : Endpoint × Outgoing) (part : Part) → IsSoundHost h
-    → find (sends (goes_out_from h moment)) h.sockets.entries ≡ Some e → due_to (goes_out_from h moment) e.role ≡ Some due → e.role ≡ Datagrams bound socket → due_part (with_first due.1 socket) ≡ Some part → way h.interface moment to ≡ To mac → IsSending h moment mac to
+    → find (in_turn h.sockets (sends (goes_out_from h moment))) h.sockets.entries ≡ Some e → due_to (goes_out_from h moment) e.role ≡ Some due → e.role ≡ Datagrams bound socket → due_part (with_first due.1 socket) ≡ Some part → way h.interface moment to ≡ To mac → IsSending h moment mac to
 of-datagrams h moment mac to e bound socket due part sound found its role told leads =
     let octets : List ℕ = due_octets h.sockets.addr due.1 (Datagrams bound socket) in
     SendsPart part octets (carried-so h moment mac to e (Datagrams bound socket) found role)
@@ -266,13 +266,13 @@ is-sending h moment mac to sound ordered is =
     goes : Addr → Bool
     goes = goes_out_from h moment
 
-    by_part : (e : Entry) (bound : Option Endpoint) (socket : SocketView) (due : Endpoint × Outgoing) → find (sends goes) h.sockets.entries ≡ Some e → due_to goes e.role ≡ Some due → e.role ≡ Datagrams bound socket → way h.interface moment to ≡ To mac
+    by_part : (e : Entry) (bound : Option Endpoint) (socket : SocketView) (due : Endpoint × Outgoing) → find (in_turn h.sockets (sends goes)) h.sockets.entries ≡ Some e → due_to goes e.role ≡ Some due → e.role ≡ Datagrams bound socket → way h.interface moment to ≡ To mac
         → (w : Outgoing) → due.1 ≡ w → HasOutgoing (Datagrams bound socket) w → (o : Option Part) → due_part (with_first due.1 socket) ≡ o → IsSending h moment mac to
     by_part e bound socket due found its role leads w same has (Some part) told = of-datagrams h moment mac to e bound socket due part sound found its role told leads
     by_part e bound socket due found its role leads (outgoing.Segment d) same has None told = absurd has
     by_part e bound socket due found its role leads (outgoing.Datagram place) same has None told = absurd (part-waits place socket has (ap (λ (w : Outgoing). due_part (with_first w socket)) (sym same) ∙ told))
 
-    by_role : (e : Entry) → find (sends goes) h.sockets.entries ≡ Some e → (due : Endpoint × Outgoing) → due_to goes e.role ≡ Some due → to ≡ due.0.addr → way h.interface moment to ≡ To mac → (r : Role) → e.role ≡ r → HasOutgoing e.role due.1
+    by_role : (e : Entry) → find (in_turn h.sockets (sends goes)) h.sockets.entries ≡ Some e → (due : Endpoint × Outgoing) → due_to goes e.role ≡ Some due → to ≡ due.0.addr → way h.interface moment to ≡ To mac → (r : Role) → e.role ≡ r → HasOutgoing e.role due.1
         → IsSending h moment mac to
     by_role e found due its is_to leads (Connected c l) role has =
         let first = first_segment goes c l due (ap (due_to goes) (sym role) ∙ its) in

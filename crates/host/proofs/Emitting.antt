@@ -24,7 +24,7 @@ use Rattle.sockets.specs.declared.emission.Emitted.{Emitted}
 use Rattle.sockets.specs.declared.emission.Emitted.TheVariants as emitted
 use Rattle.sockets.specs.declared.emission.Outgoing.{Outgoing}
 use Rattle.sockets.specs.Entries.{due_to, due_emitted, sends, due_octets, due_front, len_of, source_of, with_first}
-use Rattle.sockets.specs.Emission.{Next, IsNextAt, emitted, emitted_octets, emitted_front}
+use Rattle.sockets.specs.Emission.{Next, IsNextAt, emitted, emitted_octets, emitted_front, in_turn}
 use Rattle.sockets.specs.SocketsView.{SocketsView}
 use Rattle.sockets.proofs.Emitting.{due_outgoing, due_passes, found_due, next-found, next-none, emitted-found, emitted-none, emitted_front-found, emitted_octets-found}
 use Rattle.sockets.proofs.Firsts.{find-position, find-position_none, position-from_fails, position-none_passes}
@@ -43,12 +43,12 @@ use Rattle.host.specs.Plans.{IsFirst, plan_by, plan_to, planned, planned_or_noth
 use Rattle.host.specs.Emission.{Nothing, emission_by, emission_to, emitted_frame, goes_out_from, table_emission}
 
 -- what goes out for the table, by what the first entry of which something can has due
-pub table_from : (h : HostView) (now : Moment) (e : Entry) (due : Endpoint × Outgoing) → find (sends (goes_out_from h now)) h.sockets.entries ≡ Some e → due_to (goes_out_from h now) e.role ≡ Some due
+pub table_from : (h : HostView) (now : Moment) (e : Entry) (due : Endpoint × Outgoing) → find (in_turn h.sockets (sends (goes_out_from h now))) h.sockets.entries ≡ Some e → due_to (goes_out_from h now) e.role ≡ Some due
     → table_emission h now ≡ emission_by due.0.addr (way h.interface now due.0.addr)
 table_from h now e due found is = ap (λ (o : Option Next). emission_to h now (option_map (λ next. next.peer) o)) (next-found h.sockets (goes_out_from h now) e due found is)
 
 -- no entry sends
-pub none_from : (h : HostView) (now : Moment) → find (sends (goes_out_from h now)) h.sockets.entries ≡ None → table_emission h now ≡ Nothing
+pub none_from : (h : HostView) (now : Moment) → find (in_turn h.sockets (sends (goes_out_from h now))) h.sockets.entries ≡ None → table_emission h now ≡ Nothing
 none_from h now none = ap (λ (o : Option Next). emission_to h now (option_map (λ next. next.peer) o)) (next-none h.sockets (goes_out_from h now) none)
 
 -- The octets of what goes out, as many as are said, are at the front.
@@ -68,9 +68,9 @@ front_is own due role out what e = rw e refl
 
 -- the first entry's
 pub emitted_front_is : (h : SocketsView) (goes : Addr → Bool) (out : List ℕ) (what : Emitted) → Some what ≡ emitted h goes → emitted_front h goes out ≡ emitted_octets h goes ++ drop (len_of what) out
-emitted_front_is h goes out what e = by_entry (find (sends goes) h.entries) refl
+emitted_front_is h goes out what e = by_entry (find (in_turn h (sends goes)) h.entries) refl
   where
-    by_entry : (o : Option Entry) → find (sends goes) h.entries ≡ o → emitted_front h goes out ≡ emitted_octets h goes ++ drop (len_of what) out
+    by_entry : (o : Option Entry) → find (in_turn h (sends goes)) h.entries ≡ o → emitted_front h goes out ≡ emitted_octets h goes ++ drop (len_of what) out
     by_entry None found = let no = e ∙ emitted-none h goes found in cc
     by_entry (Some x) found =
         let due = found_due h goes x found in
@@ -106,9 +106,9 @@ role_octets_len own first (Datagrams bound socket) what e = by_socket (with_firs
     by_socket s e = by_outbox s s.outbox refl e
 
 pub emitted_octets_len : (h : SocketsView) (goes : Addr → Bool) (what : Emitted) → Some what ≡ emitted h goes → length (emitted_octets h goes) ≡ len_of what
-emitted_octets_len h goes what e = by_entry (find (sends goes) h.entries) refl
+emitted_octets_len h goes what e = by_entry (find (in_turn h (sends goes)) h.entries) refl
   where
-    by_entry : (o : Option Entry) → find (sends goes) h.entries ≡ o → length (emitted_octets h goes) ≡ len_of what
+    by_entry : (o : Option Entry) → find (in_turn h (sends goes)) h.entries ≡ o → length (emitted_octets h goes) ≡ len_of what
     by_entry None found = let no = e ∙ emitted-none h goes found in cc
     by_entry (Some x) found =
         let due = found_due h goes x found in
@@ -196,16 +196,16 @@ pub plan_ended : (h : HostView) (now : Moment) (place : ℕ) (dues : List (Endpo
 plan_ended h now place dues o n so_far past = plan_nothing h now place dues o n so_far (slice_get_past dues n past)
 
 -- it sends where something is planned
-plan_sends : (h : HostView) (now : Moment) (place : ℕ) (e : Entry) → sends (goes_out_from h now) e ≡ is_some (plan_to h now place (due_to (goes_out_from h now) e.role))
+pub plan_sends : (h : HostView) (now : Moment) (place : ℕ) (e : Entry) → sends (goes_out_from h now) e ≡ is_some (plan_to h now place (due_to (goes_out_from h now) e.role))
 plan_sends h now place e = by_due (due_to (goes_out_from h now) e.role) refl
   where
     by_due : (o : Option (Endpoint × Outgoing)) → due_to (goes_out_from h now) e.role ≡ o → is_some o ≡ is_some (plan_to h now place o)
     by_due None is = refl
     by_due (Some due) is = sym (due_passes (goes_out_from h now) e.role due is) ∙ passed-by h now place due
 
--- what goes out then is what is planned, of the first entry that sends
-planned_to : (h : HostView) (now : Moment) (place : ℕ) (x : Entry) (due : Option (Endpoint × Outgoing)) (p : Plan) → plan_to h now place due ≡ Some p → position (sends (goes_out_from h now)) h.sockets.entries ≡ Some place
-    → find (sends (goes_out_from h now)) h.sockets.entries ≡ Some x → slice_get h.sockets.entries place ≡ Some x → due_to (goes_out_from h now) x.role ≡ due → (table_emission h now ≡ planned p) × IsFirst h now p
+-- what goes out then is what is planned, of the entry whose turn it is
+pub planned_to : (h : HostView) (now : Moment) (place : ℕ) (x : Entry) (due : Option (Endpoint × Outgoing)) (p : Plan) → plan_to h now place due ≡ Some p → position (in_turn h.sockets (sends (goes_out_from h now))) h.sockets.entries ≡ Some place
+    → find (in_turn h.sockets (sends (goes_out_from h now))) h.sockets.entries ≡ Some x → slice_get h.sockets.entries place ≡ Some x → due_to (goes_out_from h now) x.role ≡ due → (table_emission h now ≡ planned p) × IsFirst h now p
 planned_to h now place x None p some first found there is = cc
 planned_to h now place x (Some due) p some first found there is = by_way (way h.interface now due.0.addr) refl some
   where
@@ -227,23 +227,6 @@ planned_to h now place x (Some due) p some first found there is = by_way (way h.
         (out (Ask hop) leads ∙ ap planned same, subst (IsFirst h now) same (asks h.interface now due.0.addr hop leads))
     by_way Waits leads told = cc
 
--- the entry in this place is the first that sends
-pub plan_at : (h : HostView) (now : Moment) (place : ℕ) (x : Entry) (entries : List Entry) (o : Option Plan) → entries ≡ h.sockets.entries → place < length entries → AllWithin (λ (e : Entry). sends (goes_out_from h now) e ≡ false) entries 0 place → x ≡ get_or entries place x
-    → o ≡ plan_to h now place (due_to (goes_out_from h now) x.role) → is_some o ≡ true → (table_emission h now ≡ planned_or_nothing o) × IfSome o (IsFirst h now)
-plan_at h now place x entries None same within fails at is some = cc
-plan_at h now place x entries (Some p) same within fails at is some =
-    let goes : sends (goes_out_from h now) x ≡ true = plan_sends h now place x ∙ ap (λ (o : Option Plan). is_some o) (sym is) in
-    let passes : position (sends (goes_out_from h now)) entries ≡ Some place = position-from_fails (sends (goes_out_from h now)) entries place x within fails at goes in
-    let first : position (sends (goes_out_from h now)) h.sockets.entries ≡ Some place = ap (λ (l : List Entry). position (sends (goes_out_from h now)) l) (sym same) ∙ passes in
-    let found : find (sends (goes_out_from h now)) h.sockets.entries ≡ Some x = find-position (sends (goes_out_from h now)) h.sockets.entries place x first (at ∙ ap (λ (l : List Entry). get_or l place x) same) in
-    let there : slice_get h.sockets.entries place ≡ Some x = ap (λ (l : List Entry). slice_get l place) (sym same) ∙ slice_get-get_or entries place x within ∙ ap Some (sym at) in
-    planned_to h now place x (due_to (goes_out_from h now) x.role) p (sym is) first found there refl
-
 -- the entry in this place doesn't send
 pub plan_missed : (h : HostView) (now : Moment) (place : ℕ) (x : Entry) (o : Option Plan) → o ≡ plan_to h now place (due_to (goes_out_from h now) x.role) → is_some o ≡ false → sends (goes_out_from h now) x ≡ false
 plan_missed h now place x o is missed = plan_sends h now place x ∙ ap (λ (p : Option Plan). is_some p) (sym is) ∙ missed
-
--- no entry sends
-pub plan_past : (h : HostView) (now : Moment) (entries : List Entry) → entries ≡ h.sockets.entries → AllWithin (λ (e : Entry). sends (goes_out_from h now) e ≡ false) entries 0 (length entries) → table_emission h now ≡ Nothing
-plan_past h now entries same fails =
-    none_from h now (find-position_none (sends (goes_out_from h now)) h.sockets.entries (ap (λ (l : List Entry). position (sends (goes_out_from h now)) l) (sym same) ∙ position-none_passes (sends (goes_out_from h now)) entries fails))

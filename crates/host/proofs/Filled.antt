@@ -31,7 +31,7 @@ use Rattle.sockets.specs.Calls.{after_bind, after_connect, after_leaving, after_
 use Rattle.sockets.specs.Causes.{Event, Makes, MakesDatagrams, Binds, Listens, Accepts, Connects, Sends, Receives, Shuts, SetsNoDelay, SetsKeepAlive, Leaves, Ticks, Hears, Emits, GivesUp, GivesWay, Unreachable, SendsTo, ReceivesFrom, HearsDatagram, after_arrival, after_event}
 use Rattle.sockets.specs.GiveWay.{gives_way}
 use Rattle.sockets.specs.Datagrams.{after_reception, after_sendto, end_sent_from, sending_end}
-use Rattle.sockets.specs.Emission.{after_segment_sent}
+use Rattle.sockets.specs.Emission.{after_segment_sent, in_turn}
 use Rattle.sockets.specs.Entries.{leaving_fate_of, entries_after_step, has_room_to_receive, has_room_to_send, is_between, is_datagrams_at, is_kept, is_socket, on_connection, on_datagrams, role_after_accept, role_after_bind, role_after_leaving, role_after_connect, role_after_emission, role_after_listen, role_after_listener_close, role_after_reception, role_after_sendto, role_after_unreachable, sends, waits_at, with_first, with_role}
 use Rattle.sockets.specs.Lists.{change_first, remove_first}
 use Rattle.sockets.specs.Lost.{role_after_giving_up}
@@ -288,13 +288,13 @@ heard-fit h now isn source s all =
     answered (Some head) = all
 
 emitted-fit : (h : SocketsView) (goes : Addr → Bool) (now : Moment) → Filled h → Filled (after_segment_sent h goes now)
-emitted-fit h goes now all = by_entry (find (sends goes) h.entries) refl
+emitted-fit h goes now all = by_entry (find (in_turn h (sends goes)) h.entries) refl
   where
-    by_entry : (o : Option Entry) → find (sends goes) h.entries ≡ o → Filled (after_segment_sent h goes now)
+    by_entry : (o : Option Entry) → find (in_turn h (sends goes)) h.entries ≡ o → Filled (after_segment_sent h goes now)
     by_entry None found = subst Filled (sym (segment_sent-none h goes now found)) all
     by_entry (Some first) found =
         let due = found_due h goes first found in
-        subst Filled (sym (segment_sent-found h goes now first due.0 found due.1)) (stepped-fit _ (sends goes) _ (emission-keeps (later_moment h now) due.0.1) h.entries all)
+        subst Filled (sym (segment_sent-found h goes now first due.0 found due.1)) (stepped-fit _ (in_turn h (sends goes)) _ (emission-keeps (later_moment h now) due.0.1) h.entries all)
 
 told-fit : (h : SocketsView) (local peer : Endpoint) (number : ℕ) → Filled h → Filled (after_unreachable h local peer number)
 told-fit h local peer number all = by_entry (find (is_between local peer) h.entries) refl

@@ -1,5 +1,5 @@
 -- What goes out is for the first place for which a frame can.
-use Rattle.std.proofs.Common.{◌≡◌, ◌≢◌, ℕ, zero, suc, ◌+◌, ◌<◌, Bool, true, false, cond, List, [], ◌∷◌, length, map, Option, Some, None, is_some, option_map, option_and_then, refl, sym, ◌∙◌, ap, subst, arith}
+use Rattle.std.proofs.Common.{◌≡◌, ◌≢◌, ℕ, zero, suc, ◌+◌, ◌<◌, Bool, true, false, cond, List, [], ◌∷◌, ◌++◌, length, map, Option, Some, None, is_some, option_map, option_and_then, refl, sym, ◌∙◌, ap, subst, arith}
 use Rattle.std.specs.List.{find, flat_map, position, slice_get}
 use Rattle.std.specs.Option.{option_or}
 use Rattle.std.proofs.lemmas.List.Concat.{flat_map-cons}
@@ -22,17 +22,18 @@ use Rattle.sockets.specs.declared.emission.Emitted.TheVariants as emitted
 use Rattle.sockets.specs.declared.emission.Outgoing.{Outgoing}
 use Rattle.sockets.specs.declared.emission.Outgoing.TheVariants.{Segment, Datagram}
 use Rattle.sockets.specs.Entries.{HasOutgoing, due_emitted, due_to, dues_of, sends}
-use Rattle.sockets.specs.Emission.{Next, emitted, next_of, next_out}
+use Rattle.sockets.specs.Emission.{Next, emitted, next_of, next_out, in_turn}
 use Rattle.sockets.specs.SocketsView.{SocketsView, later_moment}
-use Rattle.sockets.proofs.Emitting.{IsFirstDatagram, first_datagram, found_due, due_outgoing, due_passes, next-found, next-none, emitted-found}
+use Rattle.sockets.proofs.Emitting.{IsFirstDatagram, first_datagram, found_due, sends_due, due_outgoing, due_passes, next-found, next-none, emitted-found}
 use Rattle.sockets.proofs.Firsts.{find-position_none, found_by_place}
 use Rattle.udp.specs.declared.cutting.Part.{Part}
 use Rattle.udp_socket.specs.Emission.{brought, due_part, due_peer, first_that, fragment_of}
 use Rattle.udp_socket.proofs.Places.{due_brought}
 use Rattle.udp_socket.specs.SocketView.{Outgoing as OutDatagram, SocketView}
 use Rattle.host.specs.HostView.{HostView}
+use Rattle.host.proofs.TurnOrder.{turns_find, turn_none, none_turn}
 use Rattle.host.specs.Emission.{Emission, Replies, Nothing, emission, emission_at, emission_by, emission_len, emission_to, emitted_len, goes_out_from, len_of}
-use Rattle.host.specs.Places.{Place, ReplyOf, EntryOf, can_go_out, places, places_of}
+use Rattle.host.specs.Places.{Place, ReplyOf, EntryOf, can_go_out, places, places_in_turn, places_of, turns}
 
 -- The first of lists that were made of others.
 
@@ -103,12 +104,51 @@ table-is h moment (e ∷ es) =
     by_due further None is = further
     by_due further (Some due) is = sym (ap (λ (o : Option (Endpoint × Outgoing)). option_map as_place (option_map (λ (d : Endpoint × Outgoing). let n : Next = record { entry = e; peer = d.0; what = d.1 } in n) o)) is)
 
-first-is : (h : HostView) (moment : Moment)
-    → find (can_go_out h moment) (places h) ≡ by_sides (find (is_reply_due h.interface moment) h.interface.replies) (next_out h.sockets (goes_out_from h moment))
-first-is h moment =
-    find-append (can_go_out h moment) (map ReplyOf h.interface.replies) (flat_map places_of h.sockets.entries)
-    ∙ ap (λ o. option_or o (find (can_go_out h moment) (flat_map places_of h.sockets.entries))) (find-mapped ReplyOf (can_go_out h moment) h.interface.replies)
-    ∙ ap (λ o. option_or (option_map ReplyOf (find (is_reply_due h.interface moment) h.interface.replies)) o) (table-is h moment h.sockets.entries)
+module _ (h : HostView) (moment : Moment) where
+  abbrev own : SocketsView
+  own = h.sockets
+
+  abbrev goes : Addr → Bool
+  goes = goes_out_from h moment
+
+  abbrev replied : Option Waiting
+  replied = find (is_reply_due h.interface moment) h.interface.replies
+
+  over : (entries : List Entry) → find (can_go_out h moment) (map ReplyOf h.interface.replies ++ flat_map places_of entries) ≡ by_sides (find (is_reply_due h.interface moment) h.interface.replies) (option_and_then (next_of (goes_out_from h moment)) (find (sends (goes_out_from h moment)) entries))
+  over entries =
+      find-append (can_go_out h moment) (map ReplyOf h.interface.replies) (flat_map places_of entries)
+      ∙ ap (λ o. option_or o (find (can_go_out h moment) (flat_map places_of entries))) (find-mapped ReplyOf (can_go_out h moment) h.interface.replies)
+      ∙ ap (λ o. option_or (option_map ReplyOf (find (is_reply_due h.interface moment) h.interface.replies)) o) (table-is h moment entries)
+
+  first-is : find (can_go_out h moment) (places_in_turn h) ≡ by_sides (find (is_reply_due h.interface moment) h.interface.replies) (next_out h.sockets (goes_out_from h moment))
+  first-is = over (turns h.sockets) ∙ ap (λ o. by_sides replied (option_and_then (next_of goes) o)) (turns_find own (sends goes))
+
+  -- nothing can go out for any of them, in whatever order they stand
+  none-sends : (w : Option Waiting) (o : Option Entry) → find (sends goes) own.entries ≡ o → by_sides w (option_and_then (next_of goes) o) ≡ None → (w ≡ None) × (find (sends goes) own.entries ≡ None)
+  none-sends (Some w) o found none = cc
+  none-sends None None found none = (refl, found)
+  none-sends None (Some e) found none =
+      let due = sends_due goes e (find-passes (sends goes) own.entries e found) in
+      let some : option_map as_place (next_of goes e) ≡ Some (EntryOf e due.0.0 due.0.1) = ap (λ (d : Option (Endpoint × Outgoing)). option_map as_place (option_map (λ (x : Endpoint × Outgoing). let n : Next = record { entry = e; peer = x.0; what = x.1 } in n) d)) due.1 in
+      let bad : Some (EntryOf e due.0.0 due.0.1) ≡ None = sym some ∙ none in cc
+
+  pub none-in-turn : find (can_go_out h moment) (places h) ≡ None → find (can_go_out h moment) (places_in_turn h) ≡ None
+  none-in-turn none =
+      let parts = none-sends replied (find (sends goes) own.entries) refl (sym (over own.entries) ∙ none) in
+      first-is ∙ ap (λ w. by_sides w (next_out own goes)) parts.0 ∙ ap (λ o. by_sides None (option_and_then (next_of goes) o)) (turn_none own (sends goes) parts.1)
+
+  pub none-at-all : find (can_go_out h moment) (places_in_turn h) ≡ None → find (can_go_out h moment) (places h) ≡ None
+  none-at-all none = by_reply replied refl
+    where
+      by_entry : replied ≡ None → (o : Option Entry) → find (in_turn own (sends goes)) own.entries ≡ o → find (can_go_out h moment) (places h) ≡ None
+      by_entry unreplied None found = over own.entries ∙ ap (λ w. by_sides w (option_and_then (next_of goes) (find (sends goes) own.entries))) unreplied ∙ ap (λ o. by_sides None (option_and_then (next_of goes) o)) (none_turn own (sends goes) found)
+      by_entry unreplied (Some e) found =
+          let due = found_due own goes e found in
+          let bad : Some (EntryOf e due.0.0 due.0.1) ≡ None = sym (ap (λ w. by_sides w (next_out own goes)) unreplied ∙ ap (λ (n : Option Next). by_sides None n) (next-found own goes e due.0 found due.1)) ∙ sym first-is ∙ none in cc
+
+      by_reply : (w : Option Waiting) → replied ≡ w → find (can_go_out h moment) (places h) ≡ None
+      by_reply None unreplied = by_entry unreplied (find (in_turn own (sends goes)) own.entries) refl
+      by_reply (Some w) first = let bad : Some (ReplyOf w) ≡ None = sym (ap (λ (x : Option Waiting). by_sides x (next_out own goes)) first) ∙ sym first-is ∙ none in cc
 
 -- what goes out for it
 data IsFirst (h : HostView) (moment : Moment) (first : Option Place) : Type 0 where
@@ -116,13 +156,13 @@ data IsFirst (h : HostView) (moment : Moment) (first : Option Place) : Type 0 wh
   ForEntry : (next : Next) → first ≡ Some (as_place next) → next_out h.sockets (goes_out_from h moment) ≡ Some next → emission h moment ≡ emission_to h moment (Some next.peer) → IsFirst h moment first
   ForNone : first ≡ None → emission h moment ≡ Nothing → IsFirst h moment first
 
-is-first : (h : HostView) (moment : Moment) → IsFirst h moment (find (can_go_out h moment) (places h))
+is-first : (h : HostView) (moment : Moment) → IsFirst h moment (find (can_go_out h moment) (places_in_turn h))
 is-first h moment = by_reply (position (is_reply_due h.interface moment) h.interface.replies) refl
   where
     out : Option Next → Emission
     out o = emission_to h moment (option_map (λ next. next.peer) o)
 
-    by_entry : position (is_reply_due h.interface moment) h.interface.replies ≡ None → (o : Option Next) → next_out h.sockets (goes_out_from h moment) ≡ o → IsFirst h moment (find (can_go_out h moment) (places h))
+    by_entry : position (is_reply_due h.interface moment) h.interface.replies ≡ None → (o : Option Next) → next_out h.sockets (goes_out_from h moment) ≡ o → IsFirst h moment (find (can_go_out h moment) (places_in_turn h))
     by_entry unplaced None found =
         ForNone
         (first-is h moment ∙ ap (λ w. by_sides w (next_out h.sockets (goes_out_from h moment))) (find-position_none (is_reply_due h.interface moment) h.interface.replies unplaced) ∙ ap (λ e. by_sides None e) found)
@@ -132,7 +172,7 @@ is-first h moment = by_reply (position (is_reply_due h.interface moment) h.inter
         (first-is h moment ∙ ap (λ w. by_sides w (next_out h.sockets (goes_out_from h moment))) (find-position_none (is_reply_due h.interface moment) h.interface.replies unplaced) ∙ ap (λ e. by_sides None e) found)
         found (ap (emission_at h moment) unplaced ∙ ap (λ (o : Option Next). emission_to h moment (option_map (λ next. next.peer) o)) found)
 
-    by_reply : (o : Option ℕ) → position (is_reply_due h.interface moment) h.interface.replies ≡ o → IsFirst h moment (find (can_go_out h moment) (places h))
+    by_reply : (o : Option ℕ) → position (is_reply_due h.interface moment) h.interface.replies ≡ o → IsFirst h moment (find (can_go_out h moment) (places_in_turn h))
     by_reply None unplaced = by_entry unplaced (next_out h.sockets (goes_out_from h moment)) refl
     by_reply (Some place) at =
         let x = found_by_place (is_reply_due h.interface moment) h.interface.replies place at in
@@ -140,7 +180,7 @@ is-first h moment = by_reply (position (is_reply_due h.interface moment) h.inter
         (first-is h moment ∙ ap (λ w. by_sides w (next_out h.sockets (goes_out_from h moment))) x.1)
         (sym (at-place (is_reply_due h.interface moment) h.interface.replies place at) ∙ x.1) (ap (emission_at h moment) at)
 
-pub for-reply : (h : HostView) (moment : Moment) (w : Waiting) → find (can_go_out h moment) (places h) ≡ Some (ReplyOf w)
+pub for-reply : (h : HostView) (moment : Moment) (w : Waiting) → find (can_go_out h moment) (places_in_turn h) ≡ Some (ReplyOf w)
     → (place : ℕ) × (slice_get h.interface.replies place ≡ Some w) × (emission h moment ≡ Replies place)
 for-reply h moment w first = elim (is-first h moment) [
   | ForReply v place is at goes ↦ let same : v ≡ w = let e = sym is ∙ first in cc in (place, at ∙ ap Some same, goes)
@@ -149,19 +189,19 @@ for-reply h moment w first = elim (is-first h moment) [
 ]
 
 -- what goes out next is of the first entry that sends, and the first that it has due
-next-is : (sockets : SocketsView) (goes : Addr → Bool) (next : Next) → next_out sockets goes ≡ Some next → (find (sends goes) sockets.entries ≡ Some next.entry) × (due_to goes next.entry.role ≡ Some (next.peer, next.what))
-next-is sockets goes next is = by_entry (find (sends goes) sockets.entries) refl
+next-is : (sockets : SocketsView) (goes : Addr → Bool) (next : Next) → next_out sockets goes ≡ Some next → (find (in_turn sockets (sends goes)) sockets.entries ≡ Some next.entry) × (due_to goes next.entry.role ≡ Some (next.peer, next.what))
+next-is sockets goes next is = by_entry (find (in_turn sockets (sends goes)) sockets.entries) refl
   where
-    by_entry : (o : Option Entry) → find (sends goes) sockets.entries ≡ o → (find (sends goes) sockets.entries ≡ Some next.entry) × (due_to goes next.entry.role ≡ Some (next.peer, next.what))
+    by_entry : (o : Option Entry) → find (in_turn sockets (sends goes)) sockets.entries ≡ o → (find (in_turn sockets (sends goes)) sockets.entries ≡ Some next.entry) × (due_to goes next.entry.role ≡ Some (next.peer, next.what))
     by_entry None found = let none = sym (next-none sockets goes found) ∙ is in cc
     by_entry (Some e) found =
         let due = found_due sockets goes e found in
         let made : Next = record { entry = e; peer = due.0.0; what = due.0.1 } in
         let same : made ≡ next = let both = sym (next-found sockets goes e due.0 found due.1) ∙ is in cc in
-        subst (λ (n : Next). (find (sends goes) sockets.entries ≡ Some n.entry) × (due_to goes n.entry.role ≡ Some (n.peer, n.what))) same (found, due.1)
+        subst (λ (n : Next). (find (in_turn sockets (sends goes)) sockets.entries ≡ Some n.entry) × (due_to goes n.entry.role ≡ Some (n.peer, n.what))) same (found, due.1)
 
-pub for-entry : (h : HostView) (moment : Moment) (e : Entry) (peer : Endpoint) (what : Outgoing) → find (can_go_out h moment) (places h) ≡ Some (EntryOf e peer what)
-    → (find (sends (goes_out_from h moment)) h.sockets.entries ≡ Some e) × (due_to (goes_out_from h moment) e.role ≡ Some (peer, what)) × (emission h moment ≡ emission_to h moment (Some peer))
+pub for-entry : (h : HostView) (moment : Moment) (e : Entry) (peer : Endpoint) (what : Outgoing) → find (can_go_out h moment) (places_in_turn h) ≡ Some (EntryOf e peer what)
+    → (find (in_turn h.sockets (sends (goes_out_from h moment))) h.sockets.entries ≡ Some e) × (due_to (goes_out_from h moment) e.role ≡ Some (peer, what)) × (emission h moment ≡ emission_to h moment (Some peer))
 for-entry h moment e peer what first = elim (is-first h moment) [
   | ForReply v place is at goes ↦ let no = sym is ∙ first in cc
   | ForEntry next is found goes ↦
@@ -178,7 +218,7 @@ for-entry h moment e peer what first = elim (is-first h moment) [
 ]
 
 pub for-none : (h : HostView) (moment : Moment) → find (can_go_out h moment) (places h) ≡ None → emission h moment ≡ Nothing
-for-none h moment first = elim (is-first h moment) [
+for-none h moment none = let first = none-in-turn h moment none in elim (is-first h moment) [
   | ForReply v place is at goes ↦ let no = sym is ∙ first in cc
   | ForEntry next is found goes ↦ let no = sym is ∙ first in cc
   | ForNone is goes ↦ goes
@@ -203,7 +243,7 @@ entry-long h moment next found none = by_way (way h.interface moment next.peer.a
     due : Endpoint × Outgoing
     due = (next.peer, next.what)
 
-    its : (find (sends goes) h.sockets.entries ≡ Some next.entry) × (due_to goes next.entry.role ≡ Some due)
+    its : (find (in_turn h.sockets (sends goes)) h.sockets.entries ≡ Some next.entry) × (due_to goes next.entry.role ≡ Some due)
     its = next-is h.sockets goes next found
 
     passes : goes_out (way h.interface moment next.peer.addr) ≡ true
@@ -217,11 +257,11 @@ entry-long h moment next found none = by_way (way h.interface moment next.peer.a
     by_way Waits passes none = cc
 
 pub only-none : (h : HostView) (now : Moment) → emission_len h now ≡ None → find (can_go_out h (later_moment h.sockets now)) (places h) ≡ None
-only-none h now none = elim (is-first h moment) [
+only-none h now none = none-at-all h (later_moment h.sockets now) (elim (is-first h moment) [
   | ForReply v place is at goes ↦ let no : len_of h moment (Replies place) ≡ None = ap (len_of h moment) (sym goes) ∙ none in cc
   | ForEntry next is found goes ↦ absurd (entry-long h moment next found (ap (len_of h moment) (sym goes) ∙ none))
   | ForNone is goes ↦ is
-]
+])
   where
     moment : Moment
     moment = later_moment h.sockets now
@@ -241,20 +281,20 @@ before-fails goes (x ∷ rest) place before o first earlier at = by_test (λ p b
     by_test further true passes is = let none : 0 ≡ place = cc in absurd (omega (arith, none, earlier))
     by_test further false fails is = by_rest further (first_that goes rest) refl is fails before earlier at
 
-first-datagram : (h : HostView) (moment : Moment) (e : Entry) (peer : Endpoint) (place : ℕ) (bound : Option Endpoint) (socket : SocketView) → find (can_go_out h moment) (places h) ≡ Some (EntryOf e peer (Datagram place)) → e.role ≡ Datagrams bound socket
+first-datagram : (h : HostView) (moment : Moment) (e : Entry) (peer : Endpoint) (place : ℕ) (bound : Option Endpoint) (socket : SocketView) → find (can_go_out h moment) (places_in_turn h) ≡ Some (EntryOf e peer (Datagram place)) → e.role ≡ Datagrams bound socket
     → IsFirstDatagram (goes_out_from h moment) socket.outbox 0 (peer, Datagram place)
 first-datagram h moment e peer place bound socket first is =
     let its = for-entry h moment e peer (Datagram place) first in
     first_datagram (goes_out_from h moment) bound socket (peer, Datagram place) (ap (due_to (goes_out_from h moment)) (sym is) ∙ its.1)
 
-pub datagram-first : (h : HostView) (moment : Moment) (e : Entry) (peer : Endpoint) (place : ℕ) (bound : Option Endpoint) (socket : SocketView) → find (can_go_out h moment) (places h) ≡ Some (EntryOf e peer (Datagram place)) → e.role ≡ Datagrams bound socket
+pub datagram-first : (h : HostView) (moment : Moment) (e : Entry) (peer : Endpoint) (place : ℕ) (bound : Option Endpoint) (socket : SocketView) → find (can_go_out h moment) (places_in_turn h) ≡ Some (EntryOf e peer (Datagram place)) → e.role ≡ Datagrams bound socket
     → first_that (goes_out_from h moment) socket.outbox ≡ Some place
 datagram-first h moment e peer place bound socket first is =
     let it = first-datagram h moment e peer place bound socket first is in
     let same : place ≡ 0 + it.place = let what = it.what in cc in
     it.first ∙ ap Some (omega (arith, same))
 
-pub datagrams-ordered : (h : HostView) (moment : Moment) (e : Entry) (peer : Endpoint) (place before : ℕ) (bound : Option Endpoint) (socket : SocketView) (o : OutDatagram) → find (can_go_out h moment) (places h) ≡ Some (EntryOf e peer (Datagram place)) → e.role ≡ Datagrams bound socket
+pub datagrams-ordered : (h : HostView) (moment : Moment) (e : Entry) (peer : Endpoint) (place before : ℕ) (bound : Option Endpoint) (socket : SocketView) (o : OutDatagram) → find (can_go_out h moment) (places_in_turn h) ≡ Some (EntryOf e peer (Datagram place)) → e.role ≡ Datagrams bound socket
     → before < place → slice_get socket.outbox before ≡ Some o → o.peer.addr ≢ peer.addr
 datagrams-ordered h moment e peer place before bound socket o first is earlier at same =
     let it = first-datagram h moment e peer place bound socket first is in

@@ -1,5 +1,8 @@
 pub mod Emitting
 pub mod FirstDue
+pub mod Planned
+pub mod TurnOrder
+pub mod TurnsRound
 pub mod Answered
 pub mod DueSegments
 pub mod Hearing

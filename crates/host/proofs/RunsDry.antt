@@ -35,7 +35,7 @@ use Rattle.sockets.specs.declared.role.Role.{Role}
 use Rattle.sockets.specs.declared.role.Role.TheVariants.{Idle, Listener, Connected, Datagrams}
 use Rattle.sockets.specs.declared.emission.Outgoing.{Outgoing as What}
 use Rattle.sockets.specs.Entries.{due_to, place_of, sends, is_kept, with_role, role_after_emission, emission_fate_of, entries_after_step}
-use Rattle.sockets.specs.Emission.{Next, after_segment_sent}
+use Rattle.sockets.specs.Emission.{Next, after_segment_sent, in_turn}
 use Rattle.sockets.specs.Lists.{change_first, remove_first}
 use Rattle.sockets.specs.SocketsView.{SocketsView, later_moment}
 use Rattle.sockets.specs.Sound.{IsSoundRole}
@@ -288,17 +288,17 @@ left-less h moment len sound goes = by_reply (position (is_reply_due h.interface
     goes-to : Addr → Bool
     goes-to = goes_out_from h moment
 
-    sent : (e : Entry) (due : Endpoint × What) (mac : Mac) → find (sends goes-to) h.sockets.entries ≡ Some e → due_to goes-to e.role ≡ Some due → way h.interface moment due.0.addr ≡ To mac
+    sent : (e : Entry) (due : Endpoint × What) (mac : Mac) → find (in_turn h.sockets (sends goes-to)) h.sockets.entries ≡ Some e → due_to goes-to e.role ≡ Some due → way h.interface moment due.0.addr ≡ To mac
         → Less (Sends mac due.0.addr)
     sent e due mac found is goes =
         let then : Moment = later_moment h.sockets moment in
         let known : Addr → Bool = knows_hop h.interface moment in
-        let solid : IsSoundRole e.role = all-found (λ (x : Entry). IsSoundRole x.role) (sends goes-to) h.sockets.entries e sound.table.entries found in
+        let solid : IsSoundRole e.role = all-found (λ (x : Entry). IsSoundRole x.role) (in_turn h.sockets (sends goes-to)) h.sockets.entries e sound.table.entries found in
         let own : most_of known (role_after_emission then due.1 e.role) < most_of known e.role =
         role-less known goes-to (known-goes h.interface moment) then e.role due solid is (known-to h.interface moment due.0.addr mac goes) in
-        let stepped : List Entry = entries_after_step (emission_fate_of (role_after_emission then due.1 e.role)) (sends goes-to) (role_after_emission then due.1) h.sockets.entries in
+        let stepped : List Entry = entries_after_step (emission_fate_of (role_after_emission then due.1 e.role)) (in_turn h.sockets (sends goes-to)) (role_after_emission then due.1) h.sockets.entries in
         let entries : sum_by (λ (x : Entry). most_of known x.role) stepped < sum_by (λ (x : Entry). most_of known x.role) h.sockets.entries =
-        step-less (most_of known) (sends goes-to) (emission_fate_of (role_after_emission then due.1 e.role)) (role_after_emission then due.1) h.sockets.entries e found own in
+        step-less (most_of known) (in_turn h.sockets (sends goes-to)) (emission_fate_of (role_after_emission then due.1 e.role)) (role_after_emission then due.1) h.sockets.entries e found own in
         let left : (let t = after_segment_sent h.sockets goes-to moment in t.entries) ≡ stepped = ap (λ (t : SocketsView). t.entries) (segment_sent-found h.sockets goes-to moment e due found is) in
         let all : sum_by (λ (x : Entry). most_of known x.role) (let t = after_segment_sent h.sockets goes-to moment in t.entries)
         < sum_by (λ (x : Entry). most_of known x.role) h.sockets.entries =
@@ -308,13 +308,13 @@ left-less h moment len sound goes = by_reply (position (is_reply_due h.interface
     by_what : (what : Emission) → emission h moment ≡ what → (len_of h moment what ≡ Some len → Less what) → Less (emission h moment)
     by_what what is less = subst Less (sym is) (less (ap (len_of h moment) (sym is) ∙ goes))
 
-    by_way : (e : Entry) (due : Endpoint × What) (w : Way) → find (sends goes-to) h.sockets.entries ≡ Some e → due_to goes-to e.role ≡ Some due → way h.interface moment due.0.addr ≡ w
+    by_way : (e : Entry) (due : Endpoint × What) (w : Way) → find (in_turn h.sockets (sends goes-to)) h.sockets.entries ≡ Some e → due_to goes-to e.role ≡ Some due → way h.interface moment due.0.addr ≡ w
         → emission h moment ≡ emission_by due.0.addr w → Less (emission h moment)
     by_way e due (To mac) found is goes so = by_what (Sends mac due.0.addr) so (λ len. sent e due mac found is goes)
     by_way e due (Ask hop) found is goes so = by_what (Asks hop) so (λ len. request due.0.addr hop goes)
     by_way e due Waits found is goes so = by_what Nothing so (λ len. absurd cc)
 
-    by_entry : (o : Option Entry) → find (sends goes-to) h.sockets.entries ≡ o → emission h moment ≡ table_emission h moment → Less (emission h moment)
+    by_entry : (o : Option Entry) → find (in_turn h.sockets (sends goes-to)) h.sockets.entries ≡ o → emission h moment ≡ table_emission h moment → Less (emission h moment)
     by_entry None found so =
         by_what Nothing (so ∙ ap (λ (n : Option Next). emission_to h moment (option_map (λ (x : Next). x.peer) n)) (next-none h.sockets goes-to found)) (λ len. absurd cc)
     by_entry (Some e) found so =
@@ -324,14 +324,14 @@ left-less h moment len sound goes = by_reply (position (is_reply_due h.interface
 
     by_reply : (o : Option ℕ) → position (is_reply_due h.interface moment) h.interface.replies ≡ o → Less (emission h moment)
     by_reply (Some place) at = by_what (Replies place) (ap (emission_at h moment) at) (λ len. reply place at)
-    by_reply None at = by_entry (find (sends goes-to) h.sockets.entries) refl (ap (emission_at h moment) at)
+    by_reply None at = by_entry (find (in_turn h.sockets (sends goes-to)) h.sockets.entries) refl (ap (emission_at h moment) at)
 
 -- the kept moment stays
 
 kept-sent : (s : SocketsView) (goes : Addr → Bool) (now : Moment) → (let t = after_segment_sent s goes now in t.kept) ≡ s.kept
-kept-sent s goes now = by_entry (find (sends goes) s.entries) refl
+kept-sent s goes now = by_entry (find (in_turn s (sends goes)) s.entries) refl
   where
-    by_entry : (o : Option Entry) → find (sends goes) s.entries ≡ o → (let t = after_segment_sent s goes now in t.kept) ≡ s.kept
+    by_entry : (o : Option Entry) → find (in_turn s (sends goes)) s.entries ≡ o → (let t = after_segment_sent s goes now in t.kept) ≡ s.kept
     by_entry None found = ap (λ (t : SocketsView). t.kept) (segment_sent-none s goes now found)
     by_entry (Some e) found = let due = found_due s goes e found in ap (λ (t : SocketsView). t.kept) (segment_sent-found s goes now e due.0 found due.1)
 

@@ -44,14 +44,16 @@ use Rattle.sockets.specs.Leaving.{EachLeavesAWindow}
 use Rattle.sockets.specs.Leaving as leaving
 use Rattle.sockets.specs.SocketsView.{SocketsView, later_moment, role_of}
 use Rattle.sockets.specs.Ticks.{least_deadline}
+use Rattle.sockets.specs.Turns.{emission_of}
 use Rattle.sockets.proofs.Leaving.{each_leaves, fresh_leaves}
 use Rattle.sockets.proofs.Led.{led_nowhere, led_by, led_on, further, reached_by, reached_ordered, reached_over}
 use Rattle.sockets.proofs.Near.{each_near, fresh_near, deadline_near, deadline_in_a_day}
 use Rattle.sockets.proofs.Numbered.{address_stays, manner_stays, never_back, sizes_stay}
 use Rattle.sockets.proofs.SoundTicks.{tick_sound}
-use Rattle.sockets.proofs.Steps.{later_up_to}
+use Rattle.sockets.proofs.Steps.{later_up_to, stepped}
 use Rattle.sockets.proofs.Telling.{tells_on, socket_told, role_tells}
 use Rattle.sockets.proofs.Timed.{each_timed, fresh_timed}
+use Rattle.sockets.proofs.TurnsRound.{turn_kept}
 use Rattle.host.specs.Arrival.{arrival_by_route, segment_arrival, MeetsSegment, MeetsMessage, MeetsFragment, MeetsHeard, after_user_datagram, after_payload, after_outcome, fragment_outcome, is_late_copy, pool_for, with_noted}
 use Rattle.host.specs.Heard.{heard_by}
 use Rattle.host.proofs.Guarded.{meant_by}
@@ -73,19 +75,19 @@ abbrev IsBy : Moment → Moment → Type 0
 IsBy moment latest = moment.0 ≤ latest.0
 
 -- What an event of a host makes of its table: nothing, what one event of the table makes of it, or what a tick does. None of them names a moment behind those
--- that bound the event's own, and its sizes are such as leave windows where the event's own are.
-data IsStep (h : SocketsView) (Bounds : Moment → Type 0) (Sized : Type 0) : SocketsView → Type 0 where
-  stays : IsStep h Bounds Sized h
-  steps : (e : table.Event) → IsAllowed h e → timing.IsNumbered e → ((latest : Moment) → Bounds latest → timing.IsUpTo latest e) → (Sized → leaving.IsSized e) → IsStep h Bounds Sized (after_event h e)
-  ticks : (lost : Addr → Bool) (moment : Moment) → ((latest : Moment) → Bounds latest → moment.0 ≤ latest.0) → IsStep h Bounds Sized (after_giving_up (after_event h (table.Ticks moment)) lost moment)
+-- that bound the event's own, its sizes are such as leave windows where the event's own are, and it is no emission where the event's own is none.
+data IsStep (h : SocketsView) (Bounds : Moment → Type 0) (Sized Quiet : Type 0) : SocketsView → Type 0 where
+  stays : IsStep h Bounds Sized Quiet h
+  steps : (e : table.Event) → IsAllowed h e → timing.IsNumbered e → ((latest : Moment) → Bounds latest → timing.IsUpTo latest e) → (Sized → leaving.IsSized e) → (Quiet → emission_of e ≡ None) → IsStep h Bounds Sized Quiet (after_event h e)
+  ticks : (lost : Addr → Bool) (moment : Moment) → ((latest : Moment) → Bounds latest → moment.0 ≤ latest.0) → IsStep h Bounds Sized Quiet (after_giving_up (after_event h (table.Ticks moment)) lost moment)
 
--- that of a host's own events, whose sizes are
+-- that of a host's own events, whose sizes are, and which are no emissions
 abbrev IsOwnStep : SocketsView → Moment → SocketsView → Type 0
-IsOwnStep h moment new = IsStep h (IsBy moment) (Unit {0}) new
+IsOwnStep h moment new = IsStep h (IsBy moment) (Unit {0}) (Unit {0}) new
 
 -- that of a host that is this one
-step-to : {Bounds : Moment → Type 0} {Sized : Type 0} (h left new : HostView) → new ≡ left → IsStep h.sockets Bounds Sized left.sockets → IsStep h.sockets Bounds Sized new.sockets
-step-to {Bounds = Bounds} {Sized = Sized} h left new is step = subst (λ (w : HostView). IsStep h.sockets Bounds Sized w.sockets) (sym is) step
+step-to : {Bounds : Moment → Type 0} {Sized Quiet : Type 0} (h left new : HostView) → new ≡ left → IsStep h.sockets Bounds Sized Quiet left.sockets → IsStep h.sockets Bounds Sized Quiet new.sockets
+step-to {Bounds = Bounds} {Sized = Sized} {Quiet = Quiet} h left new is step = subst (λ (w : HostView). IsStep h.sockets Bounds Sized Quiet w.sockets) (sym is) step
 
 -- A segment from another address.
 
@@ -94,7 +96,7 @@ segment-leads : (h : HostView) (moment : Moment) (isn : ℕ) (source : Addr) (s 
 segment-leads h moment isn source s answer new small few apart met = by_arrival (arrival h.sockets moment isn source s) refl met
   where
     heard : (next : SocketsView) → after_arrival h.sockets (arrival h.sockets moment isn source s) ≡ next → IsOwnStep h.sockets moment next
-    heard next is = subst (IsOwnStep h.sockets moment) is (steps (table.Hears moment isn source s) apart small (λ latest by. by) (λ own. few))
+    heard next is = subst (IsOwnStep h.sockets moment) is (steps (table.Hears moment isn source s) apart small (λ latest by. by) (λ own. few) (λ own. refl))
 
     opened : (next : SocketsView) → arrival h.sockets moment isn source s ≡ Opens next → (r : Result (Unit {0}) DropCause)
         → MeetsSegment (Opens next) h moment source r new → IsOwnStep h.sockets moment new.sockets
@@ -114,7 +116,7 @@ segment-leads h moment isn source s answer new small few apart met = by_arrival 
 -- A UDP datagram, whole or put together.
 
 user-leads : (h : HostView) (to : Reception) (moment : Moment) (source : Addr) (d : UserDatagram) (quote : List ℕ) → IsOwnStep h.sockets moment (let left = after_user_datagram to h moment source d quote in left.sockets)
-user-leads h socket.Queued moment source d quote = steps (table.HearsDatagram source d) tt tt (λ latest by. tt) (λ own. tt)
+user-leads h socket.Queued moment source d quote = steps (table.HearsDatagram source d) tt tt (λ latest by. tt) (λ own. tt) (λ own. refl)
 user-leads h socket.NoRoom moment source d quote = stays
 user-leads h socket.NoSocket moment source d quote = stays
 
@@ -136,7 +138,7 @@ fragment-leads h (Some outcome) false moment d answer new met = step-to h _ new 
 
 message-leads : (h : HostView) (told : Told) (moment : Moment) (c : Control) (answer : Result (Unit {0}) DropCause) (new : HostView) → MeetsMessage told h moment c answer new → IsOwnStep h.sockets moment new.sockets
 message-leads h AsksForEcho moment c answer new met = step-to h _ new met.1 stays
-message-leads h (Refuses quote) moment c answer new met = step-to h _ new met.1 (steps (table.Unreachable quote.source quote.destination quote.number) tt tt (λ latest by. tt) (λ own. tt))
+message-leads h (Refuses quote) moment c answer new met = step-to h _ new met.1 (steps (table.Unreachable quote.source quote.destination quote.number) tt tt (λ latest by. tt) (λ own. tt) (λ own. refl))
 message-leads h TellsNothing moment c answer new met = step-to h h new met.1 stays
 
 -- A frame.
@@ -156,9 +158,9 @@ heard-leads h moment isn octets answer new small own (Err cause) is met = step-t
 
 -- Any event.
 
-emission-leads : (h : HostView) (moment : Moment) (x : Emission) → IsOwnStep h.sockets moment (let left = left_by h moment x in left.sockets)
+emission-leads : (h : HostView) (moment : Moment) (x : Emission) → IsStep h.sockets (IsBy moment) (Unit {0}) ⊥ (let left = left_by h moment x in left.sockets)
 emission-leads h moment (Replies place) = stays
-emission-leads h moment (Sends mac to) = steps (table.Emits (goes_out_from h moment) moment) tt tt (λ latest by. by) (λ own. tt)
+emission-leads h moment (Sends mac to) = steps (table.Emits (goes_out_from h moment) moment) tt tt (λ latest by. by) (λ own. tt) (λ none. absurd none)
 emission-leads h moment (Asks hop) = stays
 emission-leads h moment Nothing = stays
 
@@ -169,8 +171,15 @@ Bounds h (Ticks now) = IsBy (later_moment h.sockets now)
 Bounds h (Delivers now isn octets) = IsBy (later_moment h.sockets now)
 Bounds h (Emits now) = IsBy (later_moment h.sockets now)
 
-event-leads : (event : Event) (old new : HostView) → IsSoundHost old → IsNumbered event → Makes event old new → IsStep old.sockets (Bounds old event) (IsSized event) new.sockets
-event-leads (Calls call) old new sound small makes = step-to old _ new makes.1 (steps call makes.0 small (λ latest up. up) (λ sized. sized))
+-- it is no emission
+abbrev pub IsQuiet : Event → Type 0
+IsQuiet (Calls call) = emission_of call ≡ None
+IsQuiet (Ticks now) = Unit {0}
+IsQuiet (Delivers now isn octets) = Unit {0}
+IsQuiet (Emits now) = ⊥
+
+event-leads : (event : Event) (old new : HostView) → IsSoundHost old → IsNumbered event → Makes event old new → IsStep old.sockets (Bounds old event) (IsSized event) (IsQuiet event) new.sockets
+event-leads (Calls call) old new sound small makes = step-to old _ new makes.1 (steps call makes.0 small (λ latest up. up) (λ sized. sized) (λ quiet. quiet))
 event-leads (Ticks now) old new sound small makes = let moment : Moment = later_moment old.sockets now in step-to old _ new makes (ticks (lacks_hop old moment) moment (λ latest by. by))
 event-leads (Delivers now isn octets) old new sound small makes = heard-leads old (later_moment old.sockets now) isn octets makes.0 new small sound.own (heard_by old octets) refl makes.1
 event-leads (Emits now) old new sound small makes = let moment : Moment = later_moment old.sockets now in step-to old _ new makes (emission-leads old moment (emission old moment))
@@ -178,64 +187,75 @@ event-leads (Emits now) old new sound small makes = let moment : Moment = later_
 -- What a table keeps over an event of its host ..
 
 -- the address that it is over
-addr-on : {Bounds : Moment → Type 0} {Sized : Type 0} (h new : SocketsView) → IsStep h Bounds Sized new → new.addr ≡ h.addr
+addr-on : {Bounds : Moment → Type 0} {Sized Quiet : Type 0} (h new : SocketsView) → IsStep h Bounds Sized Quiet new → new.addr ≡ h.addr
 addr-on h _ stays = refl
-addr-on h _ (steps e allowed small within sized) = address_stays h e
+addr-on h _ (steps e allowed small within sized quiet) = address_stays h e
 addr-on h _ (ticks lost moment within) = address_stays h (table.Ticks moment)
 
 -- whether windows may be scaled
-manner-on : {Bounds : Moment → Type 0} {Sized : Type 0} (h new : SocketsView) → IsStep h Bounds Sized new → new.manner ≡ h.manner
+manner-on : {Bounds : Moment → Type 0} {Sized Quiet : Type 0} (h new : SocketsView) → IsStep h Bounds Sized Quiet new → new.manner ≡ h.manner
 manner-on h _ stays = refl
-manner-on h _ (steps e allowed small within sized) = manner_stays h e
+manner-on h _ (steps e allowed small within sized quiet) = manner_stays h e
 manner-on h _ (ticks lost moment within) = manner_stays h (table.Ticks moment)
 
 -- .. and how large it is
-sizes-on : {Bounds : Moment → Type 0} {Sized : Type 0} (h new : SocketsView) → IsStep h Bounds Sized new → new.sizes ≡ h.sizes
+sizes-on : {Bounds : Moment → Type 0} {Sized Quiet : Type 0} (h new : SocketsView) → IsStep h Bounds Sized Quiet new → new.sizes ≡ h.sizes
 sizes-on h _ stays = refl
-sizes-on h _ (steps e allowed small within sized) = sizes_stay h e
+sizes-on h _ (steps e allowed small within sized quiet) = sizes_stay h e
 sizes-on h _ (ticks lost moment within) = sizes_stay h (table.Ticks moment)
 
-reached-on : {Bounds : Moment → Type 0} {Sized : Type 0} (h new : SocketsView) → IsStep h Bounds Sized new → IsReached h → IsReached new
+reached-on : {Bounds : Moment → Type 0} {Sized Quiet : Type 0} (h new : SocketsView) → IsStep h Bounds Sized Quiet new → IsReached h → IsReached new
 reached-on h _ stays reached = reached
-reached-on h _ (steps e allowed small within sized) reached = further h (after_event h e) (led_by h e allowed) reached
+reached-on h _ (steps e allowed small within sized quiet) reached = further h (after_event h e) (led_by h e allowed) reached
 reached-on h _ (ticks lost moment within) reached =
     let ticked : SocketsView = after_event h (table.Ticks moment) in
     further h _ (led_on h ticked _ (led_by h (table.Ticks moment) tt) (led_by ticked (table.GivesUp lost moment) tt)) reached
 
-timed-on : {Bounds : Moment → Type 0} {Sized : Type 0} (h new : SocketsView) → IsSoundTable h → IsStep h Bounds Sized new → EachKeepsTime h → EachKeepsTime new
+timed-on : {Bounds : Moment → Type 0} {Sized Quiet : Type 0} (h new : SocketsView) → IsSoundTable h → IsStep h Bounds Sized Quiet new → EachKeepsTime h → EachKeepsTime new
 timed-on h _ sound stays keeps = keeps
-timed-on h _ sound (steps e allowed small within sized) keeps = each_timed h e sound small keeps
+timed-on h _ sound (steps e allowed small within sized quiet) keeps = each_timed h e sound small keeps
 timed-on h _ sound (ticks lost moment within) keeps = each_timed (after_event h (table.Ticks moment)) (table.GivesUp lost moment) (tick_sound h moment sound) tt (each_timed h (table.Ticks moment) sound tt keeps)
 
-leaves-on : {Bounds : Moment → Type 0} {Sized : Type 0} (h new : SocketsView) → IsSoundTable h → 3 * MSS ≤ h.sizes.buffer → Sized → IsStep h Bounds Sized new → EachLeavesAWindow h → EachLeavesAWindow new
+leaves-on : {Bounds : Moment → Type 0} {Sized Quiet : Type 0} (h new : SocketsView) → IsSoundTable h → 3 * MSS ≤ h.sizes.buffer → Sized → IsStep h Bounds Sized Quiet new → EachLeavesAWindow h → EachLeavesAWindow new
 leaves-on h _ sound wide own stays leaves = leaves
-leaves-on h _ sound wide own (steps e allowed small within sized) leaves = each_leaves h e sound wide small (sized own) leaves
+leaves-on h _ sound wide own (steps e allowed small within sized quiet) leaves = each_leaves h e sound wide small (sized own) leaves
 leaves-on h _ sound wide own (ticks lost moment within) leaves =
     each_leaves (after_event h (table.Ticks moment)) (table.GivesUp lost moment) (tick_sound h moment sound) wide tt tt (each_leaves h (table.Ticks moment) sound wide tt tt leaves)
 
-near-on : {Bounds : Moment → Type 0} {Sized : Type 0} (latest : Moment) (h new : SocketsView) → IsSoundTable h → Bounds latest → IsStep h Bounds Sized new → AreNear latest h → AreNear latest new
+near-on : {Bounds : Moment → Type 0} {Sized Quiet : Type 0} (latest : Moment) (h new : SocketsView) → IsSoundTable h → Bounds latest → IsStep h Bounds Sized Quiet new → AreNear latest h → AreNear latest new
 near-on latest h _ sound bound stays near = near
-near-on latest h _ sound bound (steps e allowed small within sized) near = each_near h e latest sound (within latest bound) near
+near-on latest h _ sound bound (steps e allowed small within sized quiet) near = each_near h e latest sound (within latest bound) near
 near-on latest h _ sound bound (ticks lost moment within) near = each_near (after_event h (table.Ticks moment)) (table.GivesUp lost moment) latest (tick_sound h moment sound) (within latest bound) (each_near h (table.Ticks moment) latest sound (within latest bound) near)
 
 -- an error that each entry of an id tells
-tells-on : {Bounds : Moment → Type 0} {Sized : Type 0} (id : SocketId) (error : Error) (h new : SocketsView) → IsSoundTable h → EachKeepsTime h → IsStep h Bounds Sized new → id.0 ≤ h.last_id → TellsStill id error h → TellsStill id error new
+tells-on : {Bounds : Moment → Type 0} {Sized Quiet : Type 0} (id : SocketId) (error : Error) (h new : SocketsView) → IsSoundTable h → EachKeepsTime h → IsStep h Bounds Sized Quiet new → id.0 ≤ h.last_id → TellsStill id error h → TellsStill id error new
 tells-on id error h _ sound keeps stays given told = told
-tells-on id error h _ sound keeps (steps e allowed small within sized) given told = tells_on h e id error sound keeps given told
+tells-on id error h _ sound keeps (steps e allowed small within sized quiet) given told = tells_on h e id error sound keeps given told
 tells-on id error h _ sound keeps (ticks lost moment within) given told =
     let ticked : SocketsView = after_event h (table.Ticks moment) in
     let back : h.last_id ≤ ticked.last_id = never_back h (table.Ticks moment) in
     tells_on ticked (table.GivesUp lost moment) id error (tick_sound h moment sound) (each_timed h (table.Ticks moment) sound tt keeps) (omega (arith, given, back)) (tells_on h (table.Ticks moment) id error sound keeps given told)
 
 -- the id given last, which never goes back
-given-on : {Bounds : Moment → Type 0} {Sized : Type 0} (h new : SocketsView) → IsStep h Bounds Sized new → h.last_id ≤ new.last_id
+given-on : {Bounds : Moment → Type 0} {Sized Quiet : Type 0} (h new : SocketsView) → IsStep h Bounds Sized Quiet new → h.last_id ≤ new.last_id
 given-on h _ stays = omega arith
-given-on h _ (steps e allowed small within sized) = never_back h e
+given-on h _ (steps e allowed small within sized quiet) = never_back h e
 given-on h _ (ticks lost moment within) =
     let ticked : SocketsView = after_event h (table.Ticks moment) in
     let first : h.last_id ≤ ticked.last_id = never_back h (table.Ticks moment) in
     let second : (let left = after_giving_up ticked lost moment in ticked.last_id ≤ left.last_id) = never_back ticked (table.GivesUp lost moment) in
     omega (arith, first, second)
+
+-- who sent last, where it is no emission
+turn-on : {Bounds : Moment → Type 0} {Sized Quiet : Type 0} (h new : SocketsView) → IsStep h Bounds Sized Quiet new → Quiet → new.turn ≡ h.turn
+turn-on h _ stays own = refl
+turn-on h _ (steps e allowed small within sized quiet) own = turn_kept h e (after_event h e) (quiet own) (stepped h e)
+turn-on h _ (ticks lost moment within) own =
+    let ticked : SocketsView = after_event h (table.Ticks moment) in
+    turn_kept ticked (table.GivesUp lost moment) (after_giving_up ticked lost moment) refl (stepped ticked (table.GivesUp lost moment)) ∙ turn_kept h (table.Ticks moment) ticked refl (stepped h (table.Ticks moment))
+
+pub event-turns : (event : Event) (old new : HostView) → IsSoundHost old → IsNumbered event → Makes event old new → IsQuiet event → new.sockets.turn ≡ old.sockets.turn
+event-turns event old new sound small makes quiet = turn-on old.sockets new.sockets (event-leads event old new sound small makes) quiet
 
 pub event-reaches : (event : Event) (old new : HostView) → IsSoundHost old → IsNumbered event → Makes event old new → IsReached old.sockets → IsReached new.sockets
 event-reaches event old new sound small makes reached = reached-on old.sockets new.sockets (event-leads event old new sound small makes) reached

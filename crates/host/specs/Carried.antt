@@ -13,6 +13,7 @@ use Rattle.interface.specs.declared.way.Way.{Way}
 use Rattle.interface.specs.declared.way.Way.TheVariants.{To, Ask, Waits}
 use Rattle.interface.specs.Replies.{way_of}
 use Rattle.sockets.specs.declared.role.Role.{Role}
+use Rattle.sockets.specs.Emission.{in_turn}
 use Rattle.sockets.specs.Entries.{in_connection, sends}
 use Rattle.sockets.specs.SocketsView.{later_moment}
 use Rattle.host.specs.HostView.{HostView}
@@ -44,7 +45,7 @@ due_segment role = in_connection None (λ c. option_map (λ due. sent_segment (h
 abbrev pub carried_by : HostView → Moment → Emission → Option Carried
 carried_by h moment (Replies place) = carried_for h moment (slice_get h.interface.replies place)
 carried_by h moment (Sends mac to) =
-    option_map (λ segment. record { mac = mac; to = to; segment = segment }) (option_and_then (λ e. due_segment e.role) (find (sends (goes_out_from h moment)) h.sockets.entries))
+    option_map (λ segment. record { mac = mac; to = to; segment = segment }) (option_and_then (λ e. due_segment e.role) (find (in_turn h.sockets (sends (goes_out_from h moment))) h.sockets.entries))
 carried_by h moment (Asks hop) = None
 carried_by h moment Nothing = None
 

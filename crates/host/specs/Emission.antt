@@ -1,5 +1,5 @@
--- What goes out: for the first control reply for which a frame can, and where there is none for the first of what the entries have due, in order of
--- id, segments and datagrams, for which one can. Where the MAC of the next hop isn't known, the request for it goes out in that place (RFC 1122 section
+-- What goes out: for the first control reply for which a frame can, and where there is none for the first of what the entries have due, in the order of
+-- their turns, segments and datagrams, for which one can. Where the MAC of the next hop isn't known, the request for it goes out in that place (RFC 1122 section
 -- 2.3.2.2).
 use Rattle.std.specs.Prelude.{ℕ, ◌+◌, max, Bool, List, [], ◌++◌, drop, position, Option, Some, None, option_map}
 use Rattle.ether.specs.declared.mac.Mac.{Mac}

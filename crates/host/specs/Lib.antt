@@ -21,3 +21,4 @@ pub mod Duties
 pub mod Dry
 pub mod Limits
 pub mod Met
+pub mod Turns

@@ -14,7 +14,7 @@ use interface::Way;
 use ipv4::Addr;
 use sockets::{Emitted, Entry, NextDue, Outgoing};
 
-/// What goes out for the first of what the entries have due for which a frame can.
+/// What goes out for the first of what the entries have due, in the order of their turns, for which a frame can.
 #[derive(Clone, Copy)]
 pub(crate) enum Plan {
     /// This, of the entry in this place, to this MAC and for this address.
@@ -32,7 +32,7 @@ pub(crate) enum Plan {
 
 impl Layers {
     ghost use Rattle.host.specs.Emission.{emission_len, after_emission, emission_front, goes_out_from, len_of, octets_of, left_by, front_of, table_emission};
-    ghost use Rattle.host.specs.Plans.{planned, planned_or_nothing, plan_by, plan_to, IsFirst};
+    ghost use Rattle.host.specs.Plans.{planned, planned_or_nothing, plan_by, plan_to, plan_from, IsFirst};
 
     /// Writes the frame that goes out first, as `Host::next_frame`.
     pub(crate) fn next_frame(&mut self, now: Moment, out: &mut [u8; FRAME_MAX]) -> Option<usize>
@@ -48,15 +48,15 @@ impl Layers {
         }
     }
 
-    /// Writes the frame for the first of what the entries have due, in order of id, for which one can go out now. Mostly that is the first of all, since
-    /// the MAC of its hop is known.
+    /// Writes the frame for the first of what the entries have due, in the order of their turns, for which one can go out now. Mostly that is the first of
+    /// all, since the MAC of its hop is known.
     fn emit_from_table(&mut self, now: Moment, out: &mut [u8; FRAME_MAX]) -> Option<usize>
         ensures answer { result ≡ len_of self.old now (table_emission self.old now) }
         ensures bounds { IfSome result (λ len. (60 ≤ len) × (len ≤ FRAME_MAX)) }
         ensures after { self.new ≡ left_by self.old now (table_emission self.old now) }
         ensures frame { out.new ≡ front_of (octets_of self.old now (table_emission self.old now)) out.old result }
     {
-        let due = self.sockets.next_due(0)?;
+        let due = self.sockets.next_in_turn()?;
         match self.interface.way(now, due.peer.addr) {
             Way::To(mac) => Some(self.emit_entry(
                 due.place,
@@ -104,7 +104,7 @@ impl Layers {
         }
     }
 
-    /// Writes the frame of what the entry in this place has to send, the first for which a frame can go out now, for an address and to the
+    /// Writes the frame of what the entry in this place has to send, whose turn it is of those for which a frame can go out now, for an address and to the
     /// interface with this MAC, and answers its length, 60 to 1,514 octets.
     fn emit_entry(
         &mut self,
@@ -131,13 +131,22 @@ impl Layers {
         }
     }
 
-    /// What can go out for the table: for the first of what its entries have due, in order of id, for which a frame can.
+    /// What can go out for the table: for the first of what its entries have due, in the order of their turns, for which a frame can.
     fn plan(&self, now: Moment) -> Option<Plan>
         ensures what { table_emission self.now now ≡ planned_or_nothing result }
         ensures first { IfSome result (λ plan. IsFirst self.now now plan) }
     {
+        match self.plan_from(now, self.sockets.turn_place()) {
+            Some(plan) => Some(plan),
+            None => self.plan_from(now, 0),
+        }
+    }
+
+    /// What can go out for the first entry from the place `from` on for which a frame can.
+    fn plan_from(&self, now: Moment, mut from: usize) -> Option<Plan>
+        ensures { result ≡ plan_from self.now now from }
+    {
         let entries = self.sockets.entries();
-        let mut from = 0;
         while let Some(due) = self.sockets.next_due(from) {
             let plan = self.plan_for(now, due, &entries[due.place]);
             if plan.is_some() {

@@ -133,7 +133,7 @@ impl Host {
 
     /// Writes the frame that goes out first, at the later of `now` and the kept moment, from `out[0]` on, and answers its length,
     /// 60 to 1,514 octets: that of the first control reply for which one can, in the order in which they wait, else that of the first
-    /// segment or datagram that the entries have due, in order of id and of those of a UDP socket in order of `sendto`, for which one can, but that
+    /// segment or datagram that the entries have due, in order of id from behind the one that sent last, and of those of a UDP socket in order of `sendto`, for which one can, but that
     /// a datagram of which a part has gone out is before the others of its socket (RFC 894, RFC 9293 section 3.8, RFC 768). Where the MAC of the next hop
     /// isn't known, the ARP request for it goes out in that place, once a second an address, and what it is for waits as it is
     /// (RFC 1122 sections 2.3.2.1 and 2.3.2.2). None only where nothing can go out now, and then nothing has changed.

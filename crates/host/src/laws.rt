@@ -45,6 +45,7 @@ ghost use Rattle.sockets.specs.declared.role.Role.{Role};
 ghost use Rattle.sockets.specs.declared.role.Role.TheVariants.{Connected, Datagrams};
 ghost use Rattle.sockets.specs.Causes.{Follows, pending_error_in, TellsStill};
 ghost use Rattle.sockets.specs.Closing.{entry_of};
+ghost use Rattle.sockets.specs.Emission.{in_turn};
 ghost use Rattle.sockets.specs.Entries.{due_to, is_datagrams_at, sends};
 ghost use Rattle.sockets.specs.GivenUp.{waiting_datagrams};
 ghost use Rattle.sockets.specs.Lost.{waiting_resets};
@@ -72,8 +73,9 @@ ghost use Rattle.host.specs.Lack.{lack};
 ghost use Rattle.host.specs.Limits.{IsWithinLimits};
 ghost use Rattle.host.specs.Messages.{errors_of};
 ghost use Rattle.host.specs.Met.{IsLearntInVain, IsMetBy, IsNoEntry, IsOpenedAtMost, IsQuotedBy, StaysUnless};
-ghost use Rattle.host.specs.Places.{Place, ReplyOf, EntryOf, places, can_go_out};
+ghost use Rattle.host.specs.Places.{Place, ReplyOf, EntryOf, places, places_in_turn, can_go_out};
 ghost use Rattle.host.specs.Runs.{Event, HasRun, IsNumbered, IsUpTo, IsSized, LeadOn, Makes, Runs, WasHeard};
+ghost use Rattle.host.specs.Turns.{sender, HasFrame, HasWaited};
 ghost use Rattle.host.specs.Sound.{IsSoundHost};
 ghost use Rattle.host.specs.Ticks.{after_tick, least_deadline, hop_deadline};
 
@@ -94,24 +96,30 @@ pub fn layers_compose()
         → pair_in (emission_octets h now) ≡ option_map (λ c. pair_between h.interface.addr c.to c.segment) (carried h now) }
 {}
 
-/// What is due at a host is one list of places, and what goes out is for the first of them for which a frame can. Nothing goes out only
-/// where one can for none of them.
+/// What is due at a host is one list of places, and what goes out is for the first of them in turn for which a frame can: of the replies, and then of what the
+/// entries have due, behind the one that sent last first. Nothing goes out only where one can for none of them.
 pub fn the_first_place_goes_out()
-    ensures reply { (h : HostView) (moment : Moment) (w : Waiting) → find (can_go_out h moment) (places h) ≡ Some (ReplyOf w)
+    ensures reply { (h : HostView) (moment : Moment) (w : Waiting) → find (can_go_out h moment) (places_in_turn h) ≡ Some (ReplyOf w)
         → (place : ℕ) × (slice_get h.interface.replies place ≡ Some w) × (emission h moment ≡ Replies place) }
-    ensures entry { (h : HostView) (moment : Moment) (e : Entry) (peer : Endpoint) (what : Due) → find (can_go_out h moment) (places h) ≡ Some (EntryOf e peer what)
-        → (find (sends (goes_out_from h moment)) h.sockets.entries ≡ Some e) × (due_to (goes_out_from h moment) e.role ≡ Some (peer, what)) × (emission h moment ≡ emission_to h moment (Some peer)) }
+    ensures entry { (h : HostView) (moment : Moment) (e : Entry) (peer : Endpoint) (what : Due) → find (can_go_out h moment) (places_in_turn h) ≡ Some (EntryOf e peer what)
+        → (find (in_turn h.sockets (sends (goes_out_from h moment))) h.sockets.entries ≡ Some e) × (due_to (goes_out_from h moment) e.role ≡ Some (peer, what)) × (emission h moment ≡ emission_to h moment (Some peer)) }
     ensures none { (h : HostView) (moment : Moment) → find (can_go_out h moment) (places h) ≡ None → emission h moment ≡ Nothing }
     ensures only { (h : HostView) (now : Moment) → emission_len h now ≡ None → find (can_go_out h (later_moment h.sockets now)) (places h) ≡ None }
+{}
+
+/// Between two frames of one entry every other for which a frame could go out all the while has sent: whatever happens behind a frame of the first, where each further emission passes over
+/// an entry that waits, none is of the first. (Control replies and requests for hops are of no entry.)
+pub fn turns_go_round()
+    ensures { (h : HostView) (now : Moment) (first waiting : SocketId) → HasWaited first waiting h → HasRun h → waiting ≢ first → HasFrame waiting h now → sender h now ≢ Some first }
 {}
 
 /// The datagrams of a UDP socket to one address go out in the order of their `sendto`, as each stands behind those that were given before it: what goes
 /// out of the socket is of the first datagram in it for whose address a frame can go out, so of none behind another to the same address, whether
 /// it goes out itself or the request for its hop. (What stands first of those that are overtaken stays first of them: `udp_socket::laws::sent_in_order`.)
 pub fn datagrams_to_one_address_go_out_in_order()
-    ensures first { (h : HostView) (moment : Moment) (e : Entry) (peer : Endpoint) (place : ℕ) (bound : Option Endpoint) (socket : SocketView) → find (can_go_out h moment) (places h) ≡ Some (EntryOf e peer (due.Datagram place))
+    ensures first { (h : HostView) (moment : Moment) (e : Entry) (peer : Endpoint) (place : ℕ) (bound : Option Endpoint) (socket : SocketView) → find (can_go_out h moment) (places_in_turn h) ≡ Some (EntryOf e peer (due.Datagram place))
         → e.role ≡ Datagrams bound socket → first_that (goes_out_from h moment) socket.outbox ≡ Some place }
-    ensures others { (h : HostView) (moment : Moment) (e : Entry) (peer : Endpoint) (place before : ℕ) (bound : Option Endpoint) (socket : SocketView) (o : Outgoing) → find (can_go_out h moment) (places h) ≡ Some (EntryOf e peer (due.Datagram place))
+    ensures others { (h : HostView) (moment : Moment) (e : Entry) (peer : Endpoint) (place before : ℕ) (bound : Option Endpoint) (socket : SocketView) (o : Outgoing) → find (can_go_out h moment) (places_in_turn h) ≡ Some (EntryOf e peer (due.Datagram place))
         → e.role ≡ Datagrams bound socket → before < place → slice_get socket.outbox before ≡ Some o → o.peer.addr ≢ peer.addr }
 {}
 

@@ -23,7 +23,7 @@ use Rattle.sockets.specs.Calls.{after_bind, after_connect, after_leaving, after_
 use Rattle.sockets.specs.Causes.{Event, Makes, MakesDatagrams, Binds, Listens, Accepts, Connects, Sends, Receives, Shuts, SetsNoDelay, SetsKeepAlive, Leaves, Ticks, Hears, Emits, GivesUp, GivesWay, Unreachable, SendsTo, ReceivesFrom, HearsDatagram, after_arrival, after_event}
 use Rattle.sockets.specs.GiveWay.{gives_way}
 use Rattle.sockets.specs.Datagrams.{after_sendto, end_sent_from}
-use Rattle.sockets.specs.Emission.{after_segment_sent}
+use Rattle.sockets.specs.Emission.{after_segment_sent, in_turn}
 use Rattle.sockets.specs.Entries.{leaving_fate_of, entries_after_step, is_between, is_kept, is_socket, on_connection, on_datagrams, place_of, role_after_accept, role_after_bind, role_after_leaving, role_after_connect, role_after_emission, role_after_listen, role_after_listener_close, role_after_sendto, role_after_unreachable, sends, waits_at, with_first, with_role}
 use Rattle.sockets.specs.Lists.{change_first, remove_first}
 use Rattle.sockets.specs.Lost.{role_after_giving_up}
@@ -183,14 +183,14 @@ module _ (W : SocketId → List Waiting → Type 0) where
       answered (Some head) = record { holds = all; kept = refl }
 
   emitted-hold : (h : SocketsView) (goes : Addr → Bool) (now : Moment) → AllHold h.entries → IsKept h (after_segment_sent h goes now)
-  emitted-hold h goes now all = by_entry (find (sends goes) h.entries) refl
+  emitted-hold h goes now all = by_entry (find (in_turn h (sends goes)) h.entries) refl
     where
-      by_entry : (o : Option Entry) → find (sends goes) h.entries ≡ o → IsKept h (after_segment_sent h goes now)
+      by_entry : (o : Option Entry) → find (in_turn h (sends goes)) h.entries ≡ o → IsKept h (after_segment_sent h goes now)
       by_entry None found = subst (IsKept h) (sym (segment_sent-none h goes now found)) (record { holds = all; kept = refl })
       by_entry (Some first) found =
           let due = found_due h goes first found in
           subst (IsKept h) (sym (segment_sent-found h goes now first due.0 found due.1))
-          (record { holds = stepped-hold _ (sends goes) _ (emission-keeps (later_moment h now) due.0.1) h.entries all; kept = refl })
+          (record { holds = stepped-hold _ (in_turn h (sends goes)) _ (emission-keeps (later_moment h now) due.0.1) h.entries all; kept = refl })
 
   told-hold : (h : SocketsView) (local peer : Endpoint) (number : ℕ) → AllHold h.entries → IsKept h (after_unreachable h local peer number)
   told-hold h local peer number all = by_entry (find (is_between local peer) h.entries) refl

@@ -32,6 +32,7 @@ use Rattle.sockets.specs.declared.emission.Outgoing.{Outgoing}
 use Rattle.sockets.specs.declared.role.Role.{Role}
 use Rattle.sockets.specs.declared.role.Role.TheVariants.{Idle, Listener, Connected, Datagrams}
 use Rattle.sockets.specs.Closing.{entry_of}
+use Rattle.sockets.specs.Emission.{in_turn}
 use Rattle.sockets.specs.Entries.{due_to, sends}
 use Rattle.sockets.specs.Ids.{has_id, AreAscending}
 use Rattle.sockets.specs.Order.{IsOrdered, LiesAt}
@@ -138,18 +139,18 @@ module _ (c : ConfigView) (h : HostView) (sound : IsSoundHost h) (o : IsOrdered 
   by_reply waiting (Error there reason quoted) w k plain is same = cc
 
   -- the connection that has it due
-  of_connection : (moment : Moment) (e : Entry) (v : View) (l : Option SocketId) → find (sends (goes_out_from h moment)) (let t = h.sockets in t.entries) ≡ Some e → e.role ≡ Connected v l → v.peer.addr ≡ to
+  of_connection : (moment : Moment) (e : Entry) (v : View) (l : Option SocketId) → find (in_turn h.sockets (sends (goes_out_from h moment))) (let t = h.sockets in t.entries) ≡ Some e → e.role ≡ Connected v l → v.peer.addr ≡ to
       → due_segment (Connected v l) ≡ Some s → IsDueOf c h to s
   of_connection moment e v l found role peer due = by_due (first_due v) refl due
     where
       solid : IsSoundConnection v
-      solid = let table = sound.table in subst IsSoundRole role (found-all (λ (x : Entry). IsSoundRole x.role) (sends (goes_out_from h moment)) (let t = h.sockets in t.entries) e table.entries found)
+      solid = let table = sound.table in subst IsSoundRole role (found-all (λ (x : Entry). IsSoundRole x.role) (in_turn h.sockets (sends (goes_out_from h moment))) (let t = h.sockets in t.entries) e table.entries found)
 
       lies : LiesAt (let t = h.sockets in t.addr) (Connected v l)
-      lies = subst (LiesAt (let t = h.sockets in t.addr)) role (found-all (λ (x : Entry). LiesAt (let t = h.sockets in t.addr) x.role) (sends (goes_out_from h moment)) (let t = h.sockets in t.entries) e o.own found)
+      lies = subst (LiesAt (let t = h.sockets in t.addr)) role (found-all (λ (x : Entry). LiesAt (let t = h.sockets in t.addr) x.role) (in_turn h.sockets (sends (goes_out_from h moment))) (let t = h.sockets in t.entries) e o.own found)
 
       under : entry_of h.sockets e.id ≡ Some e
-      under = found_by_id (sends (goes_out_from h moment)) 0 (let t = h.sockets in t.last_id) (let t = h.sockets in t.entries) e o.ids found
+      under = found_by_id (in_turn h.sockets (sends (goes_out_from h moment))) 0 (let t = h.sockets in t.last_id) (let t = h.sockets in t.entries) e o.ids found
 
       sees : connection_of e.id h ≡ Some v
       sees = seen e.id e.role role under
@@ -176,7 +177,7 @@ module _ (c : ConfigView) (h : HostView) (sound : IsSoundHost h) (o : IsOrdered 
 
   -- what goes out for the table is for its peer
   by_table : (moment : Moment) (mac : Mac) (there : Addr) (k : Carried) → emission h moment ≡ Sends mac there → carried_by h moment (Sends mac there) ≡ Some k → Is k → IsDueOf c h to s
-  by_table moment mac there k is carries same = by_entry (find (sends goes) (let t = h.sockets in t.entries)) refl
+  by_table moment mac there k is carries same = by_entry (find (in_turn h.sockets (sends goes)) (let t = h.sockets in t.entries)) refl
     where
       goes : Addr → Bool
       goes = goes_out_from h moment
@@ -193,13 +194,13 @@ module _ (c : ConfigView) (h : HostView) (sound : IsSoundHost h) (o : IsOrdered 
       by_way a (Ask hop) same = cc
       by_way a Waits same = cc
 
-      by_segment : (e : Entry) (v : View) (l : Option SocketId) → find (sends goes) (let t = h.sockets in t.entries) ≡ Some e → e.role ≡ Connected v l → v.peer.addr ≡ there → (x : Option Segment) → due_segment (Connected v l) ≡ x → option_map made x ≡ Some k → IsDueOf c h to s
+      by_segment : (e : Entry) (v : View) (l : Option SocketId) → find (in_turn h.sockets (sends goes)) (let t = h.sockets in t.entries) ≡ Some e → e.role ≡ Connected v l → v.peer.addr ≡ there → (x : Option Segment) → due_segment (Connected v l) ≡ x → option_map made x ≡ Some k → IsDueOf c h to s
       by_segment e v l found role peer None due one = cc
       by_segment e v l found role peer (Some x) due one =
           let both : made x ≡ k = (let got : ◌≡◌ {A = Option Carried} (Some (made x)) (Some k) = one in cc) in
           of_connection moment e v l found role (peer ∙ ap (λ (y : Carried). y.to) both ∙ same.0) (due ∙ ap (λ (y : Carried). Some y.segment) both ∙ ap (λ (y : Segment). Some y) same.1)
 
-      by_role : (e : Entry) (r : Role) → find (sends goes) (let t = h.sockets in t.entries) ≡ Some e → e.role ≡ r → (due : Endpoint × Outgoing) → due_to goes e.role ≡ Some due → (let p = due.0 in p.addr) ≡ there → option_map made (due_segment r) ≡ Some k → IsDueOf c h to s
+      by_role : (e : Entry) (r : Role) → find (in_turn h.sockets (sends goes)) (let t = h.sockets in t.entries) ≡ Some e → e.role ≡ r → (due : Endpoint × Outgoing) → due_to goes e.role ≡ Some due → (let p = due.0 in p.addr) ≡ there → option_map made (due_segment r) ≡ Some k → IsDueOf c h to s
       by_role e (Connected v l) found role due its at one =
           let first = first_segment goes v l due (ap (due_to goes) (sym role) ∙ its) in
           by_segment e v l found role (ap (λ (d : Endpoint × Outgoing). let p = d.0 in p.addr) first.is ∙ at) (due_segment (Connected v l)) refl one
@@ -207,7 +208,7 @@ module _ (c : ConfigView) (h : HostView) (sound : IsSoundHost h) (o : IsOrdered 
       by_role e (Listener local backlog) found role due its at one = cc
       by_role e (Datagrams bound socket) found role due its at one = cc
 
-      by_entry : (x : Option Entry) → find (sends goes) (let t = h.sockets in t.entries) ≡ x → IsDueOf c h to s
+      by_entry : (x : Option Entry) → find (in_turn h.sockets (sends goes)) (let t = h.sockets in t.entries) ≡ x → IsDueOf c h to s
       by_entry None found =
           let none : carried_by h moment (Sends mac there) ≡ None = ap (λ (x : Option Entry). option_map made (option_and_then (λ (e : Entry). due_segment e.role) x)) found in
           let bad : ◌≡◌ {A = Option Carried} None (Some k) = sym none ∙ carries in cc

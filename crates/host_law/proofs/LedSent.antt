@@ -24,6 +24,7 @@ use Rattle.sockets.specs.declared.emission.Outgoing.{Outgoing}
 use Rattle.sockets.specs.declared.role.Role.TheVariants.{Connected}
 use Rattle.sockets.specs.Causes.{is_next_out}
 use Rattle.sockets.specs.Closing.{entry_of}
+use Rattle.sockets.specs.Emission.{in_turn}
 use Rattle.sockets.specs.Entries.{sends}
 use Rattle.sockets.specs.Order.{IsOrdered, LiesAt}
 use Rattle.sockets.specs.SocketsView.{later_moment}
@@ -56,15 +57,15 @@ module _ (c : ConfigView) (id : SocketId) (old new : HostView) (now : Moment) (s
   step = record { before = old; event = Emits now; after = new }
 
   -- the entry that is next is this one
-  is_found : (x : Entry) → entry_of old.sockets id ≡ Some x → x.id ≡ id → is_next_out old.sockets goes x ≡ true → find (sends goes) entries ≡ Some x
-  is_found x there named next = by_entry (find (sends goes) entries) refl
+  is_found : (x : Entry) → entry_of old.sockets id ≡ Some x → x.id ≡ id → is_next_out old.sockets goes x ≡ true → find (in_turn old.sockets (sends goes)) entries ≡ Some x
+  is_found x there named next = by_entry (find (in_turn old.sockets (sends goes)) entries) refl
     where
-      by_entry : (e : Option Entry) → find (sends goes) entries ≡ e → find (sends goes) entries ≡ Some x
+      by_entry : (e : Option Entry) → find (in_turn old.sockets (sends goes)) entries ≡ e → find (in_turn old.sockets (sends goes)) entries ≡ Some x
       by_entry None found = let none : is_next_out old.sockets goes x ≡ false = rw found refl in clash (is_next_out old.sockets goes x) next none
       by_entry (Some e) found =
           let at : (e.id.0 == x.id.0) ≡ true = rw found at next in
           let one : e.id ≡ id = ap (λ (n : ℕ). let i : SocketId = record { 0 = n } in i) (eqb-true e.id.0 x.id.0 at) ∙ named in
-          let under : entry_of old.sockets e.id ≡ Some e = found_by_id (sends goes) 0 (let t = old.sockets in t.last_id) entries e o.ids found in
+          let under : entry_of old.sockets e.id ≡ Some e = found_by_id (in_turn old.sockets (sends goes)) 0 (let t = old.sockets in t.last_id) entries e o.ids found in
           let both : Some e ≡ Some x = sym (subst (λ (i : SocketId). entry_of old.sockets i ≡ Some e) one under) ∙ there in
           found ∙ both
 
@@ -93,11 +94,11 @@ module _ (c : ConfigView) (id : SocketId) (old new : HostView) (now : Moment) (s
       made : Segment → Carried
       made s = record { mac = mac; to = to; segment = s }
 
-      found : find (sends goes) entries ≡ Some e
+      found : find (in_turn old.sockets (sends goes)) entries ≡ Some e
       found = is_found e there refl next
 
       lies : LiesAt (let t = old.sockets in t.addr) (Connected v l)
-      lies = found-all (λ (x : Entry). LiesAt (let t = old.sockets in t.addr) x.role) (sends goes) entries e o.own found
+      lies = found-all (λ (x : Entry). LiesAt (let t = old.sockets in t.addr) x.role) (in_turn old.sockets (sends goes)) entries e o.own found
 
       for_peer : v.peer.addr ≡ to
       for_peer =

@@ -1,6 +1,7 @@
 -- Why what a connection that lives alone has due goes out first, and nothing where it has nothing due.
-use Rattle.std.proofs.Common.{◌≡◌, Bool, true, false, cond, if◌then◌else◌, List, [], ◌∷◌, ◌++◌, position, Option, Some, None, is_some, option_map, option_and_then, refl, ◌∙◌, ap}
-use Rattle.std.specs.List.{find, AllByRecursion}
+use Rattle.std.proofs.Common.{◌≡◌, Bool, true, false, ◌&&◌, ◌||◌, cond, if◌then◌else◌, List, [], ◌∷◌, ◌++◌, position, Option, Some, None, is_some, option_map, option_and_then, refl, ◌∙◌, ap}
+use Rattle.std.specs.List.{find, list_any, AllByRecursion}
+use Rattle.std.proofs.lemmas.List.Folds.{list_any-append}
 use Rattle.clock.specs.declared.moment.Moment.{Moment}
 use Rattle.ether.specs.declared.mac.Mac.{Mac}
 use Rattle.ipv4.specs.declared.addr.Addr.{Addr}
@@ -23,10 +24,12 @@ use Rattle.sockets.specs.declared.emission.Outgoing.TheVariants as outgoing
 use Rattle.sockets.specs.declared.entry.Entry.{Entry}
 use Rattle.sockets.specs.declared.entry.SocketId.{SocketId}
 use Rattle.sockets.specs.Entries.{is_kept, segment_due, due_to, sends, with_role, entries_after_step, role_after_emission, emission_fate_of}
-use Rattle.sockets.specs.Emission.{Next}
+use Rattle.sockets.specs.Emission.{Next, in_turn, is_behind}
 use Rattle.sockets.specs.SocketsView.{SocketsView, later_moment}
 use Rattle.sockets.specs.Steps.{connected}
 use Rattle.sockets.specs.Lists.{change_first, remove_first}
+use Rattle.sockets.proofs.Followed.{by_test}
+use Rattle.sockets.proofs.InTurn.{later, turn_behind, turn_fails, turn_round}
 use Rattle.sockets.proofs.Emitting.{next-found, next-none, segment_sent-found, emitted-found}
 use Rattle.host.specs.HostView.{HostView, with_sockets}
 use Rattle.host.specs.Emission.{Emission, Sends, Nothing, emission, emission_at, emission_by, emission_to, emission_len, table_emission, after_emission, goes_out_from, len_of, left_by, emitted_len}
@@ -39,6 +42,25 @@ use Rattle.round_law.proofs.Retained.{Fails, found_behind, none_found, changed_b
 -- what is silent sends nothing
 silent_fails : (goes : Addr → Bool) (e : Entry) → IsSilent e → Fails (sends goes) e
 silent_fails goes e silent = ap (λ (l : List (Endpoint × Outgoing)). is_some (find (λ due. goes due.0.addr) l)) silent.nothing
+
+-- where none of the entries sends, the turn comes to none
+silent_turn : (t : SocketsView) (test : Entry → Bool) (xs : List Entry) → AllByRecursion (Fails test) xs → AllByRecursion (Fails (in_turn t test)) xs
+silent_turn t test xs fails = all_of (Fails test) (Fails (in_turn t test)) (λ e none. turn_fails t test e none) xs fails
+
+none_later : (t : SocketsView) (test : Entry → Bool) (xs : List Entry) → AllByRecursion (Fails test) xs → list_any (later t test) xs ≡ false
+none_later t test [] fails = refl
+none_later t test (e ∷ rest) fails = let none = none_later t test rest fails.1 in by_behind (is_behind t e) none
+  where
+    by_behind : (b : Bool) → list_any (later t test) rest ≡ false → ((b && test e) || list_any (later t test) rest) ≡ false
+    by_behind true none = rw (fails.0, none) refl
+    by_behind false none = none
+
+-- and where only one does, it comes to that one
+turn_there : (t : SocketsView) (test : Entry → Bool) (before : List Entry) (x : Entry) (behind : List Entry) → t.entries ≡ before ++ x ∷ behind → AllByRecursion (Fails test) before → AllByRecursion (Fails test) behind → test x ≡ true → in_turn t test x ≡ true
+turn_there t test before x behind is first last passes =
+    by_test (is_behind t x) (λ past. turn_behind t test x passes past)
+    (λ front. turn_round t test x passes
+    (ap (list_any (later t test)) is ∙ list_any-append (later t test) before (x ∷ behind) ∙ rw (none_later t test before first, front, none_later t test behind last) refl))
 
 -- where no reply waits, what goes out is of the table
 from_table : (h : HostView) (moment : Moment) → h.interface.replies ≡ [] → emission h moment ≡ table_emission h moment
@@ -53,7 +75,8 @@ nothing_due h id c now alone idle none =
     let fails : sends goes x ≡ false = ap (λ (o : Option Due). is_some (find (λ due. goes due.0.addr) (segment_due c.peer o))) none in
     let silent = silent_fails goes in
     let all = all_parts (Fails (sends goes)) alone.before (x ∷ alone.behind) (all_of IsSilent (Fails (sends goes)) silent alone.before alone.silent_before) (fails, all_of IsSilent (Fails (sends goes)) silent alone.behind alone.silent_behind) in
-    let found : find (sends goes) h.sockets.entries ≡ None = ap (λ (l : List Entry). find (sends goes) l) alone.entries ∙ none_found (sends goes) (alone.before ++ x ∷ alone.behind) all in
+    let turn = in_turn h.sockets (sends goes) in
+    let found : find turn h.sockets.entries ≡ None = ap (λ (l : List Entry). find turn l) alone.entries ∙ none_found turn (alone.before ++ x ∷ alone.behind) (silent_turn h.sockets (sends goes) (alone.before ++ x ∷ alone.behind) all) in
     let out : emission h moment ≡ Nothing = from_table h moment idle ∙ ap (λ (o : Option Next). emission_to h moment (option_map (λ next. next.peer) o)) (next-none h.sockets goes found) in
     ap (len_of h moment) out
 
@@ -82,8 +105,20 @@ module _ (h : HostView) (id : SocketId) (c : View) (now : Moment) (alone : IsAlo
   silent_before : AllByRecursion (Fails (sends goes)) alone.before
   silent_before = all_of IsSilent (Fails (sends goes)) (silent_fails goes) alone.before alone.silent_before
 
-  found : find (sends goes) h.sockets.entries ≡ Some x
-  found = ap (λ (l : List Entry). find (sends goes) l) alone.entries ∙ found_behind (sends goes) alone.before x alone.behind silent_before sends_some
+  silent_behind : AllByRecursion (Fails (sends goes)) alone.behind
+  silent_behind = all_of IsSilent (Fails (sends goes)) (silent_fails goes) alone.behind alone.silent_behind
+
+  abbrev turn : Entry → Bool
+  turn = in_turn h.sockets (sends goes)
+
+  has_turn : turn x ≡ true
+  has_turn = turn_there h.sockets (sends goes) alone.before x alone.behind alone.entries silent_before silent_behind sends_some
+
+  turn_before : AllByRecursion (Fails turn) alone.before
+  turn_before = silent_turn h.sockets (sends goes) alone.before silent_before
+
+  found : find turn h.sockets.entries ≡ Some x
+  found = ap (λ (l : List Entry). find turn l) alone.entries ∙ found_behind turn alone.before x alone.behind turn_before has_turn
 
   out : emission h moment ≡ Sends mac c.peer.addr
   out =
@@ -113,19 +148,19 @@ module _ (h : HostView) (id : SocketId) (c : View) (now : Moment) (alone : IsAlo
   goes_on : (m : Moment) → is_kept (emission_fate_of (role_after_emission m (outgoing.Segment due) x.role)) ≡ true
   goes_on m = rw (lives_at m) refl
 
-  stepped : (m : Moment) → entries_after_step (emission_fate_of (role_after_emission m (outgoing.Segment due) x.role)) (sends goes) (role_after_emission m (outgoing.Segment due)) h.sockets.entries
+  stepped : (m : Moment) → entries_after_step (emission_fate_of (role_after_emission m (outgoing.Segment due) x.role)) turn (role_after_emission m (outgoing.Segment due)) h.sockets.entries
       ≡ alone.before ++ connected id (after_event c (Event.Emits m)) None ∷ alone.behind
   stepped m =
       let change = with_role (role_after_emission m (outgoing.Segment due)) in
-      ap (λ b. if b then change_first (sends goes) change h.sockets.entries else remove_first (sends goes) h.sockets.entries) (goes_on m)
-      ∙ (ap (λ (l : List Entry). change_first (sends goes) change l) alone.entries ∙ changed_behind (sends goes) change alone.before x alone.behind silent_before sends_some)
+      ap (λ b. if b then change_first turn change h.sockets.entries else remove_first turn h.sockets.entries) (goes_on m)
+      ∙ (ap (λ (l : List Entry). change_first turn change l) alone.entries ∙ changed_behind turn change alone.before x alone.behind turn_before has_turn)
 
-  sent : after_emission h now ≡ with_sockets h (record h.sockets { entries = alone.before ++ connected id sent_view None ∷ alone.behind })
+  sent : after_emission h now ≡ with_sockets h (record h.sockets { turn = id; entries = alone.before ++ connected id sent_view None ∷ alone.behind })
   sent =
       ap (left_by h moment) out
       ∙ ap (with_sockets h) (segment_sent-found h.sockets goes moment x its_due found sends_it
-      ∙ (ap (λ (m : Moment). let t : SocketsView = record h.sockets { entries = entries_after_step (emission_fate_of (role_after_emission m (outgoing.Segment due) x.role)) (sends goes) (role_after_emission m (outgoing.Segment due)) h.sockets.entries } in t) (later-twice h.sockets now)
-      ∙ ap (λ (l : List Entry). let t : SocketsView = record h.sockets { entries = l } in t) (stepped moment)))
+      ∙ (ap (λ (m : Moment). let t : SocketsView = record h.sockets { turn = id; entries = entries_after_step (emission_fate_of (role_after_emission m (outgoing.Segment due) x.role)) turn (role_after_emission m (outgoing.Segment due)) h.sockets.entries } in t) (later-twice h.sockets now)
+      ∙ ap (λ (l : List Entry). let t : SocketsView = record h.sockets { turn = id; entries = l } in t) (stepped moment)))
 
   pub emitted_alone : IsAlone (after_emission h now) id sent_view
   emitted_alone = record {

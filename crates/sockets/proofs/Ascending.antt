@@ -92,7 +92,7 @@ ascends_pushed last n xs ys x next id is ascends =
 -- What a search finds.
 
 -- each entry has a higher id than what stands before the first
-ascends_above : (a last : ℕ) (xs : List Entry) (j : ℕ) (d : Entry) → AreAscending a last xs → j < length xs → a < (get_or xs j d).id.0
+pub ascends_above : (a last : ℕ) (xs : List Entry) (j : ℕ) (d : Entry) → AreAscending a last xs → j < length xs → a < (get_or xs j d).id.0
 ascends_above a last [] j d ascends within = absurd (omega arith)
 ascends_above a last (x ∷ xs) zero d ascends within = ascends.0
 ascends_above a last (x ∷ xs) (suc j) d ascends within =
@@ -100,7 +100,7 @@ ascends_above a last (x ∷ xs) (suc j) d ascends within =
     let rest : x.id.0 < (get_or xs j d).id.0 = ascends_above x.id.0 last xs j d ascends.1 (omega arith) in
     omega arith
 
-in_order : (a last : ℕ) (xs : List Entry) → AreAscending a last xs → AreInOrder xs
+pub in_order : (a last : ℕ) (xs : List Entry) → AreAscending a last xs → AreInOrder xs
 in_order a last [] ascends i j d before within = absurd (omega arith)
 in_order a last (x ∷ xs) ascends i zero d before within = absurd (omega arith)
 in_order a last (x ∷ xs) ascends zero (suc j) d before within = ascends_above x.id.0 last xs j d ascends.1 (omega arith)

@@ -1,8 +1,10 @@
 -- Where no entry is noted as busy, only the one at hand may have something to send.
-use Rattle.std.proofs.Common.{◌≡◌, ℕ, ◌+◌, ◌<◌, ◌≤◌, Bool, true, false, not, List, length, get_or, Some, None, sym, ◌∙◌, ap, arith}
+use Rattle.std.proofs.Common.{◌≡◌, inl, inr, ℕ, ◌+◌, ◌<◌, ◌≤◌, nat_lt, Bool, true, false, not, List, length, get_or, Option, Some, None, refl, sym, ◌∙◌, ap, arith}
 use Rattle.std.specs.Prelude.{slice_get}
 use Rattle.std.specs.List.{list_any, AllWithin}
+use Rattle.std.proofs.lemmas.Bool.Decides.{nat_tests}
 use Rattle.std.proofs.lemmas.List.Folds.{list_any_at}
+use Rattle.std.proofs.lemmas.Option.{slice_get_cases}
 use Rattle.ipv4.specs.declared.addr.Endpoint.{Endpoint}
 use Rattle.marks.specs.First.{first_from}
 use Rattle.sockets.specs.declared.emission.Outgoing.{Outgoing}
@@ -11,7 +13,8 @@ use Rattle.sockets.specs.declared.outlook.Outlook.{Outlook}
 use Rattle.sockets.specs.Entries.{dues_of}
 use Rattle.sockets.specs.Outlook.{has_due, IsOutlook}
 use Rattle.sockets.proofs.Followed.{by_test}
-use Rattle.sockets.proofs.NextDues.{first_from-none, passed_on, due_found, due_there, due_missed}
+use Rattle.sockets.proofs.FirstFrom.{first_from-found}
+use Rattle.sockets.proofs.NextDues.{first_from-none, passed_on, due_found, due_none, due_there, due_missed}
 use Rattle.sockets.proofs.Quiet.{IsTold, told_none_at_hand, told_behind, told_beside}
 
 abbrev is_noted : Bool → Bool
@@ -54,3 +57,21 @@ module _ (o : Outlook) (most : ℕ) (xs : List Entry) (known : IsOutlook o most 
 
     pub calm_there : (due : Endpoint × Outgoing) → slice_get (dues_of x.role) 0 ≡ Some due → (e : Entry) → slice_get xs place ≡ Some e → slice_get (dues_of e.role) 0 ≡ Some due
     calm_there due some = due_there xs from from place x (omega arith) (nothing_before from) there is due some
+
+  -- so nothing is due behind what is found first
+  pub calm_only : (place : ℕ) → first_from has_due 0 xs ≡ Some place → first_from has_due (place + 1) xs ≡ None
+  calm_only place found = by_hand o.at_hand refl
+    where
+      -- in front of the one at hand nothing has
+      front : (at : ℕ) → o.at_hand ≡ Some at → place < at → ⊥
+      front at is later =
+          let it = first_from-found has_due 0 xs place found in
+          let quiet = (told_beside o most xs known 0 None (none_noted o.busy.items calm 0) at is (omega arith)).2 in
+          elim (slice_get_cases xs place).1 [
+            | inl here ↦ let idle : has_due (get_or xs place here.0) ≡ false = due_none (get_or xs place here.0) (quiet place here.0 (omega arith) later) in let bad : true ≡ false = sym (it.passes here.0) ∙ idle in cc
+            | inr past ↦ omega (arith, past.0, it.within)
+          ]
+
+      by_hand : (at : Option ℕ) → o.at_hand ≡ at → first_from has_due (place + 1) xs ≡ None
+      by_hand None none = let bad : None ≡ Some place = calm_alone 0 none ∙ found in cc
+      by_hand (Some at) is = by_test (nat_lt at (place + 1)) (λ near. sym (calm_behind (place + 1) at is (grind (arith, nat_tests)))) (λ far. absurd (front at is (grind (arith, nat_tests))))

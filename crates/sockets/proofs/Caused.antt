@@ -28,6 +28,7 @@ use Rattle.sockets.specs.declared.entry.Entry.{Entry}
 use Rattle.sockets.specs.declared.role.Leave.{Leave}
 use Rattle.sockets.specs.declared.role.Role.{Role}
 use Rattle.sockets.specs.declared.role.Role.TheVariants.{Connected}
+use Rattle.sockets.specs.Emission.{in_turn}
 use Rattle.sockets.specs.Entries.{in_connection, is_closed_by, is_socket, is_between, sends, has_socket, shown_state, is_kept}
 use Rattle.sockets.specs.SocketsView.{SocketsView, later_moment}
 use Rattle.sockets.specs.Arrival.{local_end, peer_end}
@@ -35,8 +36,7 @@ use Rattle.sockets.specs.Lost.{is_given_up}
 use Rattle.sockets.specs.Sound.{IsSoundConnection, IsSoundRole, IsSoundTable}
 use Rattle.sockets.specs.Causes.{Event, after_event, is_leaving_cause, is_cause_for, is_closed_state, IsEdge, reports_to, is_next_out, IsAdded, IsStep, Follows}
 use Rattle.sockets.proofs.Ends.{eqb-same, same_end-same}
-use Rattle.sockets.proofs.Emitting.{segment_sends}
-use Rattle.sockets.proofs.Opened.{found_passes}
+use Rattle.sockets.proofs.Emitting.{found_sends, segment_sends}
 use Rattle.sockets.proofs.Followed.{IsNothing, by_test, joined_by, follows_map}
 use Rattle.sockets.proofs.Steps.{IsEventOf, closes_it, resets_it, aborts_it, ticks_it, comes_to_it, goes_out, tells_it, loses_it, entry, IsStepOf, stays, moves, ends, binds, listens, opens, accepted, requeues, binds_datagrams, closed, given_up, gave_way, IsJoining, made, made_datagrams, called, IsStepped, followed, joined, stepped}
 
@@ -96,7 +96,7 @@ hop_caused c now removed = by_test (has_come (unheard_until c) now) (λ over. ov
 -- What causes an end of a connection, or an error, is a cause for its entry.
 
 -- the first that sends is what goes out
-comes_next : (h : SocketsView) (goes : Addr → Bool) (x : Entry) → find (sends goes) h.entries ≡ Some x → is_next_out h goes x ≡ true
+comes_next : (h : SocketsView) (goes : Addr → Bool) (x : Entry) → find (in_turn h (sends goes)) h.entries ≡ Some x → is_next_out h goes x ≡ true
 comes_next h goes x found = rw found (eqb-same x.id.0)
 
 module _ (h : SocketsView) (id : SocketId) (c : View) (l : Option SocketId) where
@@ -127,7 +127,7 @@ module _ (h : SocketsView) (id : SocketId) (c : View) (l : Option SocketId) wher
       caused _ _ (aborts_it how named waits) removed = refl
       caused _ _ (ticks_it now) removed = tick_caused c (later_moment h now) removed
       caused _ _ (comes_to_it now isn source s between) removed = removed_caused c (edge.Hears s (later_moment h now)) (live (local_end h s) (peer_end source s) between) removed
-      caused _ _ (goes_out goes now found) removed = removed_caused c (edge.Emits (later_moment h now)) (due_not_over c sound.sound (segment_sends goes c l (found_passes (sends goes) h.entries (entry id (Connected c l)) found))) removed
+      caused _ _ (goes_out goes now found) removed = removed_caused c (edge.Emits (later_moment h now)) (due_not_over c sound.sound (segment_sends goes c l (found_sends h goes (entry id (Connected c l)) found))) removed
       caused _ _ (tells_it local peer number between) removed = removed_caused c (edge.Unreachable number) (live local peer between) removed
       caused _ _ (loses_it lost now hopless) removed = hop_caused c (later_moment h now) removed
       caused _ _ _ removed = cc

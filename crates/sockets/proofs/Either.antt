@@ -12,7 +12,7 @@ use Rattle.sockets.proofs.Firsts.{position-from_fails, position-none_passes}
 use Rattle.sockets.proofs.Followed.{by_test}
 
 -- no element passes where there is no place
-none_passes : {X : Type 0} (test : X → Bool) (xs : List X) → position test xs ≡ None → (i : ℕ) (d : X) → i < length xs → test (get_or xs i d) ≡ false
+pub none_passes : {X : Type 0} (test : X → Bool) (xs : List X) → position test xs ≡ None → (i : ℕ) (d : X) → i < length xs → test (get_or xs i d) ≡ false
 none_passes test xs none i d within =
     by_test (test (get_or xs i d))
     (λ passes. let any : list_any test xs ≡ true = list_any_at test xs i d within passes in

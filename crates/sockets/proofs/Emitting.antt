@@ -18,8 +18,9 @@ use Rattle.sockets.specs.declared.role.Role.{Role}
 use Rattle.sockets.specs.declared.role.Role.TheVariants.{Idle, Listener, Connected, Datagrams}
 use Rattle.sockets.specs.Entries.{sends, segment_due, datagrams_due, dues_of, due_to, due_emitted, due_octets, due_front, HasOutgoing, role_after_emission, emission_fate_of, entries_after_step}
 use Rattle.sockets.specs.SocketsView.{SocketsView, later_moment}
-use Rattle.sockets.specs.Emission.{Next, next_of, next_out, IsNextAt, emitted, emitted_octets, emitted_front, after_segment_sent}
+use Rattle.sockets.specs.Emission.{Next, next_of, next_out, in_turn, IsNextAt, emitted, emitted_octets, emitted_front, after_segment_sent}
 use Rattle.sockets.proofs.Firsts.{find-position}
+use Rattle.sockets.proofs.InTurn.{turn_passes}
 use Rattle.sockets.proofs.Opened.{found_passes}
 
 -- What an entry has due.
@@ -161,47 +162,51 @@ sends_due goes e some = by_due (due_to goes e.role) refl some
     by_due None is some = cc
     by_due (Some due) is some = (due, is)
 
-pub found_due : (h : SocketsView) (goes : Addr → Bool) (e : Entry) → find (sends goes) h.entries ≡ Some e → (due : Endpoint × Outgoing) × (due_to goes e.role ≡ Some due)
-found_due h goes e found = sends_due goes e (found_passes (sends goes) h.entries e found)
+-- what the turn comes to sends
+pub found_sends : (h : SocketsView) (goes : Addr → Bool) (e : Entry) → find (in_turn h (sends goes)) h.entries ≡ Some e → sends goes e ≡ true
+found_sends h goes e found = turn_passes h (sends goes) e (found_passes (in_turn h (sends goes)) h.entries e found)
 
-pub next-found : (h : SocketsView) (goes : Addr → Bool) (e : Entry) (due : Endpoint × Outgoing) → find (sends goes) h.entries ≡ Some e → due_to goes e.role ≡ Some due
+pub found_due : (h : SocketsView) (goes : Addr → Bool) (e : Entry) → find (in_turn h (sends goes)) h.entries ≡ Some e → (due : Endpoint × Outgoing) × (due_to goes e.role ≡ Some due)
+found_due h goes e found = sends_due goes e (found_sends h goes e found)
+
+pub next-found : (h : SocketsView) (goes : Addr → Bool) (e : Entry) (due : Endpoint × Outgoing) → find (in_turn h (sends goes)) h.entries ≡ Some e → due_to goes e.role ≡ Some due
     → next_out h goes ≡ Some (record { entry = e; peer = due.0; what = due.1 })
 next-found h goes e due found is = ap (option_and_then (next_of goes)) found ∙ ap (λ (o : Option (Endpoint × Outgoing)). option_map (λ (d : Endpoint × Outgoing). let n : Next = record { entry = e; peer = d.0; what = d.1 } in n) o) is
 
-pub next-none : (h : SocketsView) (goes : Addr → Bool) → find (sends goes) h.entries ≡ None → next_out h goes ≡ None
+pub next-none : (h : SocketsView) (goes : Addr → Bool) → find (in_turn h (sends goes)) h.entries ≡ None → next_out h goes ≡ None
 next-none h goes none = ap (option_and_then (next_of goes)) none
 
 -- it is in its place
 pub record IsNextEntry (h : SocketsView) (goes : Addr → Bool) (x : Entry) (what : Outgoing) : Type 0 where
   pub due : Endpoint × Outgoing
-  pub found : find (sends goes) h.entries ≡ Some x
+  pub found : find (in_turn h (sends goes)) h.entries ≡ Some x
   pub is : due_to goes x.role ≡ Some due
   pub same : due.1 ≡ what
 
 pub next-at : (h : SocketsView) (goes : Addr → Bool) (place : ℕ) (what : Outgoing) (x : Entry) → IsNextAt h goes place what → x ≡ get_or h.entries place x → IsNextEntry h goes x what
 next-at h goes place what x next at =
-    let found = find-position (sends goes) h.entries place x next.0 at in
+    let found = find-position (in_turn h (sends goes)) h.entries place x next.0 at in
     let due = found_due h goes x found in
     let told : option_map (λ (n : Next). n.what) (next_out h goes) ≡ Some due.0.1 = ap (λ (o : Option Next). option_map (λ (n : Next). n.what) o) (next-found h goes x due.0 found due.1) in
     record { due = due.0; found = found; is = due.1; same = (let both = sym told ∙ next.1 in cc) }
 
 -- the entry that sends changes, or is taken out
-pub segment_sent-found : (h : SocketsView) (goes : Addr → Bool) (now : Moment) (e : Entry) (due : Endpoint × Outgoing) → find (sends goes) h.entries ≡ Some e → due_to goes e.role ≡ Some due
-    → after_segment_sent h goes now ≡ record h { entries = entries_after_step (emission_fate_of (role_after_emission (later_moment h now) due.1 e.role)) (sends goes) (role_after_emission (later_moment h now) due.1) h.entries }
+pub segment_sent-found : (h : SocketsView) (goes : Addr → Bool) (now : Moment) (e : Entry) (due : Endpoint × Outgoing) → find (in_turn h (sends goes)) h.entries ≡ Some e → due_to goes e.role ≡ Some due
+    → after_segment_sent h goes now ≡ record h { turn = e.id; entries = entries_after_step (emission_fate_of (role_after_emission (later_moment h now) due.1 e.role)) (in_turn h (sends goes)) (role_after_emission (later_moment h now) due.1) h.entries }
 segment_sent-found h goes now e due found is = rw (next-found h goes e due found is) refl
 
-pub segment_sent-none : (h : SocketsView) (goes : Addr → Bool) (now : Moment) → find (sends goes) h.entries ≡ None → after_segment_sent h goes now ≡ h
+pub segment_sent-none : (h : SocketsView) (goes : Addr → Bool) (now : Moment) → find (in_turn h (sends goes)) h.entries ≡ None → after_segment_sent h goes now ≡ h
 segment_sent-none h goes now none = rw (next-none h goes none) refl
 
 -- what is told of what goes out, and its octets
-pub emitted-found : (h : SocketsView) (goes : Addr → Bool) (e : Entry) (due : Endpoint × Outgoing) → find (sends goes) h.entries ≡ Some e → due_to goes e.role ≡ Some due → emitted h goes ≡ due_emitted due.1 e.role
+pub emitted-found : (h : SocketsView) (goes : Addr → Bool) (e : Entry) (due : Endpoint × Outgoing) → find (in_turn h (sends goes)) h.entries ≡ Some e → due_to goes e.role ≡ Some due → emitted h goes ≡ due_emitted due.1 e.role
 emitted-found h goes e due found is = rw (next-found h goes e due found is) refl
 
-pub emitted_octets-found : (h : SocketsView) (goes : Addr → Bool) (e : Entry) (due : Endpoint × Outgoing) → find (sends goes) h.entries ≡ Some e → due_to goes e.role ≡ Some due → emitted_octets h goes ≡ due_octets h.addr due.1 e.role
+pub emitted_octets-found : (h : SocketsView) (goes : Addr → Bool) (e : Entry) (due : Endpoint × Outgoing) → find (in_turn h (sends goes)) h.entries ≡ Some e → due_to goes e.role ≡ Some due → emitted_octets h goes ≡ due_octets h.addr due.1 e.role
 emitted_octets-found h goes e due found is = rw (next-found h goes e due found is) refl
 
-pub emitted_front-found : (h : SocketsView) (goes : Addr → Bool) (out : List ℕ) (e : Entry) (due : Endpoint × Outgoing) → find (sends goes) h.entries ≡ Some e → due_to goes e.role ≡ Some due → emitted_front h goes out ≡ due_front h.addr due.1 e.role out
+pub emitted_front-found : (h : SocketsView) (goes : Addr → Bool) (out : List ℕ) (e : Entry) (due : Endpoint × Outgoing) → find (in_turn h (sends goes)) h.entries ≡ Some e → due_to goes e.role ≡ Some due → emitted_front h goes out ≡ due_front h.addr due.1 e.role out
 emitted_front-found h goes out e due found is = rw (next-found h goes e due found is) refl
 
-pub emitted-none : (h : SocketsView) (goes : Addr → Bool) → find (sends goes) h.entries ≡ None → emitted h goes ≡ None
+pub emitted-none : (h : SocketsView) (goes : Addr → Bool) → find (in_turn h (sends goes)) h.entries ≡ None → emitted h goes ≡ None
 emitted-none h goes none = rw (next-none h goes none) refl

@@ -19,6 +19,7 @@ use Rattle.sockets.specs.declared.role.Leave.{Leave}
 use Rattle.sockets.specs.declared.role.Role.{Role}
 use Rattle.sockets.specs.declared.role.Role.TheVariants.{Idle, Listener, Connected, Datagrams}
 use Rattle.sockets.specs.Lists.{change_first}
+use Rattle.sockets.specs.Emission.{in_turn}
 use Rattle.sockets.specs.Entries.{on_connection, in_connection, on_datagrams, is_socket, is_between, waits_at, is_waiting_id, sends, is_kept, entries_after_step, entries_after_steps, is_datagrams_at, with_role}
 use Rattle.sockets.specs.Entries as role
 use Rattle.sockets.specs.SocketsView.{SocketsView, later_moment}
@@ -228,14 +229,14 @@ told_once h local peer number o =
 
 emits_once : (h : SocketsView) (goes : Addr → Bool) (now : Moment) → IsOrdered h → Follows (IsOneEvent h (Emits goes now)) IsNothing h.entries (let w = after_event h (Emits goes now) in w.entries)
 emits_once h goes now o =
-    by_option (find (sends goes) h.entries)
+    by_option (find (in_turn h (sends goes)) h.entries)
     (λ none. subst P (sym (segment_sent-none h goes now none)) (as_it_was (IsOneEvent h e) IsNothing refl (λ x. passed h e (λ y l. (refl, refl)) x (rw none refl) refl) h.entries))
     (λ first found.
     let next : is_next_out h goes first ≡ true = rw found (eqb-same first.id.0) in
     let due = found_due h goes first found in
     let what : Outgoing = due.0.1 in
     subst P (sym (segment_sent-found h goes now first due.0 found due.1))
-    (once_settled (IsOneEvent h e) (is_next_out h goes) (passed_over h e (λ x l. (refl, refl)) (λ x. refl) (is_next_out h goes) (λ x other. rw other refl)) (sends goes) first next
+    (once_settled (IsOneEvent h e) (is_next_out h goes) (passed_over h e (λ x l. (refl, refl)) (λ x. refl) (is_next_out h goes) (λ x other. rw other refl)) (in_turn h (sends goes)) first next
     (role.emission_fate_of (role.role_after_emission later what first.role)) (role.role_after_emission later what) (going what first.id first.role next) (gone what first.id first.role next) h.entries found
     (ids_once first.id.0 (is_next_out h goes) (λ x passes. let same : (first.id.0 == x.id.0) ≡ true = rw found at passes in sym (eqb-true first.id.0 x.id.0 same)) 0 h.last_id h.entries o.ids)))
   where

@@ -89,3 +89,6 @@ pub mod NoMemory
 pub mod Needed
 pub mod Outboxes
 pub mod Counted
+pub mod InTurn
+pub mod TurnPlaces
+pub mod TurnsRound

@@ -39,7 +39,7 @@ first_from-none test (suc n) (x ∷ xs) before =
     first-behind test n x xs ∙ ap further (first_from-none test n xs (λ k d l h. before (suc k) d (omega (arith, l)) (omega (arith, h))))
 
 -- what isn't busy has nothing due
-due_none : (e : Entry) → is_busy_entry e ≡ false → has_due e ≡ false
+pub due_none : (e : Entry) → is_busy_entry e ≡ false → has_due e ≡ false
 due_none e quiet = ap (λ dues. is_some (slice_get dues 0)) (rests-dues e.role quiet)
 
 -- what was passed stays so, and so does what is quiet behind it
@@ -51,21 +51,21 @@ passed_on xs first from to before quiet k d low high =
 
 -- An entry that has nothing due sends nothing.
 
-nothing_sends : (goes : Addr → Bool) (e : Entry) → has_due e ≡ false → sends goes e ≡ false
+pub nothing_sends : (goes : Addr → Bool) (e : Entry) → has_due e ≡ false → sends goes e ≡ false
 nothing_sends goes e none = by_dues (dues_of e.role) refl none
   where
     by_dues : (l : List _) → dues_of e.role ≡ l → is_some (slice_get l 0) ≡ false → sends goes e ≡ false
     by_dues [] is none = rw is refl
     by_dues (x ∷ xs) is some = let bad : true ≡ false = some in cc
 
-module _ (goes : Addr → Bool) (xs : List Entry) (from : ℕ) (before : AllWithin (λ (e : Entry). sends goes e ≡ false) xs 0 from) where
-  pub silent_to : (place : ℕ) → first_from has_due from xs ≡ Some place → AllWithin (λ (e : Entry). sends goes e ≡ false) xs 0 place
+module _ (goes : Addr → Bool) (xs : List Entry) (start from : ℕ) (before : AllWithin (λ (e : Entry). sends goes e ≡ false) xs start from) where
+  pub silent_to : (place : ℕ) → first_from has_due from xs ≡ Some place → AllWithin (λ (e : Entry). sends goes e ≡ false) xs start place
   silent_to place is = λ k d low high.
       by_test (nat_lt k from)
       (λ early. before k d low (grind (arith, nat_tests)))
       (λ late. nothing_sends goes (get_or xs k d) (fails-before has_due from xs place is k d (grind (arith, nat_tests)) high))
 
-  pub silent_past : first_from has_due from xs ≡ None → AllWithin (λ (e : Entry). sends goes e ≡ false) xs 0 (length xs)
+  pub silent_past : first_from has_due from xs ≡ None → AllWithin (λ (e : Entry). sends goes e ≡ false) xs start (length xs)
   silent_past is = λ k d low high.
       by_test (nat_lt k from)
       (λ early. before k d low (grind (arith, nat_tests)))

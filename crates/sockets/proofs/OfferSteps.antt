@@ -25,7 +25,7 @@ use Rattle.sockets.specs.Entries.{is_socket, waits_at, is_waiting_at, is_waiting
 use Rattle.sockets.specs.SocketsView.{SocketsView, later_moment, with_socket}
 use Rattle.sockets.specs.GiveWay.{gives_way}
 use Rattle.sockets.specs.Lost.{role_after_giving_up, give_up_fate_of}
-use Rattle.sockets.specs.Emission.{after_segment_sent}
+use Rattle.sockets.specs.Emission.{in_turn, after_segment_sent}
 use Rattle.sockets.specs.Unreachable.{after_unreachable}
 use Rattle.sockets.specs.Calls.{is_table_full, port_bound, after_bind, next_offered, is_next_at, after_accept, port_connected, after_connect, after_socket_left, after_leaving}
 use Rattle.sockets.specs.Datagrams.{end_sent_from, after_sendto, reception, after_reception}
@@ -212,13 +212,13 @@ datagram-outcome h source d = by_reception (reception h d) refl
 
 emission-outcome : (h : SocketsView) (goes : Addr → Bool) (now : Moment) → Outcome h (after_segment_sent h goes now)
 emission-outcome h goes now =
-    by_option (find (sends goes) h.entries) (λ none. subst (Outcome h) (sym (segment_sent-none h goes now none)) (nothing-happens h))
+    by_option (find (in_turn h (sends goes)) h.entries) (λ none. subst (Outcome h) (sym (segment_sent-none h goes now none)) (nothing-happens h))
     (λ e found.
     let later = later_moment h now in
     let due = found_due h goes e found in
     let what : Outgoing = due.0.1 in
     subst (Outcome h) (sym (segment_sent-found h goes now e due.0 found due.1))
-    (still h _ refl refl refl (settled (sends goes) (λ r. emission_fate_of (role_after_emission later what r)) (role_after_emission later what) h.entries e found
+    (still h _ refl refl refl (settled (in_turn h (sends goes)) (λ r. emission_fate_of (role_after_emission later what r)) (role_after_emission later what) h.entries e found
     (λ x passes kept same. emission-stays later what x.role) (λ x passes gone. emission-gone later what x.role gone))))
 
 error-outcome : (h : SocketsView) (local peer : Endpoint) (number : ℕ) → Outcome h (after_unreachable h local peer number)

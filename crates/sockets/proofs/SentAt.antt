@@ -8,7 +8,7 @@ use Rattle.sockets.specs.declared.emission.Emitted.{Emitted}
 use Rattle.sockets.specs.declared.emission.Outgoing.{Outgoing}
 use Rattle.sockets.specs.declared.entry.Entry.{Entry}
 use Rattle.sockets.specs.declared.role.Role.{Role}
-use Rattle.sockets.specs.Emission.{IsNextAt, emitted, emitted_front, after_segment_sent}
+use Rattle.sockets.specs.Emission.{in_turn, IsNextAt, emitted, emitted_front, after_segment_sent}
 use Rattle.sockets.specs.Entries.{sends, is_kept, due_emitted, due_front, role_after_emission, emission_fate_of, entries_after_step}
 use Rattle.sockets.specs.SocketsView.{SocketsView, later_moment}
 use Rattle.sockets.proofs.Arrived.{entry_settled}
@@ -37,13 +37,15 @@ module _ (v h : SocketsView) (goes : Addr → Bool) (place : ℕ) (what : Outgoi
 
   pub table_at : (given : Moment) (role : Role) (fate : Fate) (ws : List Entry) → role ≡ role_after_emission (later_moment h given) what (get_or zs place x).role → fate ≡ emission_fate_of role
       → ws ≡ (if is_kept fate then refill (length v.entries) v.entries (set zs place (record (get_or zs place x) { role = role })) else remove (refill (length v.entries) v.entries (set zs place (record (get_or zs place x) { role = role }))) place)
-      → record v { entries = ws } ≡ after_segment_sent h goes given
+      → record v { turn = (get_or zs place x).id; entries = ws } ≡ after_segment_sent h goes given
   table_at given role fate ws sent over settled =
       let now : Moment = later_moment h given in
       let first : Outgoing = it.due.1 in
       let there : Entry = get_or zs place x in
       let emits : role ≡ role_after_emission now first there.role = sent ∙ ap (λ (w : Outgoing). role_after_emission now w there.role) (sym it.same) in
-      entry_settled v h (sends goes) (role_after_emission now first) zs ws place x _ fate same next.0 lent is (role_changed (role_after_emission now first) there role emits) settled
-      ∙ ap (λ (r : Fate). let w : SocketsView = record h { entries = entries_after_step r (sends goes) (role_after_emission now first) h.entries } in w)
+      ap (λ (e : Entry). let u : SocketsView = record v { turn = e.id; entries = ws } in u) (sym is)
+      ∙ ap (λ (w : SocketsView). let u : SocketsView = record w { turn = x.id } in u)
+      (entry_settled v h (in_turn h (sends goes)) (role_after_emission now first) zs ws place x _ fate same next.0 lent is (role_changed (role_after_emission now first) there role emits) settled)
+      ∙ ap (λ (r : Fate). let w : SocketsView = record h { turn = x.id; entries = entries_after_step r (in_turn h (sends goes)) (role_after_emission now first) h.entries } in w)
       (over ∙ ap emission_fate_of emits ∙ ap (λ (e : Entry). emission_fate_of (role_after_emission now first e.role)) (sym is))
       ∙ sym (segment_sent-found h goes given x it.due it.found it.is)

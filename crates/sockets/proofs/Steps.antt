@@ -34,7 +34,8 @@ use Rattle.sockets.specs.GiveWay.{gives_way}
 use Rattle.sockets.specs.Lists.{change_first}
 use Rattle.tcp_state.specs.Hop.{hopless_fate}
 use Rattle.sockets.specs.Lost.{is_given_up, is_hopless, loses_hop, role_after_giving_up, give_up_fate_of}
-use Rattle.sockets.specs.Emission.{after_segment_sent}
+use Rattle.sockets.specs.Emission.{in_turn, after_segment_sent}
+use Rattle.sockets.specs.Turns.{emission_of}
 use Rattle.sockets.specs.Unreachable.{after_unreachable}
 use Rattle.sockets.specs.Calls.{port_bound, after_bind, is_next_at, port_connected, after_connect, after_socket_left, after_leaving}
 use Rattle.sockets.specs.Datagrams.{end_sent_from, after_sendto, reception, after_reception}
@@ -62,7 +63,7 @@ pub data IsEventOf (h : SocketsView) (x : Entry) : Event → edge.Event → Type
   aborts_it : (how : Leave) (id : SocketId) → is_waiting_at id x ≡ true → IsEventOf h x (Leaves how id) (edge.Aborts h.kept)
   ticks_it : (now : Moment) → IsEventOf h x (Ticks now) (edge.Ticks (later_moment h now))
   comes_to_it : (now : Moment) (isn : ℕ) (source : Addr) (s : Segment) → is_between (local_end h s) (peer_end source s) x ≡ true → IsEventOf h x (Hears now isn source s) (edge.Hears s (later_moment h now))
-  goes_out : (goes : Addr → Bool) (now : Moment) → find (sends goes) h.entries ≡ Some x → IsEventOf h x (Emits goes now) (edge.Emits (later_moment h now))
+  goes_out : (goes : Addr → Bool) (now : Moment) → find (in_turn h (sends goes)) h.entries ≡ Some x → IsEventOf h x (Emits goes now) (edge.Emits (later_moment h now))
   tells_it : (local peer : Endpoint) (number : ℕ) → is_between local peer x ≡ true → IsEventOf h x (Unreachable local peer number) (edge.Unreachable number)
   loses_it : (lost : Addr → Bool) (now : Moment) → loses_hop lost x.role ≡ true → IsEventOf h x (GivesUp lost now) (edge.LosesHop (later_moment h now))
 
@@ -115,6 +116,7 @@ pub record IsFollowed (h : SocketsView) (e : Event) (w : SocketsView) : Type 0 w
   pub up_to : (last : Moment) → h.kept.0 ≤ last.0 → IsUpTo last e → w.kept.0 ≤ last.0
   pub last_port : takes_end e ≡ false → w.last_port ≡ h.last_port
   pub identification : datagrams_taken h e ≡ 0 → w.identification ≡ h.identification
+  pub turn : emission_of e ≡ None → w.turn ≡ h.turn
   pub added : IsAdded h e []
   pub entries : Follows (IsStepOf h e) IsNothing h.entries w.entries
 
@@ -176,7 +178,12 @@ module _ (h : SocketsView) (e : Event) where
 
   -- nothing changes but entries and those offered
   plain : (entries : List Entry) (offered : List SocketId) → IsAdded h e [] → Follows (IsStepOf h e) IsNothing h.entries entries → IsStepped h e (record h { entries = entries; offered = offered })
-  plain entries offered added f = followed (record { addr = refl; manner = refl; sizes = refl; last_id = refl; kept = omega arith; up_to = λ last before up. before; last_port = λ free. refl; identification = λ none. refl; added = added; entries = f })
+  plain entries offered added f = followed (record { addr = refl; manner = refl; sizes = refl; last_id = refl; kept = omega arith; up_to = λ last before up. before; last_port = λ free. refl; identification = λ none. refl; turn = λ none. refl; added = added; entries = f })
+
+  -- .. and who sent last
+  turned : (goes : Addr → Bool) → emission_of e ≡ Some goes → (turn : SocketId) (entries : List Entry) → IsAdded h e [] → Follows (IsStepOf h e) IsNothing h.entries entries → IsStepped h e (record h { turn = turn; entries = entries })
+  turned goes emits turn entries added f =
+      followed (record { addr = refl; manner = refl; sizes = refl; last_id = refl; kept = omega arith; up_to = λ last before up. before; last_port = λ free. refl; identification = λ none. refl; turn = λ none. let bad = sym emits ∙ none in cc; added = added; entries = f })
 
   -- nothing happens
   unchanged : IsAdded h e [] → IsStepped h e h
@@ -186,7 +193,7 @@ module _ (h : SocketsView) (e : Event) where
   ported : takes_end e ≡ true → (last_port identification : ℕ) (entries : List Entry) → (datagrams_taken h e ≡ 0 → identification ≡ h.identification) → IsAdded h e [] → Follows (IsStepOf h e) IsNothing h.entries entries
       → IsStepped h e (record h { last_port = last_port; identification = identification; entries = entries })
   ported takes last_port identification entries drawn added f =
-      followed (record { addr = refl; manner = refl; sizes = refl; last_id = refl; kept = omega arith; up_to = λ last before up. before; last_port = λ free. let bad : true ≡ false = sym takes ∙ free in cc; identification = drawn; added = added; entries = f })
+      followed (record { addr = refl; manner = refl; sizes = refl; last_id = refl; kept = omega arith; up_to = λ last before up. before; last_port = λ free. let bad : true ≡ false = sym takes ∙ free in cc; identification = drawn; turn = λ none. refl; added = added; entries = f })
 
   -- the first that passes changes
   changes : (test : Entry → Bool) (change : Role → Role) → ((x : Entry) → test x ≡ true → IsStepOf h e x (Some (with_role change x))) → Follows (IsStepOf h e) IsNothing h.entries (change_first test (with_role change) h.entries)
@@ -350,6 +357,7 @@ tick_stepped h now =
       kept = (later_kept h now).0;
       up_to = λ last before up. later_up_to h now last before up;
       last_port = λ free. refl;
+      turn = λ none. refl;
       identification = λ none. refl;
       added = refl;
       entries = each_followed (IsStepOf h (Ticks now)) IsNothing refl (λ x. is_kept (tick_fate_of later x.role)) (with_role (role_after_tick later)) h.entries
@@ -374,7 +382,7 @@ segment_stepped h now isn source s =
 -- Something goes out.
 
 emission_stepped : (h : SocketsView) (goes : Addr → Bool) (now : Moment) → IsStepped h (Emits goes now) (after_segment_sent h goes now)
-emission_stepped h goes now = by_entry (find (sends goes) h.entries) refl
+emission_stepped h goes now = by_entry (find (in_turn h (sends goes)) h.entries) refl
   where
     later : Moment
     later = later_moment h now
@@ -388,15 +396,15 @@ emission_stepped h goes now = by_entry (find (sends goes) h.entries) refl
     gone_out what id (Connected c l) meets gone = ends (edge.Emits later) id c l meets (gone_removed _ gone)
     gone_out what id _ meets gone = cc
 
-    by_entry : (o : Option Entry) → find (sends goes) h.entries ≡ o → IsStepped h (Emits goes now) (after_segment_sent h goes now)
+    by_entry : (o : Option Entry) → find (in_turn h (sends goes)) h.entries ≡ o → IsStepped h (Emits goes now) (after_segment_sent h goes now)
     by_entry None found = subst (IsStepped h (Emits goes now)) (sym (segment_sent-none h goes now found)) (unchanged h (Emits goes now) refl)
     by_entry (Some first) found =
         let due = found_due h goes first found in
         let what : Outgoing = due.0.1 in
         let fate : Entry → Fate = λ x. emission_fate_of (role_after_emission later what x.role) in
         subst (IsStepped h (Emits goes now)) (sym (segment_sent-found h goes now first due.0 found due.1))
-        (plain h (Emits goes now) _ _ refl
-        (settled_followed (IsStepOf h (Emits goes now)) IsNothing refl (fate first) (sends goes) (role_after_emission later what) h.entries (λ x. stays)
+        (turned h (Emits goes now) goes refl first.id _ refl
+        (settled_followed (IsStepOf h (Emits goes now)) IsNothing refl (fate first) (in_turn h (sends goes)) (role_after_emission later what) h.entries (λ x. stays)
         (λ kept x passes at. going what x.id x.role (goes_out goes now at) (ap (λ y. is_kept (fate y)) (some_same _ x first at found) ∙ kept))
         (λ gone x passes at. gone_out what x.id x.role (goes_out goes now at) (ap (λ y. is_kept (fate y)) (some_same _ x first at found) ∙ gone))))
 

@@ -22,7 +22,7 @@ use Rattle.sockets.specs.SocketsView.{SocketsView, later_moment}
 use Rattle.sockets.specs.Ticks.{after_tick}
 use Rattle.sockets.specs.Lost.{is_given_up, loses_hop, after_giving_up}
 use Rattle.sockets.specs.GiveWay.{gives_way, after_giving_way}
-use Rattle.sockets.specs.Emission.{after_segment_sent}
+use Rattle.sockets.specs.Emission.{in_turn, after_segment_sent}
 use Rattle.sockets.specs.Unreachable.{after_unreachable}
 use Rattle.sockets.specs.Calls.{after_socket, after_datagram_socket, after_bind, after_listen, after_accept, after_connect, after_send, after_recv, after_shutdown, after_nodelay, after_keepalive, after_leaving}
 use Rattle.sockets.specs.Datagrams.{after_sendto, after_recvfrom, after_reception}
@@ -87,9 +87,9 @@ after_event h (HearsDatagram source d) = after_reception h source d
 abbrev pub is_connection_cause : edge.Event → Role → Bool
 is_connection_cause e role = in_connection false (λ c. edge.is_cause c e) role
 
--- it is what goes out: of the entries that have something due to an address that passes, it is the first
+-- it is what goes out: of the entries that have something due to an address that passes, it is the one whose turn it is
 abbrev pub is_next_out : SocketsView → (Addr → Bool) → Entry → Bool
-is_next_out h goes x = of_entry (find (sends goes) h.entries)
+is_next_out h goes x = of_entry (find (in_turn h (sends goes)) h.entries)
   where
     of_entry : Option Entry → Bool
     of_entry None = false

@@ -1,6 +1,7 @@
--- What goes out: of the entries that have something due to an address that passes the test `goes`, that of the first in order of id, and of this entry
--- the first that does.
-use Rattle.std.specs.Prelude.{◌≡◌, ◌≤◌, ℕ, Bool, List, [], Option, Some, None, option_map, option_and_then, find, position}
+-- What goes out: of the entries that have something due to an address that passes the test `goes`, that of the one whose turn it is, and of this entry
+-- the first that does. `laws::turns_go_round` says that nobody is passed over.
+use Rattle.std.specs.Prelude.{◌≡◌, ◌≤◌, ℕ, nat_lt, ◌&&◌, ◌||◌, not, Bool, List, [], Option, Some, None, option_map, option_and_then, find, position}
+use Rattle.std.specs.List.{list_any}
 use Rattle.ipv4.specs.Datagram.{HasPlace}
 use Rattle.ipv4.specs.declared.addr.Addr.{Addr}
 use Rattle.ipv4.specs.declared.addr.Endpoint.{Endpoint}
@@ -24,13 +25,21 @@ pub record Next : Type 0 where
 abbrev pub next_of : (Addr → Bool) → Entry → Option Next
 next_of goes e = option_map (λ due. record { entry = e; peer = due.0; what = due.1 }) (due_to goes e.role)
 
--- and of the table that of the first entry of which something may
+-- it stands behind the entry that sent last
+abbrev pub is_behind : SocketsView → Entry → Bool
+is_behind h e = nat_lt h.turn.0 e.id.0
+
+-- Of the entries that pass a test the turn comes to those behind the one that sent last, and where there is none to the others.
+unfoldable pub in_turn : SocketsView → (Entry → Bool) → Entry → Bool
+in_turn h test e = test e && (is_behind h e || not (list_any (λ x. is_behind h x && test x) h.entries))
+
+-- and of the table that of the first entry to which the turn comes of those of which something may
 abbrev pub next_out : SocketsView → (Addr → Bool) → Option Next
-next_out h goes = option_and_then (next_of goes) (find (sends goes) h.entries)
+next_out h goes = option_and_then (next_of goes) (find (in_turn h (sends goes)) h.entries)
 
 -- that entry is in this place, and has this to send
 abbrev pub IsNextAt : SocketsView → (Addr → Bool) → ℕ → Outgoing → Type 0
-IsNextAt h goes place what = (position (sends goes) h.entries ≡ Some place) × (option_map (λ next. next.what) (next_out h goes) ≡ Some what)
+IsNextAt h goes place what = (position (in_turn h (sends goes)) h.entries ≡ Some place) × (option_map (λ next. next.what) (next_out h goes) ≡ Some what)
 
 -- what is told of it: a segment's length in octets, or what the header of IPv4 says of a part of a datagram
 abbrev pub emitted : SocketsView → (Addr → Bool) → Option Emitted
@@ -58,11 +67,14 @@ emitted_front h goes out = of_next (next_out h goes)
     of_next (Some next) = due_front h.addr next.what next.entry.role out
 
 -- The entry makes of itself what the emission does, at the later of the moment and the kept one, and is taken out where it is
--- over then. Nothing else changes.
+-- over then. It is the one that sent last now, and nothing else changes.
 abbrev pub after_segment_sent : SocketsView → (Addr → Bool) → Moment → SocketsView
 after_segment_sent h goes now = of_next (next_out h goes)
   where
     of_next : Option Next → SocketsView
     of_next None = h
     of_next (Some next) =
-        record h { entries = entries_after_step (emission_fate_of (role_after_emission (later_moment h now) next.what next.entry.role)) (sends goes) (role_after_emission (later_moment h now) next.what) h.entries }
+        record h {
+          turn = next.entry.id;
+          entries = entries_after_step (emission_fate_of (role_after_emission (later_moment h now) next.what next.entry.role)) (in_turn h (sends goes)) (role_after_emission (later_moment h now) next.what) h.entries;
+        }

@@ -28,6 +28,7 @@ pub mod Timing
 pub mod Leaving
 pub mod Rooms
 pub mod Steps
+pub mod Turns
 pub mod Closing
 pub mod Strays
 pub mod Moved

@@ -29,8 +29,8 @@ pub record HasPlaces (sizes : Sizes) (of_entries of_ends of_offered : ℕ) : Typ
   pub offered : of_offered ≡ sizes.entries
 
 -- its address, how its connections behave, the kept moment, the dynamic port given last (65,535 before the first), the id given last (0 before the first), the
--- identification of the next datagram (RFC 791 section 3.2), how large it is, its entries in order of id, and the connections that wait to be accepted and have passed
--- SYN-RECEIVED, in the order in which they did
+-- identification of the next datagram (RFC 791 section 3.2), how large it is, its entries in order of id, the connections that wait to be accepted and have passed
+-- SYN-RECEIVED, in the order in which they did, and the id of the entry that sent last (0 before the first)
 pub record SocketsView : Type 0 where
   pub addr : Addr
   pub manner : Manner
@@ -41,6 +41,7 @@ pub record SocketsView : Type 0 where
   pub sizes : Sizes
   pub entries : List Entry
   pub offered : List SocketId
+  pub turn : SocketId
 
 -- what the socket that the id names is
 abbrev pub role_of : SocketsView → SocketId → Option Role
@@ -70,6 +71,7 @@ new_sockets addr manner sizes = record {
   sizes = sizes;
   entries = [];
   offered = [];
+  turn = record { 0 = 0 };
 }
 
 -- the entry with a connection of the pair, in any state but CLOSED

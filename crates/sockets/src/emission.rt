@@ -1,9 +1,9 @@
 //! What the table sends: segments (RFC 9293 section 3.8), and datagrams in parts (RFC 791 section 3.2).
 
-ghost use Rattle.std.specs.Prelude.{◌≡◌, ◌≤◌, length, Bool, Some, IfSome, option_map, slice_get};
+ghost use Rattle.std.specs.Prelude.{◌≡◌, ◌≤◌, length, position, Bool, Some, IfSome, option_map, slice_get};
 ghost use Rattle.ipv4.specs.declared.addr.Addr.{Addr};
 ghost use Rattle.clock.specs.declared.moment.Moment.{Moment};
-ghost use Rattle.sockets.specs.Emission.{IsWithin, IsNextAt};
+ghost use Rattle.sockets.specs.Emission.{IsWithin, IsNextAt, in_turn};
 ghost use Rattle.sockets.specs.Entries.{IsDueAt};
 ghost use Rattle.sockets.specs.declared.emission.Outgoing.TheVariants.{Segment as SegmentOf, Datagram as DatagramAt};
 ghost use Rattle.sockets.specs.declared.emission.Emitted.TheVariants.{Segment as SegmentOut, Datagram as PartOut};
@@ -47,10 +47,47 @@ pub struct NextDue {
 #[tactic(auto, using(crate::proofs::Firsts::firsts))]
 impl Sockets {
     ghost use Rattle.sockets.specs.Emission.{emitted, emitted_front, after_segment_sent};
+    ghost use Rattle.sockets.specs.Turns.{IsTurnPlace};
     ghost use Rattle.sockets.specs.declared.entry.Entry.{Entry};
     ghost use Rattle.sockets.specs.Entries.{dues_of};
     ghost use Rattle.sockets.specs.Outlook.{has_due};
     ghost use Rattle.marks.specs.First.{first_from};
+
+    /// The place of the first entry behind the one that sent last, or that of the end. Mostly the one that sent last is at hand.
+    pub fn turn_place(&self) -> usize
+        ensures { IsTurnPlace self.now result }
+    {
+        let turn = self.turn.0;
+        match self.outlook.at_hand() {
+            Some(place) if self.entries[place].id.0 == turn => place + 1,
+            _ => self.entries.partition_point(|entry| entry.id.0 <= turn),
+        }
+    }
+
+    /// What the entry to which the turn comes, of those that have something to send, sends first; None where none has. Where none is noted as busy only the
+    /// entry at hand may have something.
+    #[inline(always)]
+    pub fn next_in_turn(&self) -> Option<NextDue>
+        ensures place { option_map (λ due. due.place) result ≡ position (in_turn self.now has_due) self.now.entries }
+        ensures due { IfSome result (λ due. (e : Entry) → slice_get self.now.entries due.place ≡ Some e → slice_get (dues_of e.role) 0 ≡ Some (due.peer, due.outgoing)) }
+    {
+        if self.outlook.is_calm() {
+            return self.next_due(0);
+        }
+        self.next_in_turn_among()
+    }
+
+    /// The same where some may be noted as busy: those behind the entry that sent last come first, and then the others.
+    #[inline(never)]
+    fn next_in_turn_among(&self) -> Option<NextDue>
+        ensures place { option_map (λ due. due.place) result ≡ position (in_turn self.now has_due) self.now.entries }
+        ensures due { IfSome result (λ due. (e : Entry) → slice_get self.now.entries due.place ≡ Some e → slice_get (dues_of e.role) 0 ≡ Some (due.peer, due.outgoing)) }
+    {
+        match self.next_due_among(self.turn_place()) {
+            Some(due) => Some(due),
+            None => self.next_due_among(0),
+        }
+    }
 
     /// What the first entry from the place `from` on that has something to send sends first; None where none has. Where none is noted as busy only the
     /// entry at hand may have something, and it is asked alone.
@@ -95,7 +132,7 @@ impl Sockets {
     }
 
     /// Writes what the entry in this place has to send, a segment or a part of a datagram, from `out[0]` on, and answers what was written. The
-    /// entry is taken out where it is over then. Whatever the test by which it is the first that may go out, this is the emission by that test.
+    /// entry is taken out where it is over then. Whatever the test of those that may send by which its turn it is, this is the emission by that test.
     #[inline(always)]
     pub fn emit_at(
         &mut self,
@@ -134,6 +171,7 @@ impl Sockets {
         let now = self.later_moment(now);
         self.outlook.turn_to(&self.entries, place);
         let entry = &mut self.entries[place];
+        self.turn = entry.id;
         let len = entry.role.emit_segment(due, now, out);
         let fate = entry.role.emission_fate_of();
         table::settle(
@@ -160,6 +198,7 @@ impl Sockets {
         let own = self.addr;
         self.outlook.turn_to(&self.entries, place);
         let entry = &mut self.entries[place];
+        self.turn = entry.id;
         let part = entry.role.emit_datagram(number, own, out);
         let fate = entry.role.emission_fate_of();
         table::settle(

@@ -41,10 +41,11 @@ ghost use Rattle.sockets.specs.declared.calls.TheConstants.{MOST_BACKLOG};
 ghost use Rattle.sockets.specs.declared.sizes.TheConstants.{LEAST_BUFFER, MOST_ENTRIES};
 ghost use Rattle.sockets.specs.declared.sizes.Sizes.{Sizes};
 ghost use Rattle.clock.specs.declared.moment.TheConstants.{HOP_WAIT};
-ghost use Rattle.sockets.specs.Offered.{IsReached};
+ghost use Rattle.sockets.specs.Offered.{IsReached, AreAllowed};
 ghost use Rattle.sockets.specs.Rooms.{KeepsToItsSize};
 ghost use Rattle.sockets.specs.Order.{IsOrdered, IsAllowed};
-ghost use Rattle.sockets.specs.Causes.{Event, after_event, IsAdded, IsStep, Follows, pending_error_in, TellsStill};
+ghost use Rattle.sockets.specs.Turns.{sender, IsPassedOver, KeepsStill};
+ghost use Rattle.sockets.specs.Causes.{Event, Emits, after_event, IsAdded, IsStep, Follows, pending_error_in, TellsStill};
 ghost use Rattle.sockets.specs.Steps.{IsOneEvent};
 ghost use Rattle.sockets.specs.Traffic.{streams, is_of_datagrams, after_events, datagrams_taken_in};
 
@@ -164,6 +165,13 @@ pub fn deadline_is_the_least()
 /// A tick before the deadline changes nothing but the kept moment, and so does any tick where there is no deadline.
 pub fn ticks_wait()
     ensures { (h : SocketsView) (now : Moment) → has_come (least_deadline h) (later_moment h now) ≡ false → after_tick h now ≡ record h { kept = later_moment h now } }
+{}
+
+/// Between two segments of one entry every other that had something to send all the while has sent: whatever happens behind an emission, where each emission finds an entry with something to send and
+/// passes it over, the entry that sent first doesn't send again.
+pub fn turns_go_round()
+    ensures { (h : SocketsView) (goes : Addr → Bool) (now : Moment) (first waiting : SocketId) (events : List Event) → IsOrdered h → sender h goes ≡ Some first
+        → let sent = after_event h (Emits goes now) in AreAllowed sent events → IsPassedOver waiting sent events → KeepsStill first sent events }
 {}
 
 /// The table stays in order, from the first on, whatever happens but a call that is refused and a segment from our own address, and so each that is reached is: ids ascend, no two connections but CLOSED

@@ -30,6 +30,8 @@ pub struct Sockets {
     pub(crate) filed: usize,
     pub(crate) outlook: Outlook,
     pub(crate) offered: FixedVec<SocketId>,
+    /// The entry that sent last.
+    pub(crate) turn: SocketId,
 }
 
 impl Model for Sockets {
@@ -48,6 +50,7 @@ impl Model for Sockets {
       sizes = h.sizes;
       entries = h.entries.items;
       offered = h.offered.items;
+      turn = h.turn;
     } };
 
     ghost use Rattle.sockets.specs.Ids.{AreAscending};
@@ -77,6 +80,7 @@ impl Drop for Sockets {
             filed: _,
             outlook: _,
             offered: _,
+            turn: _,
         } = self;
     }
 }
@@ -116,6 +120,7 @@ impl Sockets {
             filed: 0,
             outlook: Outlook::new(alloc, sizes.entries)?,
             offered: FixedVec::new(alloc, sizes.entries)?,
+            turn: SocketId(0),
         })
     }
 

@@ -25,6 +25,7 @@ mod scripts;
 mod simultaneous;
 mod table;
 mod timers;
+mod turns;
 mod windows;
 
 use commands::fault::TextFault;
@@ -72,7 +73,7 @@ pass 0 -> a 1 b 0
 
 /// All transcripts. Each is a list of parts, in whose lines an arrow parts a script's line from what it prints; a line without
 /// one prints nothing. Where it prints several lines, each further one stands behind an arrow of its own.
-const TRANSCRIPTS: [&[&[&str]]; 19] = [
+const TRANSCRIPTS: [&[&[&str]]; 20] = [
     aborts::TRANSCRIPTS,
     backlog::TRANSCRIPTS,
     closing::TRANSCRIPTS,
@@ -91,6 +92,7 @@ const TRANSCRIPTS: [&[&[&str]]; 19] = [
     simultaneous::TRANSCRIPTS,
     table::TRANSCRIPTS,
     timers::TRANSCRIPTS,
+    turns::TRANSCRIPTS,
     windows::TRANSCRIPTS,
 ];
 

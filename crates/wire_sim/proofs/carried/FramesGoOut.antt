@@ -34,7 +34,7 @@ use Rattle.sockets.specs.declared.entry.SocketId.{SocketId}
 use Rattle.sockets.specs.declared.entry.Entry.{Entry}
 use Rattle.sockets.specs.declared.role.Role.TheVariants.{Connected, Datagrams}
 use Rattle.sockets.specs.Entries.{sends, due_to, source_of, with_first, with_role, role_after_emission, emission_fate_of, entries_after_step}
-use Rattle.sockets.specs.Emission.{emitted, emitted_octets, after_segment_sent}
+use Rattle.sockets.specs.Emission.{emitted, emitted_octets, after_segment_sent, in_turn}
 use Rattle.sockets.specs.Lists.{change_first}
 use Rattle.sockets.proofs.Emitting.{segment_sent-found}
 use Rattle.sockets.specs.SocketsView.{SocketsView, later_moment}
@@ -56,7 +56,7 @@ use Rattle.wire_sim.proofs.lists.FoundAfterChange.{All-find, All-at, All-added, 
 use Rattle.wire_sim.proofs.emission.SegmentsGoOut.{Emits}
 use Rattle.wire_sim.proofs.pairing.EmissionIsMove.{emission_of, bag_after, among-new, GoesReset, GoesOn, projects-emitted}
 use Rattle.wire_sim.proofs.pairing.WorldAsPairings.{Sent, Bag, Projects}
-use Rattle.wire_sim.proofs.pairing.CallsAreMoves.{projects-quiet_at}
+use Rattle.wire_sim.proofs.pairing.CallsAreMoves.{projects-alike, projects-quiet_at}
 use Rattle.wire_sim.proofs.carried.TableSends.{IsNext, IsDatagramDue, OfConnection, OfSocket, sends-for, segment-framed, part-framed, part-unheard}
 use Rattle.wire_sim.proofs.carried.FramesCarry.{IsTallied, at_side-noted, IsSent, Carries, Carried, carried-more}
 use Rattle.wire_sim.proofs.tables.TableById.{entry_with, IsOpened, found-role}
@@ -155,13 +155,14 @@ segment-sent : (limit : ℕ) (hs ts : Side) (a b : Addr) (h : HostView) (other :
 segment-sent limit hs ts a b h other n bag trace f moment mac to e what c l due chosen is_role first is_to leads tallied sound sender octets note p carried =
     let own = h.sockets in
     let goes = goes_out_from h moment in
-    let test = sends goes in
+    let test = in_turn own (sends goes) in
     let found = chosen.found in
     let emits : Emits own.entries test e c l due = record { found = found; role = is_role; first = first } in
     let solid : IsSoundConnection c = subst IsSoundRole is_role (All-find (λ (e : Entry). IsSoundRole e.role) test own.entries e sound.table.entries found) in
     let may = due-may c due solid.sound first in
     let now = later_moment own moment in
-    let next : SocketsView = record own { entries = entries_after_step (emission_fate_of (role_after_emission now what.1 e.role)) test (role_after_emission now what.1) own.entries } in
+    let stepped : SocketsView = record own { entries = entries_after_step (emission_fate_of (role_after_emission now what.1 e.role)) test (role_after_emission now what.1) own.entries } in
+    let next : SocketsView = record stepped { turn = e.id } in
     let becomes : after_segment_sent own goes moment ≡ next = segment_sent-found own goes moment e what found chosen.is in
     let role = found-role test own.entries (record { id = e.id; role = Connected c l }) p.own_table.sole (found ∙ ap Some (entry_with e (Connected c l) is_role)) in
     let opened : IsOpened hs a n.openings e.id c = p.own_table.noted e.id (Connected c l) role in
@@ -176,7 +177,7 @@ segment-sent limit hs ts a b h other n bag trace f moment mac to e what c l due 
     subst (λ w. WentOut limit hs ts a b w other (n.frames ++ f ∷ []) n.openings trace) (sym becomes)
     (elim (projects-emitted limit hs ts a b own other bag n.openings trace now what.1 test e c l due emits sound.table p) [
       | GoesReset is_reset q ↦
-          went-aside limit hs ts a b next other bag n.frames n.openings trace f sender q carried
+          went-aside limit hs ts a b next other bag n.frames n.openings trace f sender (projects-alike limit hs ts a b stepped next other bag n.openings trace refl refl refl q) carried
           (carries-reset n b hs ts bag.out f (segment_frame_to h.interface mac c.peer.addr (sent_octets h.interface.addr c.peer.addr (head_of c due) (octets_of c due))) h.interface.addr c.peer.addr (head_of c due) frame note
           (ap (λ d. let x = flags_of c d in x.rst) is_reset)
           (λ m r e. let two = hears m r e in (two.0, two.1 ∙ ap (λ l. let x : ReceivedSegment = record { source = h.interface.addr; segment = sent_segment (head_of c due) l } in x) (ap (octets_of c) is_reset))))
@@ -184,7 +185,7 @@ segment-sent limit hs ts a b h other n bag trace f moment mac to e what c l due 
           let more = bag_after hs ts n.openings trace c due bag in
           record {
             bag = more;
-            projects = q;
+            projects = projects-alike limit hs ts a b stepped next other more n.openings trace refl refl refl q;
             carried = All-added (Carried hs ts a b more) n.frames f
                 (All-weaker (Carried hs ts a b bag) (Carried hs ts a b more) (λ g was. carried-more hs ts a b bag (pair_of c.local c.peer) (epoch_of n.openings (pair_of c.local c.peer)) (emission_of hs ts n.openings trace c due) g was) n.frames carried)
                 (inl (
@@ -204,17 +205,18 @@ part-sent : (limit : ℕ) (hs ts : Side) (a b : Addr) (h : HostView) (other : So
 part-sent limit hs ts a b h other n bag trace f moment mac to e what bound socket chosen role due leads sound sender octets p carried =
     let own = h.sockets in
     let goes = goes_out_from h moment in
-    let test = sends goes in
+    let test = in_turn own (sends goes) in
     let now = later_moment own moment in
     let x : Entry = record { id = e.id; role = Datagrams bound socket } in
     let at : find test own.entries ≡ Some x = chosen.found ∙ ap Some (entry_with e (Datagrams bound socket) role) in
-    let next : SocketsView = record own { entries = change_first test (with_role (role_after_emission now what.1)) own.entries } in
+    let changed : SocketsView = record own { entries = change_first test (with_role (role_after_emission now what.1)) own.entries } in
+    let next : SocketsView = record changed { turn = x.id } in
     let becomes : after_segment_sent own goes moment ≡ next = segment_sent-found own goes moment x what at (ap (due_to goes) (sym role) ∙ chosen.is) in
     let parts : List ℕ = due_octets (source_of own.addr bound) (with_first what.1 socket) in
     let whole = way-mac h.interface moment to mac sound.interface leads in
     subst (λ w. WentOut limit hs ts a b w other (n.frames ++ f ∷ []) n.openings trace) (sym becomes)
     (went-aside limit hs ts a b next other bag n.frames n.openings trace f sender
-    (projects-quiet_at limit hs ts a b own other bag n.openings trace test (role_after_emission now what.1) x at refl (λ noted. noted) p) carried
+    (projects-alike limit hs ts a b changed next other bag n.openings trace refl refl refl (projects-quiet_at limit hs ts a b own other bag n.openings trace test (role_after_emission now what.1) x at refl (λ noted. noted) p)) carried
     (carries-none b hs ts bag.out f (part_frame_to h.interface mac to due.part parts) (octets ∙ part-framed h.interface mac to own goes e what bound socket due chosen role)
     (λ m r e. part-unheard h.interface mac to due.part parts m b r whole sound.interface.mac e)))
 

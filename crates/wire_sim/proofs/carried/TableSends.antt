@@ -28,7 +28,7 @@ use Rattle.sockets.specs.declared.entry.SocketId.{SocketId}
 use Rattle.sockets.specs.declared.entry.Entry.{Entry}
 use Rattle.sockets.specs.declared.role.Role.{Role}
 use Rattle.sockets.specs.declared.role.Role.TheVariants.{Idle, Listener, Connected, Datagrams}
-use Rattle.sockets.specs.Emission.{emitted, emitted_octets}
+use Rattle.sockets.specs.Emission.{emitted, emitted_octets, in_turn}
 use Rattle.sockets.specs.Entries.{sends, due_to, due_emitted, due_octets, place_of, source_of, with_first}
 use Rattle.sockets.specs.SocketsView.{SocketsView}
 use Rattle.sockets.proofs.Emitting.{found_due, emitted-found, emitted_octets-found, first_segment, first_datagram}
@@ -38,7 +38,7 @@ use Rattle.host.proofs.Emitting.{table_from, none_from}
 
 -- Of the entries that have something due to an address that passes a test, this is the first, and this is the first of it, with its peer.
 pub record IsNext (own : SocketsView) (goes : Addr → Bool) (e : Entry) (due : Endpoint × Outgoing) : Type 0 where
-  pub found : find (sends goes) own.entries ≡ Some e
+  pub found : find (in_turn own (sends goes)) own.entries ≡ Some e
   pub is : due_to goes e.role ≡ Some due
 
 -- What a UDP socket has in a place, with its peer.
@@ -101,7 +101,7 @@ sends-for h moment mac to = by_place (position (is_due h.interface moment) h.int
     by_role e what next (Listener local backlog) role leading = let none : due_to goes (Listener local backlog) ≡ Some what = ap (due_to goes) (sym role) ∙ next.is in cc
     by_role e what next (Idle buffers bound) role leading = let none : due_to goes (Idle buffers bound) ≡ Some what = ap (due_to goes) (sym role) ∙ next.is in cc
 
-    by_entry : (o : Option Entry) → find (sends goes) h.sockets.entries ≡ o → table_emission h moment ≡ Sends mac to → SendsFor h moment mac to
+    by_entry : (o : Option Entry) → find (in_turn h.sockets (sends goes)) h.sockets.entries ≡ o → table_emission h moment ≡ Sends mac to → SendsFor h moment mac to
     by_entry None found same = let no = sym (none_from h moment found) ∙ same in cc
     by_entry (Some e) found same =
         let due = found_due h.sockets goes e found in
@@ -109,7 +109,7 @@ sends-for h moment mac to = by_place (position (is_due h.interface moment) h.int
 
     by_place : (o : Option ℕ) → emission_at h moment o ≡ Sends mac to → SendsFor h moment mac to
     by_place (Some place) same = cc
-    by_place None same = by_entry (find (sends goes) h.sockets.entries) refl same
+    by_place None same = by_entry (find (in_turn h.sockets (sends goes)) h.sockets.entries) refl same
 
 -- the frame of a segment
 pub segment-framed : (i : InterfaceView) (mac : Mac) (to : Addr) (own : SocketsView) (goes : Addr → Bool) (e : Entry) (what : Endpoint × Outgoing) (c : View) (l : Option SocketId) (due : Due) → IsNext own goes e what → e.role ≡ Connected c l

@@ -13,7 +13,7 @@ use Rattle.sockets.specs.declared.entry.Entry.{Entry}
 use Rattle.sockets.specs.declared.entry.SocketId.{SocketId}
 use Rattle.sockets.specs.Arrival.{Arrival, Becomes, Opens, NoRoom, Answers, local_end, peer_end, is_opening, has_no_room, after_opening, arrival_with_reply, opening, arrival_at, arrival_alone, arrival_at_connection, arrival, room_for}
 use Rattle.sockets.specs.Entries.{sends, is_between, is_listening_at, new_waiting, fate_of, role_after_segment, role_after_unreachable, unreachable_fate_of, role_after_tick, tick_fate_of, role_after_emission, emission_fate_of, entries_after_step}
-use Rattle.sockets.specs.Emission.{after_segment_sent}
+use Rattle.sockets.specs.Emission.{after_segment_sent, in_turn}
 use Rattle.sockets.proofs.Emitting.{found_due, segment_sent-found, segment_sent-none}
 use Rattle.sockets.specs.declared.emission.Outgoing.{Outgoing}
 use Rattle.sockets.specs.Lost.{after_giving_up, give_up_fate_of, role_after_giving_up}
@@ -29,6 +29,10 @@ use Rattle.wire_sim.proofs.datagrams.TablesKeepToAccepted.{IsEntryOf, AreEntries
 with_entries : (own other : List Accepted) (h : SocketsView) (entries : List Entry) → IsTableOf own other h → AreEntriesOf own other h.addr entries
     → IsTableOf own other (record h { entries = entries })
 with_entries own other h entries t are = record { numbered = t.numbered; in_turn = t.in_turn; sockets = are }
+
+-- .. and whoever sent last
+with_turn : (own other : List Accepted) (h : SocketsView) (turn : SocketId) → IsTableOf own other h → IsTableOf own other (record h { turn = turn })
+with_turn own other h turn t = record { numbered = t.numbered; in_turn = t.in_turn; sockets = t.sockets }
 
 -- A segment arrives.
 
@@ -129,14 +133,15 @@ kept-giving_up own other h lost now t = with_entries own other h _ t
 -- What is due goes out.
 
 pub kept-going_out : (own other : List Accepted) (h : SocketsView) (goes : Addr → Bool) (now : Moment) → IsTableOf own other h → IsTableOf own other (after_segment_sent h goes now)
-kept-going_out own other h goes now t = by_entry (find (sends goes) h.entries) refl
+kept-going_out own other h goes now t = by_entry (find (in_turn h (sends goes)) h.entries) refl
   where
-    by_entry : (o : Option Entry) → find (sends goes) h.entries ≡ o → IsTableOf own other (after_segment_sent h goes now)
+    by_entry : (o : Option Entry) → find (in_turn h (sends goes)) h.entries ≡ o → IsTableOf own other (after_segment_sent h goes now)
     by_entry None at = subst (IsTableOf own other) (sym (segment_sent-none h goes now at)) t
     by_entry (Some e) at =
         let due = found_due h goes e at in
         let what : Outgoing = due.0.1 in
         let moment : Moment = later_moment h now in
         subst (IsTableOf own other) (sym (segment_sent-found h goes now e due.0 at due.1))
+        (with_turn own other _ e.id
         (with_entries own other h _ t
-        (are-settled own other h.addr (emission_fate_of (role_after_emission moment what e.role)) (role_after_emission moment what) (keeps-emitting moment what) (sends goes) h.entries t.sockets))
+        (are-settled own other h.addr (emission_fate_of (role_after_emission moment what e.role)) (role_after_emission moment what) (keeps-emitting moment what) (in_turn h (sends goes)) h.entries t.sockets)))

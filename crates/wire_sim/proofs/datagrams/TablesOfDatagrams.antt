@@ -25,6 +25,7 @@ use Rattle.sockets.specs.declared.role.Role.{Role}
 use Rattle.sockets.specs.declared.role.Role.TheVariants.{Idle, Listener, Connected, Datagrams}
 use Rattle.sockets.specs.Calls.{bound_of, last_port_after, reach_refusal}
 use Rattle.sockets.specs.Datagrams.{datagrams_bound, sending_end, end_sent_from, sendto_answer, next_identification, after_sendto, recvfrom_answer, after_recvfrom, reception, after_reception}
+use Rattle.sockets.specs.Emission.{in_turn as has_turn}
 use Rattle.sockets.specs.Entries.{sends, is_socket, is_datagrams_at, with_role, source_of, uses_datagram_port, has_socket, has_room_to_send, role_after_sendto, role_after_recvfrom, role_after_reception}
 use Rattle.sockets.specs.Lists.{change_first}
 use Rattle.sockets.specs.Ports.{first_port, is_free_datagram_port}
@@ -50,13 +51,13 @@ found-of own other h test e r at is t =
 -- What is due at a UDP socket was accepted; where it isn't bound nothing is due.
 
 pub due-of_one : (own other : List Accepted) (h : SocketsView) (goes : Addr → Bool) (e : Entry) (bound : Option Endpoint) (s : SocketView) (place : ℕ) (peer : Endpoint) (part : Part) (d : Datagram)
-    → find (sends goes) h.entries ≡ Some e → e.role ≡ Datagrams bound s → peer_at place s.outbox ≡ Some peer → due_part (brought place s) ≡ Some part
+    → find (has_turn h (sends goes)) h.entries ≡ Some e → e.role ≡ Datagrams bound s → peer_at place s.outbox ≡ Some peer → due_part (brought place s) ≡ Some part
     → Carries h.addr peer.addr part (due_octets (source_of h.addr bound) (brought place s)) d → IsTableOf own other h → IsOfOne own d
 due-of_one own other h goes e (Some local) s place peer part d at is for told carries t =
-    let here = found-of own other h (sends goes) e (Datagrams (Some local) s) at is t in
+    let here = found-of own other h (has_turn h (sends goes)) e (Datagrams (Some local) s) at is t in
     due_is_of_one own other (record { addr = h.addr; port = local.port }) peer s place part d here.1 for told carries
 due-of_one own other h goes e None s place peer part d at is for told carries t =
-    let here : s ≡ new_socket = found-of own other h (sends goes) e (Datagrams None s) at is t in
+    let here : s ≡ new_socket = found-of own other h (has_turn h (sends goes)) e (Datagrams None s) at is t in
     let none : None ≡ Some peer = sym (ap (λ (x : SocketView). peer_at place x.outbox) here) ∙ for in cc
 
 -- A datagram comes.

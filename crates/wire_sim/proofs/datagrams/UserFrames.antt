@@ -30,7 +30,7 @@ use Rattle.interface.specs.Sound.{IsSound, IsSoundReply}
 use Rattle.sockets.specs.declared.emission.Outgoing.{Outgoing}
 use Rattle.sockets.specs.declared.entry.Entry.{Entry}
 use Rattle.sockets.specs.declared.role.Role.TheVariants.{Datagrams}
-use Rattle.sockets.specs.Emission.{emitted, emitted_octets}
+use Rattle.sockets.specs.Emission.{emitted, emitted_octets, in_turn}
 use Rattle.sockets.specs.Entries.{sends, place_of, source_of, with_first}
 use Rattle.sockets.specs.SocketsView.{later_moment}
 use Rattle.host.specs.HostView.{HostView}
@@ -99,7 +99,7 @@ keeps-part : (own other : List Accepted) (h : HostView) (moment : Moment) (mac :
 keeps-part own other h moment mac to e what bound socket next role due for leads sound keeps =
     let table = h.sockets in
     let goes = goes_out_from h moment in
-    let entry : IsEntryOf own other table.addr (Datagrams bound socket) = subst (IsEntryOf own other table.addr) role (All-find (λ (e : Entry). IsEntryOf own other table.addr e.role) (sends goes) table.entries e keeps.sockets next.found) in
+    let entry : IsEntryOf own other table.addr (Datagrams bound socket) = subst (IsEntryOf own other table.addr) role (All-find (λ (e : Entry). IsEntryOf own other table.addr e.role) (in_turn table (sends goes)) table.entries e keeps.sockets next.found) in
     subst (KeepsTo own) (sym (part-framed h.interface mac to table goes e what bound socket due next role))
     (by_bound bound entry (way-mac h.interface moment to mac sound.interface leads))
   where

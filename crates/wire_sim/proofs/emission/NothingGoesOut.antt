@@ -14,7 +14,7 @@ use Rattle.sockets.specs.declared.entry.Entry.{Entry}
 use Rattle.sockets.specs.declared.role.Role.{Role}
 use Rattle.sockets.specs.declared.role.Role.TheVariants.{Idle, Listener, Connected, Datagrams}
 use Rattle.sockets.specs.Entries.{sends, due_to, due_emitted}
-use Rattle.sockets.specs.Emission.{emitted, after_segment_sent}
+use Rattle.sockets.specs.Emission.{emitted, after_segment_sent, in_turn}
 use Rattle.sockets.specs.SocketsView.{SocketsView, later_moment}
 use Rattle.sockets.proofs.Emitting.{found_due, first_segment, emitted-found, segment_sent-none}
 use Rattle.host.specs.HostView.{HostView, with_sockets}
@@ -39,9 +39,9 @@ unmapped f (Some x) none = cc
 
 -- where nothing is told to go out, nothing does
 unsent : (own : SocketsView) (goes : Addr → Bool) (moment : Moment) → emitted own goes ≡ None → after_segment_sent own goes moment ≡ own
-unsent own goes moment none = by_entry (find (sends goes) own.entries) refl
+unsent own goes moment none = by_entry (find (in_turn own (sends goes)) own.entries) refl
   where
-    by_entry : (o : Option Entry) → find (sends goes) own.entries ≡ o → after_segment_sent own goes moment ≡ own
+    by_entry : (o : Option Entry) → find (in_turn own (sends goes)) own.entries ≡ o → after_segment_sent own goes moment ≡ own
     by_entry None found = segment_sent-none own goes moment found
     by_entry (Some e) found =
         let due = found_due own goes e found in

@@ -16,6 +16,7 @@ use Rattle.sockets.specs.declared.role.Role.{Role}
 use Rattle.sockets.specs.declared.role.Role.TheVariants.{Idle, Listener, Connected, Datagrams}
 use Rattle.sockets.specs.Causes as table
 use Rattle.sockets.specs.Causes.{after_arrival, after_event}
+use Rattle.sockets.specs.Emission.{in_turn}
 use Rattle.sockets.specs.Entries.{sends}
 use Rattle.sockets.specs.Sound.{IsSoundTable}
 use Rattle.sockets.specs.SocketsView.{SocketsView, later_moment}
@@ -76,7 +77,7 @@ way-known i now to mac = by_hop (next_hop i.routes to)
 
 -- a segment that goes out leads to the other host
 segment-leads : (limit : ℕ) (w : WorldView) (run : IsReached limit w) (side : Side) (moment : Moment) (mac : Mac) (to : Addr) → emission (host_of w.network side) moment ≡ Sends mac to
-    → (id : SocketId) (c : View) (l : Option SocketId) → find (sends (goes_out_from (host_of w.network side) moment)) (let t = table_of w.network side in t.entries) ≡ Some (entry id (Connected c l))
+    → (id : SocketId) (c : View) (l : Option SocketId) → find (in_turn (table_of w.network side) (sends (goes_out_from (host_of w.network side) moment))) (let t = table_of w.network side in t.entries) ≡ Some (entry id (Connected c l))
     → LeadsBy (config_of limit w run side) (config_of limit w run (other_side side)) c.peer.addr
 segment-leads limit w run side moment mac to is id c l found = elim (sends-for h moment mac to is) [
   | OfConnection e what d k due next role first at leads ↦
@@ -112,7 +113,7 @@ going-out limit w run side moment sound leads from before = by_emission (emissio
     where_to : (mac : Mac) (to : Addr) → emission h moment ≡ Sends mac to → GoesWhere leads h.sockets (table.Emits (goes_out_from h moment) moment)
     where_to mac to is goes now id c l same found =
         let goes_same : goes_out_from h moment ≡ goes = cc in
-        from c.peer.addr (segment-leads limit w run side moment mac to is id c l (subst (λ (g : Addr → Bool). find (sends g) h.sockets.entries ≡ Some (entry id (Connected c l))) (sym goes_same) found))
+        from c.peer.addr (segment-leads limit w run side moment mac to is id c l (subst (λ (g : Addr → Bool). find (in_turn h.sockets (sends g)) h.sockets.entries ≡ Some (entry id (Connected c l))) (sym goes_same) found))
 
     by_emission : (x : Emission) → emission h moment ≡ x → EachHasHop leads (let left = left_by h moment x in left.sockets)
     by_emission (Replies place) is = before

@@ -11,6 +11,7 @@ use Rattle.sockets.specs.declared.entry.SocketId.{SocketId}
 use Rattle.sockets.specs.declared.role.Role.{Role}
 use Rattle.sockets.specs.declared.role.Role.TheVariants.{Idle, Listener, Connected, Datagrams}
 use Rattle.sockets.specs.Causes.{Event, Emits, after_event}
+use Rattle.sockets.specs.Emission.{in_turn}
 use Rattle.sockets.specs.Entries.{sends}
 use Rattle.sockets.specs.Sound.{IsSoundRole, IsSoundTable}
 use Rattle.sockets.specs.SocketsView.{SocketsView, later_moment}
@@ -32,7 +33,7 @@ EachHasHop leads h = AllByRecursion (λ (x : Entry). HasHopIn leads x.role) h.en
 
 -- what an event of a table sends goes out to such an address
 abbrev pub GoesWhere : (Addr → Type 0) → SocketsView → Event → Type 0
-GoesWhere leads h e = (goes : Addr → Bool) (now : Moment) (id : SocketId) (c : View) (l : Option SocketId) → e ≡ Emits goes now → find (sends goes) h.entries ≡ Some (entry id (Connected c l)) → leads c.peer.addr
+GoesWhere leads h e = (goes : Addr → Bool) (now : Moment) (id : SocketId) (c : View) (l : Option SocketId) → e ≡ Emits goes now → find (in_turn h (sends goes)) h.entries ≡ Some (entry id (Connected c l)) → leads c.peer.addr
 
 -- its address stays
 hop-kept : (leads : Addr → Type 0) (c : View) (ev : edge.Event) → leads c.peer.addr → leads (let d = edge.after_event c ev in d.peer.addr)

@@ -31,7 +31,7 @@ use Rattle.sockets.specs.Ids.{has_id}
 use Rattle.sockets.specs.SocketsView.{SocketsView, holder_id, later_moment, room_of}
 use Rattle.sockets.specs.Ticks as table_ticks
 use Rattle.sockets.specs.Lost.{give_up_fate_of, role_after_giving_up, after_giving_up}
-use Rattle.sockets.specs.Emission.{after_segment_sent}
+use Rattle.sockets.specs.Emission.{after_segment_sent, in_turn}
 use Rattle.sockets.proofs.Emitting.{found_due, segment_sent-found, segment_sent-none}
 use Rattle.interface.specs.Ways.{is_routed}
 use Rattle.sockets.specs.Unreachable.{after_unreachable}
@@ -239,18 +239,18 @@ tick-keeps h moment pair none =
     given_up-keeps (table_ticks.after_tick h.sockets at) (host_ticks.lacks_hop h at) at pair (ticked-keeps h.sockets at pair none)
 
 sent-keeps : (own : SocketsView) (goes : Addr → Bool) (moment : Moment) → KeepsPairs own (after_segment_sent own goes moment)
-sent-keeps own goes moment pair none = by_due (find (sends goes) own.entries) refl
+sent-keeps own goes moment pair none = by_due (find (in_turn own (sends goes)) own.entries) refl
   where
     at : Moment
     at = later_moment own moment
 
-    by_due : (o : Option Entry) → find (sends goes) own.entries ≡ o → find (is_of_pair pair) (let w = after_segment_sent own goes moment in w.entries) ≡ None
+    by_due : (o : Option Entry) → find (in_turn own (sends goes)) own.entries ≡ o → find (is_of_pair pair) (let w = after_segment_sent own goes moment in w.entries) ≡ None
     by_due None is = ap (λ (w : SocketsView). find (is_of_pair pair) w.entries) (segment_sent-none own goes moment is) ∙ none
     by_due (Some e) is =
         let due = found_due own goes e is in
         let what : Outgoing = due.0.1 in
         ap (λ (w : SocketsView). find (is_of_pair pair) w.entries) (segment_sent-found own goes moment e due.0 is due.1)
-        ∙ unheld-settled (emission_fate_of (role_after_emission at what e.role)) (sends goes) (role_after_emission at what) pair own.entries (unheld_emitted_at at what) none
+        ∙ unheld-settled (emission_fate_of (role_after_emission at what e.role)) (in_turn own (sends goes)) (role_after_emission at what) pair own.entries (unheld_emitted_at at what) none
 
 emission-keeps : (h : HostView) (now : Moment) → KeepsPairs h.sockets (let w = after_emission h now in w.sockets)
 emission-keeps h now pair none = by_emission (emission h moment)

@@ -23,7 +23,7 @@ use Rattle.sockets.specs.declared.emission.Outgoing.{Outgoing}
 use Rattle.sockets.specs.declared.entry.Entry.{Entry}
 use Rattle.sockets.specs.declared.role.Role.{Role}
 use Rattle.sockets.specs.declared.role.Role.TheVariants.{Idle, Listener, Connected, Datagrams}
-use Rattle.sockets.specs.Emission.{Next, next_out}
+use Rattle.sockets.specs.Emission.{Next, next_out, in_turn}
 use Rattle.sockets.specs.Entries.{sends, due_to, place_of, source_of, with_first}
 use Rattle.sockets.specs.Sound.{IsSoundRole}
 use Rattle.sockets.specs.SocketsView.{later_moment}
@@ -129,7 +129,7 @@ asking h moment hop = by_place (position (is_due h.interface moment) h.interface
     by_way e what next (Ask own) is same = let one : own ≡ hop = cc in record { e = e; what = what; next = next; leads = is ∙ ap Ask one }
     by_way e what next Waits is same = cc
 
-    by_entry : (o : Option Entry) → find (sends goes) h.sockets.entries ≡ o → table_emission h moment ≡ Asks hop → Asking h moment hop
+    by_entry : (o : Option Entry) → find (in_turn h.sockets (sends goes)) h.sockets.entries ≡ o → table_emission h moment ≡ Asks hop → Asking h moment hop
     by_entry None found same = let no = sym (none_from h moment found) ∙ same in cc
     by_entry (Some e) found same =
         let due = found_due h.sockets goes e found in
@@ -137,7 +137,7 @@ asking h moment hop = by_place (position (is_due h.interface moment) h.interface
 
     by_place : (o : Option ℕ) → emission_at h moment o ≡ Asks hop → Asking h moment hop
     by_place (Some place) same = cc
-    by_place None same = by_entry (find (sends goes) h.sockets.entries) refl same
+    by_place None same = by_entry (find (in_turn h.sockets (sends goes)) h.sockets.entries) refl same
 
 -- the peer's address has four octets
 role-peer : (own other : List Accepted) (h : HostView) (goes : Addr → Bool) (r : Role) (what : Endpoint × Outgoing) → IsTableOf own other h.sockets → IsSoundRole r → IsEntryOf own other h.sockets.addr r → due_to goes r ≡ Some what → length what.0.addr.0 ≡ 4
@@ -157,8 +157,8 @@ asked-spelled : (own other : List Accepted) (h : HostView) (moment : Moment) (ho
 asked-spelled own other h moment hop sound keeps routes is =
     let k = asking h moment hop is in
     let table = sound.table in
-    let solid : IsSoundRole k.e.role = All-find (λ (x : Entry). IsSoundRole x.role) (sends (goes_out_from h moment)) h.sockets.entries k.e table.entries k.next.found in
-    let entry : IsEntryOf own other h.sockets.addr k.e.role = All-find (λ (x : Entry). IsEntryOf own other h.sockets.addr x.role) (sends (goes_out_from h moment)) h.sockets.entries k.e keeps.sockets k.next.found in
+    let solid : IsSoundRole k.e.role = All-find (λ (x : Entry). IsSoundRole x.role) (in_turn h.sockets (sends (goes_out_from h moment))) h.sockets.entries k.e table.entries k.next.found in
+    let entry : IsEntryOf own other h.sockets.addr k.e.role = All-find (λ (x : Entry). IsEntryOf own other h.sockets.addr x.role) (in_turn h.sockets (sends (goes_out_from h moment))) h.sockets.entries k.e keeps.sockets k.next.found in
     asked-whole h.interface moment k.what.0.addr hop routes (role-peer own other h (goes_out_from h moment) k.e.role k.what keeps solid entry k.next.is) k.leads
 
 -- Whatever goes out.

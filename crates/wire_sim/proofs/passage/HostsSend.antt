@@ -36,7 +36,7 @@ use Rattle.sockets.specs.declared.entry.Entry.{Entry}
 use Rattle.sockets.specs.declared.entry.SocketId.{SocketId}
 use Rattle.sockets.specs.declared.role.Role.{Role}
 use Rattle.sockets.specs.declared.role.Role.TheVariants.{Idle, Listener, Connected, Datagrams}
-use Rattle.sockets.specs.Emission.{Next, next_out}
+use Rattle.sockets.specs.Emission.{Next, next_out, in_turn}
 use Rattle.sockets.specs.Entries.{sends, due_to, place_of, source_of, with_first}
 use Rattle.sockets.specs.Order.{IsOrdered}
 use Rattle.sockets.specs.SocketsView.{later_moment}
@@ -131,14 +131,14 @@ goes-said i octets c own g mac ours =
     ∙ ap (λ (s : Segment). heard_as (datagram_sent i c.mac c.to (segment_said i s)) mac ours) (sym g.segment)
 
 -- by what goes out next
-sent-next : (h : HostView) (moment : Moment) (mac : Mac) (to : Addr) (e : Entry) (what : Endpoint × Outgoing) → find (sends (goes_out_from h moment)) h.sockets.entries ≡ Some e → due_to (goes_out_from h moment) e.role ≡ Some what
+sent-next : (h : HostView) (moment : Moment) (mac : Mac) (to : Addr) (e : Entry) (what : Endpoint × Outgoing) → find (in_turn h.sockets (sends (goes_out_from h moment))) h.sockets.entries ≡ Some e → due_to (goes_out_from h moment) e.role ≡ Some what
     → sent_by h moment (Sends mac to) ≡ option_map (datagram_sent h.interface mac to) (due_said h mac to what.1 e.role)
 sent-next h moment mac to e what found is =
     ap (λ (o : Option Next). option_map (datagram_sent h.interface mac to) (option_and_then (λ (next : Next). due_said h mac to next.what next.entry.role) o)) (next-found h.sockets (goes_out_from h moment) e what found is)
 
 pub sends-carried : (h : HostView) (moment : Moment) (mac : Mac) (to : Addr) (c : Carried) → carried_by h moment (Sends mac to) ≡ Some c
     → sent_by h moment (Sends mac to) ≡ Some (datagram_sent h.interface c.mac c.to (segment_said h.interface c.segment))
-sends-carried h moment mac to c = by_entry (find (sends goes) h.sockets.entries) refl
+sends-carried h moment mac to c = by_entry (find (in_turn h.sockets (sends goes)) h.sockets.entries) refl
   where
     goes : Addr → Bool
     goes = goes_out_from h moment
@@ -161,14 +161,14 @@ sends-carried h moment mac to c = by_entry (find (sends goes) h.sockets.entries)
     by_role what (Listener local backlog) is = cc
     by_role what (Idle buffers bound) is = cc
 
-    by_entry : (o : Option Entry) → find (sends goes) h.sockets.entries ≡ o → option_map made (option_and_then (λ (e : Entry). due_segment e.role) o) ≡ Some c
+    by_entry : (o : Option Entry) → find (in_turn h.sockets (sends goes)) h.sockets.entries ≡ o → option_map made (option_and_then (λ (e : Entry). due_segment e.role) o) ≡ Some c
         → sent_by h moment (Sends mac to) ≡ Some (datagram_sent i c.mac c.to (segment_said i c.segment))
     by_entry None found is = cc
     by_entry (Some e) found is =
         let due = found_due h.sockets goes e found in
         sent-next h moment mac to e due.0 found due.1 ∙ by_role due.0.1 e.role is
 
-connection-carried : (h : HostView) (moment : Moment) (mac : Mac) (to : Addr) (e : Entry) (c : View) (l : Option SocketId) (due : Due) → find (sends (goes_out_from h moment)) h.sockets.entries ≡ Some e → e.role ≡ Connected c l → first_due c ≡ Some due
+connection-carried : (h : HostView) (moment : Moment) (mac : Mac) (to : Addr) (e : Entry) (c : View) (l : Option SocketId) (due : Due) → find (in_turn h.sockets (sends (goes_out_from h moment))) h.sockets.entries ≡ Some e → e.role ≡ Connected c l → first_due c ≡ Some due
     → carried_by h moment (Sends mac to) ≡ Some (record { mac = mac; to = to; segment = sent_segment (head_of c due) (text_of c due) })
 connection-carried h moment mac to e c l due found role first =
     let made : Segment → Carried = λ s. record { mac = mac; to = to; segment = s } in
@@ -194,7 +194,7 @@ socket-sent : (own other : List Accepted) (h : HostView) (moment : Moment) (mac 
 socket-sent own other h moment mac to e what bound socket next role due for leads sound keeps =
     let table = h.sockets in
     let entry : IsEntryOf own other table.addr (Datagrams bound socket) =
-    subst (IsEntryOf own other table.addr) role (All-find (λ (x : Entry). IsEntryOf own other table.addr x.role) (sends (goes_out_from h moment)) table.entries e keeps.sockets next.found) in
+    subst (IsEntryOf own other table.addr) role (All-find (λ (x : Entry). IsEntryOf own other table.addr x.role) (in_turn table (sends (goes_out_from h moment))) table.entries e keeps.sockets next.found) in
     by_bound bound refl entry
   where
     i : InterfaceView

@@ -11,7 +11,7 @@ use Rattle.sockets.proofs.sockets.Sockets.give_up.Goals as goal
 pub returns : goal.returns
 returns g c = λ test computes.
     let h : SocketsView = c.args.self.now in
-    let inside : SocketsView = record { addr = c.self.inside.addr; manner = c.self.inside.manner; kept = c.self.inside.kept; last_port = c.self.inside.last_port; last_id = c.self.inside.last_id; identification = c.self.inside.identification; sizes = c.self.inside.sizes; entries = c.self.inside.entries.items; offered = c.self.inside.offered.items } in
+    let inside : SocketsView = record { addr = c.self.inside.addr; manner = c.self.inside.manner; kept = c.self.inside.kept; last_port = c.self.inside.last_port; last_id = c.self.inside.last_id; identification = c.self.inside.identification; sizes = c.self.inside.sizes; entries = c.self.inside.entries.items; offered = c.self.inside.offered.items; turn = c.self.inside.turn } in
     let left = c.give_up.ensures.left test computes ∙ ap (λ (m : Moment). entries_after_steps (give_up_fate_of test m) (role_after_giving_up test m) inside.entries) c.later_moment-now.ensures in
     ap (λ (es : List Entry). let w : SocketsView = record inside { entries = es } in w) left
     ∙ ap (λ (w : SocketsView). let u : SocketsView = record w { entries = entries_after_steps (give_up_fate_of test (later_moment h c.args.now)) (role_after_giving_up test (later_moment h c.args.now)) w.entries } in u) c.self.view_is
