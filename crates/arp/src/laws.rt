@@ -1,7 +1,7 @@
 //! Laws of the definitions that the contracts of this crate cite: each is the contract of a function
 //! that does nothing.
 
-ghost use Rattle.std.specs.Prelude.{◌≡◌, ◌≢◌, ℕ, List, ◌++◌, ◌+◌, ◌<◌, ◌≤◌, length, take, filter, fold, All, false, IsTrue, Option, Some, None, Result, Ok, Err};
+ghost use Rattle.std.specs.Prelude.{◌≡◌, ◌≢◌, ℕ, List, [], ◌∷◌, ◌++◌, ◌+◌, ◌<◌, ◌≤◌, length, take, drop, filter, fold, All, false, IsTrue, Option, Some, None, Result, Ok, Err};
 ghost use Rattle.ether.specs.declared.mac.Mac.{Mac};
 ghost use Rattle.ipv4.specs.declared.addr.Addr.{Addr};
 ghost use Rattle.arp.specs.declared.packet.ArpFault.{ArpFault};
@@ -13,8 +13,17 @@ ghost use Rattle.clock.specs.declared.moment.Moment.{Moment};
 ghost use Rattle.arp.specs.Cache.{Cache, is_live, is_pair_of, after_hear, look, after_age, may_ask, asked_after, after_ask, requests_left, IsNextAsk};
 ghost use Rattle.ipv4.specs.Addresses.{same_addr};
 ghost use Rattle.arp.specs.Events.{Event, moment_of, after_event, cache_after, IsLastFrom};
-ghost use Rattle.arp.specs.Packet.{spelling, HasWidths, Spells, IsParsed};
+ghost use Rattle.arp.specs.Packet.{spelling, request_of, reply_to, HasWidths, Spells, IsParsed};
 ghost use Rattle.arp.specs.Reading.{packet_in};
+
+/// A request names whom it seeks, and who seeks it: its target is the address whose MAC is wanted, and its sender's pair is that of the host that asks, by which it is answered. On the wire
+/// a request has the operation 1 and a reply 2 (RFC 826).
+pub fn requests_name_whom_they_seek()
+    ensures target { (mac : Mac) (own sought : Addr) → (request_of mac own sought).target_addr ≡ sought }
+    ensures sender { (mac : Mac) (own sought : Addr) → ((request_of mac own sought).sender_addr ≡ own) × ((request_of mac own sought).sender_mac ≡ mac) }
+    ensures request { (mac : Mac) (own sought : Addr) → take 2 (drop 6 (spelling (request_of mac own sought))) ≡ 0 ∷ 1 ∷ [] }
+    ensures reply { (p : ArpPacket) (mac : Mac) → take 2 (drop 6 (spelling (reply_to p mac))) ≡ 0 ∷ 2 ∷ [] }
+{}
 
 /// Octets spell at most one packet.
 pub fn one_packet()

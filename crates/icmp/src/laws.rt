@@ -1,6 +1,7 @@
 //! Laws of the definitions that the contracts of this crate cite: each is the contract of a function that does nothing.
 
 ghost use Rattle.std.specs.Prelude.{◌≡◌, ◌↔◌, ℕ, ◌<◌, ◌≤◌, ◌^◌, List, length, All, Bool, Some, Result, Ok, Err};
+ghost use Rattle.inet_sum.specs.Sum.{sum_of};
 ghost use Rattle.ipv4.specs.Datagram.{Datagram, IsDatagram, header_octets};
 ghost use Rattle.icmp.specs.declared.error.Reason.{Reason};
 ghost use Rattle.icmp.specs.declared.error.TheConstants.{QUOTED_LEN};
@@ -22,6 +23,12 @@ pub fn one_answer()
     ensures read { (octets : List ℕ) (answer : Result Message IcmpFault) → All (λ octet. octet < 256) octets
         → (IsParsed octets answer ↔ (message_or_fault octets ≡ answer)) }
     ensures short { (octets : List ℕ) → All (λ octet. octet < 256) octets → (IsParsed octets (Err UpperHeader) ↔ (length octets < 8)) }
+{}
+
+/// What is read as a message has a right checksum: all its octets have the one's complement sum 0xFFFF (RFC 792, RFC 1071). So has what the plain reading answers.
+pub fn sums_are_tested()
+    ensures parsed { (octets : List ℕ) (m : Message) → IsParsed octets (Ok m) → sum_of octets ≡ 65535 }
+    ensures read { (octets : List ℕ) (m : Message) → All (λ octet. octet < 256) octets → message_or_fault octets ≡ Ok m → sum_of octets ≡ 65535 }
 {}
 
 /// What `IcmpView::emit_reply` writes has exactly the request's identifier, number and data, and parses to the reply.

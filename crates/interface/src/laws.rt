@@ -20,6 +20,7 @@ ghost use Rattle.arp.specs.Events.{Event, moment_of, after_event};
 ghost use Rattle.arp.specs.Packet.{HasWidths, request_of};
 ghost use Rattle.routes.specs.declared.route.Route.{Route};
 ghost use Rattle.routes.specs.declared.route.Hop.{Hop};
+ghost use Rattle.routes.specs.declared.route.Hop.TheVariants.{Direct, Gateway};
 ghost use Rattle.routes.specs.Routes.{IsTable, Picks};
 ghost use Rattle.frames.specs.declared.meaning.Meaning.TheVariants as meaning;
 ghost use Rattle.frames.specs.Heard.{MaySend};
@@ -40,6 +41,14 @@ ghost use Rattle.interface.specs.Timing.{end_of, after_tick, asked_until, deadli
 /// The hop that a table of routes picks for an address is the one that `Routes::pick` answers (RFC 4632 section 5.1).
 pub fn one_route()
     ensures { (table : List Route) (addr : Addr) (hop : Option Hop) → IsTable table → Picks table addr hop → pick table addr ≡ hop }
+{}
+
+/// What is for an address goes to that address itself where the best route is a direct one, else to the best route's gateway, and nowhere where no route leads to it (RFC 1122 section
+/// 3.3.1.1).
+pub fn gateways_lead_on()
+    ensures direct { (table : List Route) (to : Addr) → IsTable table → Picks table to (Some Direct) → next_hop table to ≡ Some to }
+    ensures gateway { (table : List Route) (to gateway : Addr) → IsTable table → Picks table to (Some (Gateway gateway)) → next_hop table to ≡ Some gateway }
+    ensures none { (table : List Route) (to : Addr) → IsTable table → Picks table to None → next_hop table to ≡ None }
 {}
 
 /// The MAC of a next hop that is known is a whole one, as `Interface::sound` says of each that is kept.

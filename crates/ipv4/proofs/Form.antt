@@ -202,7 +202,7 @@ read_parts service identification reserved dont_fragment more_fragments offset t
     absurd (omega (arith, fields.source, fields.destination))
 
 -- the same of a datagram
-read_spelled : (d : Datagram) (rest : List ℕ) → IsDatagram d
+pub read_spelled : (d : Datagram) (rest : List ℕ) → IsDatagram d
     → (datagram_of (header_octets d) d.payload ≡ d) × (header_length_field (header_octets d ++ rest) ≡ header_len d) × (word_at (header_octets d ++ rest) 2 ≡ total_len d)
     × (slice_index (header_octets d ++ rest) 0 / 16 ≡ 4) × (length (header_octets d) ≡ header_len d)
 read_spelled d rest fields =

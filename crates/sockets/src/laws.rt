@@ -1,6 +1,6 @@
 //! Laws over the definitions alone: functions with nothing to do, whose contracts are the laws.
 
-ghost use Rattle.std.specs.Prelude.{◌≡◌, ◌⊎◌, ℕ, ◌+◌, ◌-◌, ◌*◌, ◌%◌, ◌^◌, ◌≤◌, ◌<◌, ◌==◌, ◌||◌, Bool, true, false, not, List, [], length, count_by, filter, find, Option, Some, None, Err, is_some, is_ok, option_map};
+ghost use Rattle.std.specs.Prelude.{◌≡◌, ◌⊎◌, ℕ, ◌+◌, ◌-◌, ◌*◌, ◌%◌, ◌^◌, ◌≤◌, ◌<◌, ◌==◌, ◌||◌, Bool, true, false, not, List, [], length, count_by, filter, find, Option, Some, None, Err, is_some, is_ok, option_map, Ok};
 ghost use Rattle.std.specs.List.{AllByRecursion};
 ghost use Rattle.ipv4.specs.declared.addr.Addr.{Addr};
 ghost use Rattle.udp_socket.specs.SocketView.{SocketView, with_sent};
@@ -29,9 +29,10 @@ ghost use Rattle.sockets.specs.Lost.{role_after_giving_up, after_giving_up, wait
 ghost use Rattle.sockets.specs.Arrival.{Opens, NoRoom, Answers, local_end, peer_end, arrival, opened_by, pair_opened};
 ghost use Rattle.sockets.specs.Needs.{IsNeededBy, need};
 ghost use Rattle.sockets.specs.declared.role.Role.{Role};
-ghost use Rattle.sockets.specs.declared.role.Role.TheVariants.{Connected, Datagrams};
+ghost use Rattle.sockets.specs.declared.role.Role.TheVariants.{Connected, Datagrams, Listener};
+ghost use Rattle.sockets.specs.declared.refusal.Refusal.TheVariants.{ENOTCONN};
 ghost use Rattle.sockets.specs.Datagrams.{sendto_answer, after_sendto, sending_end};
-ghost use Rattle.sockets.specs.Calls.{refusal_of, connect_refusal, after_connect, send_answer, recv_answer, shutdown_refusal, pair_connected};
+ghost use Rattle.sockets.specs.Calls.{refusal_of, connect_refusal, after_connect, send_answer, recv_answer, shutdown_refusal, pair_connected, peername_answer, sockname_answer};
 ghost use Rattle.sockets.specs.Pairs.{socket_pair};
 ghost use Rattle.sockets.specs.Sound.{IsSoundTable, NoneIsOver};
 ghost use Rattle.sockets.specs.Timing.{EachKeepsTime, IsNumbered, AreSound, IsNear, AreNear, NoneAsks, IsUpTo};
@@ -165,6 +166,13 @@ pub fn deadline_is_the_least()
 /// A tick before the deadline changes nothing but the kept moment, and so does any tick where there is no deadline.
 pub fn ticks_wait()
     ensures { (h : SocketsView) (now : Moment) → has_come (least_deadline h) (later_moment h now) ≡ false → after_tick h now ≡ record h { kept = later_moment h now } }
+{}
+
+/// The two ends of a connection are told as they are, in any state: `getpeername` tells the peer's and `getsockname` the own (POSIX.1-2017), by which its segments are known (RFC 9293 section 4).
+/// A listener tells where it listens, and has no peer.
+pub fn ends_are_told()
+    ensures connection { (h : SocketsView) (id : SocketId) (c : View) (listener : Option SocketId) → role_of h id ≡ Some (Connected c listener) → (peername_answer h id ≡ Ok c.peer) × (sockname_answer h id ≡ Ok c.local) }
+    ensures listening { (h : SocketsView) (id : SocketId) (local : Endpoint) (backlog : ℕ) → role_of h id ≡ Some (Listener local backlog) → (peername_answer h id ≡ Err ENOTCONN) × (sockname_answer h id ≡ Ok local) }
 {}
 
 /// Between two segments of one entry every other that had something to send all the while has sent: whatever happens behind an emission, where each emission finds an entry with something to send and

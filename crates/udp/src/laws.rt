@@ -2,6 +2,7 @@
 
 ghost use Rattle.std.specs.Prelude.{◌≡◌, ◌≢◌, ℕ, ◌+◌, ◌-◌, ◌*◌, ◌<◌, ◌≤◌, ◌↔◌, true, false, IsTrue, List, [], ◌∷◌, ◌++◌, All, length, map, replicate, take, drop, sum_by, Some, Result, Ok, Err};
 ghost use Rattle.std.specs.List.{flat_map, slice_get};
+ghost use Rattle.byteorder.specs.Endian.{big_bytes};
 ghost use Rattle.inet_sum.specs.Sum.{sum_of};
 ghost use Rattle.ipv4.specs.Datagram.{HasPlace};
 ghost use Rattle.ipv4.specs.declared.addr.Addr.{Addr};
@@ -29,6 +30,15 @@ pub fn read_plainly()
     ensures err { (src dst : Addr) (octets : List ℕ) (fault : UdpFault) → All (λ octet. octet < 256) octets
         → IsParsed src dst octets (Err fault) → datagram_or_fault src dst octets ≡ Err fault }
     ensures parsed { (src dst : Addr) (octets : List ℕ) → All (λ octet. octet < 256) octets → IsParsed src dst octets (datagram_or_fault src dst octets) }
+{}
+
+/// What is read as a UDP datagram that tells a checksum has a right one: the pseudo header, of the two addresses, a zero, the protocol 17 and the datagram's length, and the
+/// datagram itself have the one's complement sum 0xFFFF (RFC 768). So has what the plain reading answers.
+pub fn sums_are_tested()
+    ensures parsed { (src dst : Addr) (octets : List ℕ) (d : UserDatagram) → IsParsed src dst octets (Ok d) → d.checksum ≢ 0
+        → sum_of ((src.0 ++ dst.0 ++ 0 ∷ 17 ∷ [] ++ big_bytes 2 (8 + length d.payload)) ++ spelling d) ≡ 65535 }
+    ensures read { (src dst : Addr) (octets : List ℕ) (d : UserDatagram) → All (λ octet. octet < 256) octets → datagram_or_fault src dst octets ≡ Ok d → d.checksum ≢ 0
+        → sum_of ((src.0 ++ dst.0 ++ 0 ∷ 17 ∷ [] ++ big_bytes 2 (8 + length d.payload)) ++ spelling d) ≡ 65535 }
 {}
 
 /// A UDP datagram has one spelling, up to the padding behind it (RFC 768).

@@ -6,6 +6,7 @@ ghost use Rattle.ipv4.specs.declared.head.Head.{Head};
 ghost use Rattle.ipv4.specs.Datagram.{Datagram, IsDatagram, IsParsed, Spells, spelling, total_len};
 ghost use Rattle.ipv4.specs.Reading.{datagram_in};
 ghost use Rattle.ipv4.specs.Sent.{sent};
+ghost use Rattle.inet_sum.specs.Sum.{sum_of};
 
 /// For all octets there is one answer that `Ipv4View::parse` may give.
 pub fn one_answer()
@@ -18,6 +19,11 @@ pub fn read_plainly()
     ensures ok { (octets : List ℕ) (d : Datagram) → IsParsed octets (Ok d) → datagram_in octets ≡ Ok d }
     ensures err { (octets : List ℕ) (fault : Ipv4Fault) → All (λ octet. octet < 256) octets → IsParsed octets (Err fault) → datagram_in octets ≡ Err fault }
     ensures parsed { (octets : List ℕ) → All (λ octet. octet < 256) octets → IsParsed octets (datagram_in octets) }
+{}
+
+/// What is read as a datagram has a right checksum: its header, the first 20 octets and the options behind them, has the one's complement sum 0xFFFF (RFC 791 section 3.1, RFC 1071).
+pub fn sums_are_tested()
+    ensures { (octets : List ℕ) (d : Datagram) → IsParsed octets (Ok d) → sum_of (take (20 + length d.options) octets) ≡ 65535 }
 {}
 
 /// A datagram has one spelling, up to the padding behind it.
