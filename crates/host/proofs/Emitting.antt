@@ -1,8 +1,8 @@
 -- What goes out for the first entry for which a frame can.
-use Rattle.std.proofs.Common.{◌≡◌, ℕ, zero, suc, ◌+◌, ◌-◌, ◌*◌, ◌≤◌, ◌<◌, min, Bool, true, false, cond, List, [], ◌∷◌, ◌++◌, length, drop, slice_range, slice_get, get_or, Option, Some, None, is_some, option_map, IfSome, refl, sym, ◌∙◌, ap, subst, arith, length-take}
-use Rattle.std.specs.List.{find, position, AllWithin}
+use Rattle.std.proofs.Common.{◌≡◌, ℕ, zero, suc, ◌+◌, ◌-◌, ◌*◌, ◌≤◌, min, Bool, true, false, cond, List, [], ◌∷◌, ◌++◌, length, drop, slice_range, slice_get, Option, Some, None, is_some, option_map, refl, sym, ◌∙◌, ap, subst, arith, length-take}
+use Rattle.std.specs.List.{find, position}
 use Rattle.std.proofs.Math.Seq.{drop-nil}
-use Rattle.std.proofs.lemmas.Option.{slice_get_past, slice_get-get_or}
+use Rattle.std.proofs.lemmas.Option.{slice_get_past}
 use Rattle.std.proofs.lemmas.List.{length-drop}
 use Rattle.ether.specs.declared.mac.Mac.{Mac}
 use Rattle.ipv4.specs.declared.addr.Addr.{Addr}
@@ -27,7 +27,6 @@ use Rattle.sockets.specs.Entries.{due_to, due_emitted, sends, due_octets, due_fr
 use Rattle.sockets.specs.Emission.{Next, IsNextAt, emitted, emitted_octets, emitted_front, in_turn}
 use Rattle.sockets.specs.SocketsView.{SocketsView}
 use Rattle.sockets.proofs.Emitting.{due_outgoing, due_passes, found_due, next-found, next-none, emitted-found, emitted-none, emitted_front-found, emitted_octets-found}
-use Rattle.sockets.proofs.Firsts.{find-position, find-position_none, position-from_fails, position-none_passes}
 use Rattle.udp.specs.declared.cutting.Part.{Part}
 use Rattle.udp.specs.Datagram.{spelling}
 use Rattle.udp.specs.Fragments.{fragment, part_of}
@@ -39,7 +38,7 @@ use borrow.Rule.Slice.PartMut.{mid_of, put_mid}
 use Rattle.host.specs.HostView.{HostView}
 use Rattle.host.specs.declared.emission.Plan.{Plan}
 use Rattle.host.specs.declared.emission.Plan.TheVariants as plan
-use Rattle.host.specs.Plans.{IsFirst, plan_by, plan_to, planned, planned_or_nothing}
+use Rattle.host.specs.Plans.{IsFirst, plan_by, plan_to, planned}
 use Rattle.host.specs.Emission.{Nothing, emission_by, emission_to, emitted_frame, goes_out_from, table_emission}
 
 -- what goes out for the table, by what the first entry of which something can has due

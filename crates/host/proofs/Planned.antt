@@ -6,7 +6,6 @@ use Rattle.std.proofs.lemmas.List.{get_or_default}
 use Rattle.std.specs.Option.{option_or}
 use Rattle.std.proofs.lemmas.Option.{slice_get_cases, slice_get-get_or}
 use Rattle.clock.specs.declared.moment.Moment.{Moment}
-use Rattle.ipv4.specs.declared.addr.Addr.{Addr}
 use Rattle.marks.specs.First.{first_from}
 use Rattle.sockets.specs.declared.entry.Entry.{Entry}
 use Rattle.sockets.specs.Emission.{in_turn}

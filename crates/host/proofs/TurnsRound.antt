@@ -1,5 +1,5 @@
 -- Why no entry of a host is passed over.
-use Rattle.std.proofs.Common.{◌≡◌, ◌≢◌, Bool, Option, Some, None, refl, sym, ◌∙◌, ap, subst}
+use Rattle.std.proofs.Common.{◌≡◌, ◌≢◌, Bool, Option, Some, None, refl, sym, ◌∙◌, subst}
 use Rattle.std.specs.List.{find}
 use Rattle.clock.specs.declared.moment.Moment.{Moment}
 use Rattle.ipv4.specs.declared.addr.Addr.{Addr}
@@ -13,7 +13,6 @@ use Rattle.sockets.proofs.TurnsRound.{IsAhead, begins, passes, sender_is, sender
 use Rattle.host.specs.Emission.{Emission, Replies, Sends, Asks, Nothing, emission, goes_out_from, after_emission, left_by}
 use Rattle.host.specs.HostView.{HostView}
 use Rattle.host.specs.Runs.{Event, Calls, Ticks, Delivers, Emits, IsNumbered, Makes, HasRun}
-use Rattle.host.specs.Sound.{IsSoundHost}
 use Rattle.host.specs.Turns.{sender, sender_by, HasFrame, PassesOver, HasWaited, Sent, GoesOn}
 use Rattle.host.proofs.Ran.{keeps-ordered}
 use Rattle.host.proofs.Tables.{IsQuiet, event-turns}

@@ -20,7 +20,7 @@ use Rattle.sockets.specs.declared.role.Role.{Role}
 use Rattle.sockets.specs.declared.role.Role.TheVariants.{Idle, Listener, Connected, Datagrams}
 use Rattle.sockets.specs.Lists.{change_first}
 use Rattle.sockets.specs.Emission.{in_turn}
-use Rattle.sockets.specs.Entries.{on_connection, in_connection, on_datagrams, is_socket, is_between, waits_at, is_waiting_id, sends, is_kept, entries_after_step, entries_after_steps, is_datagrams_at, with_role}
+use Rattle.sockets.specs.Entries.{on_connection, in_connection, is_socket, is_between, waits_at, sends, is_kept, with_role}
 use Rattle.sockets.specs.Entries as role
 use Rattle.sockets.specs.SocketsView.{SocketsView, later_moment}
 use Rattle.sockets.specs.GiveWay.{gives_way}

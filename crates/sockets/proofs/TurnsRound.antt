@@ -7,7 +7,7 @@ use Rattle.ipv4.specs.declared.addr.Addr.{Addr}
 use Rattle.sockets.specs.declared.entry.Entry.{Entry}
 use Rattle.sockets.specs.declared.entry.SocketId.{SocketId}
 use Rattle.sockets.specs.Causes.{Event, Emits, after_event}
-use Rattle.sockets.specs.Emission.{Next, next_out, is_behind, in_turn, after_segment_sent}
+use Rattle.sockets.specs.Emission.{Next, is_behind, in_turn, after_segment_sent}
 use Rattle.sockets.specs.Entries.{sends}
 use Rattle.sockets.specs.Ids.{AreAscending}
 use Rattle.sockets.specs.Offered.{AreAllowed}

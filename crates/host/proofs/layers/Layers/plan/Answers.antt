@@ -1,5 +1,5 @@
 -- The first behind the one that sent last, or else the first of all.
-use Rattle.std.proofs.Common.{◌≡◌, Option, Some, sym, ◌∙◌, ap, subst}
+use Rattle.std.proofs.Common.{Option, Some, sym, ◌∙◌, ap, subst}
 use Rattle.std.specs.Option.{option_or}
 use Rattle.sockets.specs.Turns.{IsTurnPlace}
 use Rattle.host.specs.HostView.{HostView}

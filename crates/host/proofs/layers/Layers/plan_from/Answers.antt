@@ -1,19 +1,18 @@
 -- An entry more doesn't send, or is the first that does.
 use Rattle.std.proofs.Common.{◌≡◌, ℕ, false, List, Option, Some, None, arith, sym, ◌∙◌, ap, subst}
-use Rattle.std.specs.Prelude.{option_and_then, option_map, slice_get, IfSome}
+use Rattle.std.specs.Prelude.{option_map, slice_get, IfSome}
 use Rattle.std.proofs.lemmas.List.{get_or_default}
 use Rattle.std.proofs.lemmas.List.Elements.{AllWithin-more}
 use Rattle.std.proofs.lemmas.Option.{slice_get-get_or}
 use Rattle.marks.specs.First.{first_from}
 use Rattle.sockets.specs.declared.emission.NextDue.{NextDue}
 use Rattle.sockets.specs.declared.entry.Entry.{Entry}
-use Rattle.sockets.specs.Entries.{dues_of, due_to, sends}
+use Rattle.sockets.specs.Entries.{dues_of, sends}
 use Rattle.sockets.specs.Outlook.{has_due}
 use Rattle.sockets.proofs.FirstFrom.{first_from-found}
 use Rattle.sockets.proofs.NextDues.{silent_to, silent_past}
 use Rattle.host.specs.HostView.{HostView}
 use Rattle.host.specs.Emission.{goes_out_from}
-use Rattle.host.specs.Plans.{plan_from, plan_to}
 use Rattle.host.proofs.Planned.{plan_there, plan_nowhere}
 use Rattle.host.proofs.Emitting.{plan_missed}
 use Rattle.host.proofs.layers.Layers.plan_from.Goals as goal

@@ -1,5 +1,5 @@
 -- Where no entry is noted as busy only the one at hand may have something to send, so the turn comes to that one.
-use Rattle.std.proofs.Common.{◌≡◌, ◌+◌, refl, sym, ◌∙◌, ap}
+use Rattle.std.proofs.Common.{◌+◌, refl, sym, ◌∙◌, ap}
 use Rattle.marks.specs.First.{first_from}
 use Rattle.sockets.specs.Outlook.{has_due}
 use Rattle.sockets.specs.SocketsView.{SocketsView}
