@@ -1,7 +1,7 @@
 -- Where no entry is noted as busy, only the one at hand may have something to send.
 use Rattle.std.proofs.Common.{◌≡◌, inl, inr, ℕ, ◌+◌, ◌<◌, ◌≤◌, nat_lt, Bool, true, false, not, List, length, get_or, Option, Some, None, refl, sym, ◌∙◌, ap, arith}
 use Rattle.std.specs.Prelude.{slice_get}
-use Rattle.std.specs.List.{list_any, AllWithin}
+use Rattle.std.specs.List.{list_any, position, AllWithin}
 use Rattle.std.proofs.lemmas.Bool.Decides.{nat_tests}
 use Rattle.std.proofs.lemmas.List.Folds.{list_any_at}
 use Rattle.std.proofs.lemmas.Option.{slice_get_cases}
@@ -11,8 +11,11 @@ use Rattle.sockets.specs.declared.emission.Outgoing.{Outgoing}
 use Rattle.sockets.specs.declared.entry.Entry.{Entry}
 use Rattle.sockets.specs.declared.outlook.Outlook.{Outlook}
 use Rattle.sockets.specs.Entries.{dues_of}
+use Rattle.sockets.specs.Emission.{in_turn}
 use Rattle.sockets.specs.Outlook.{has_due, IsOutlook}
+use Rattle.sockets.specs.SocketsView.{SocketsView}
 use Rattle.sockets.proofs.Followed.{by_test}
+use Rattle.sockets.proofs.InTurn.{turn_alone}
 use Rattle.sockets.proofs.FirstFrom.{first_from-found}
 use Rattle.sockets.proofs.NextDues.{first_from-none, passed_on, due_found, due_none, due_there, due_missed}
 use Rattle.sockets.proofs.Quiet.{IsTold, told_none_at_hand, told_behind, told_beside}
@@ -75,3 +78,11 @@ module _ (o : Outlook) (most : ℕ) (xs : List Entry) (known : IsOutlook o most 
       by_hand : (at : Option ℕ) → o.at_hand ≡ at → first_from has_due (place + 1) xs ≡ None
       by_hand None none = let bad : None ≡ Some place = calm_alone 0 none ∙ found in cc
       by_hand (Some at) is = by_test (nat_lt at (place + 1)) (λ near. sym (calm_behind (place + 1) at is (grind (arith, nat_tests)))) (λ far. absurd (front at is (grind (arith, nat_tests))))
+
+-- and the turn comes to that one
+pub calm_turn : (o : Outlook) (most : ℕ) (v h : SocketsView) → v ≡ h → IsOutlook o most v.entries → not (list_any is_noted o.busy.items) ≡ true → first_from has_due 0 v.entries ≡ position (in_turn h has_due) h.entries
+calm_turn o most v h same known calm =
+    ap (λ (w : SocketsView). first_from has_due 0 w.entries) same
+    ∙ sym
+    (turn_alone h has_due (first_from has_due 0 h.entries) refl
+    (λ p found. ap (λ (w : SocketsView). first_from has_due (p + 1) w.entries) (sym same) ∙ calm_only o most v.entries known calm p (ap (λ (w : SocketsView). first_from has_due 0 w.entries) same ∙ found)))

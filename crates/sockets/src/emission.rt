@@ -72,7 +72,13 @@ impl Sockets {
         ensures due { IfSome result (λ due. (e : Entry) → slice_get self.now.entries due.place ≡ Some e → slice_get (dues_of e.role) 0 ≡ Some (due.peer, due.outgoing)) }
     {
         if self.outlook.is_calm() {
-            return self.next_due(0);
+            let place = self.outlook.at_hand()?;
+            let (peer, outgoing) = self.entries[place].due_at(0)?;
+            return Some(NextDue {
+                place,
+                peer,
+                outgoing,
+            });
         }
         self.next_in_turn_among()
     }
