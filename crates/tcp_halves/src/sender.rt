@@ -194,6 +194,13 @@ impl Sender {
         self.probed = false;
     }
 
+    /// Whether the number before SND.NXT went out in probes of a closed window alone.
+    pub fn is_probed(&self) -> bool
+        ensures { result ≡ self.now.probed }
+    {
+        self.probed
+    }
+
     /// The number of a segment that brings nothing: SND.NXT, or the one before where only a probe took that.
     pub fn bare_number(&self) -> Seq
         ensures { result.0 ≡ bare_number self.now }

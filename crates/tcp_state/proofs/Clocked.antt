@@ -1,5 +1,5 @@
 -- What the clock, and what goes out, leave of a connection as it was.
-use Rattle.std.proofs.Common.{◌≡◌, ℕ, ◌-◌, ◌==◌, ◌&&◌, ◌||◌, ◌⊎◌, not, nat_lt, Bool, true, false, if◌then◌else◌, Option, Some, None, is_some, [], length, inl, inr, arith, refl, sym, ◌∙◌, ap, subst, ap₂}
+use Rattle.std.proofs.Common.{◌≡◌, ℕ, ◌-◌, ◌<◌, ◌==◌, ◌&&◌, ◌||◌, ◌⊎◌, not, nat_lt, Bool, true, false, if◌then◌else◌, Option, Some, None, is_some, [], length, inl, inr, arith, refl, sym, ◌∙◌, ap, subst, ap₂}
 use Rattle.std.proofs.lemmas.Bool.{le-ltb}
 use Rattle.std.proofs.lemmas.Bool.Decides.{eqb_tells}
 use Rattle.clock.specs.declared.moment.Moment.{Moment}
@@ -20,7 +20,7 @@ use Rattle.tcp_halves.specs.Stream.{outstanding, after_probed}
 use Rattle.tcp_state.specs.View.{View, is_opening, is_syn_received, is_closed}
 use Rattle.tcp_state.specs.Resend.{Resend, mark_past, resend_probed, resend_acknowledged, resend_first, resend_lost, resend_ends, excused_by, gives_back}
 use Rattle.tcp_state.specs.Timing.{KeepsTime, probes, retransmits, awaits_more, running, retransmission_timer, probe_timer, delayed_ack_timer, override_timer, interval_of, awaits_first, waiting_since, unheard_since, clocked, retransmission_expired, probe_expired, after_expiry, delayed_ack_expired, override_expired, after_timers, after_expiries}
-use Rattle.tcp_state.specs.Arrival.{is_opening_syn, is_held_back, answers_again, guarded, after_heard, is_rejected, begins_wait, answers_probe, is_counted_duplicate, blocks_told, before, since_after, is_moved, resend_heard, resend_told, told, reports_more, resend_after, congestion_event_of, is_partial, behind_ack, told_behind, ends_tail, whole_signal, acknowledged_signal, tells_loss, report_event, resend_counted, resend_signalled, congestion_after, timed_by, after_segment_at, report_signal, came_twice, is_since_loss, tells_needless, given_back, resend_left, congestion_left}
+use Rattle.tcp_state.specs.Arrival.{is_opening_syn, is_held_back, answers_again, guarded, after_heard, is_rejected, begins_wait, answers_probe, is_acceptable_to, is_counted_duplicate, blocks_told, before, since_after, is_moved, reopens, reopens_by, resend_answered, resend_heard, resend_told, told, reports_more, resend_after, congestion_event_of, is_partial, behind_ack, told_behind, ends_tail, whole_signal, acknowledged_signal, tells_loss, report_event, resend_counted, resend_signalled, congestion_after, timed_by, after_segment_at, report_signal, came_twice, is_since_loss, tells_needless, given_back, resend_left, congestion_left}
 use Rattle.tcp_state.specs.Due.{probe_stretch, end_of, after_syn_ack_paid, after_resent, after_first_sent, after_numbers, after_new_octets, after_new_text, brings_new_octets, after_syn_again, after_syn_out, after_stretch, after_probe, after_going_out, after_emitted}
 use Rattle.tcp_state.specs.Edges.{after_first}
 use Rattle.tcp_state.specs.Congestion.{Signal, after_signal}
@@ -231,11 +231,20 @@ comes_to v s now lives taken =
     ap (λ b. if b || is_rejected v s then v else timed_by (before v s) (after_heard v s) now) lives ∙ ap (λ b. if b then v else timed_by (before v s) (after_heard v s) now) taken
 
 -- what holds of the retransmission state that a segment leaves: it is progress by an ACK, by an answer to a probe, or none ..
-pub heard_paced : (b : Before) (w : View) (now : Moment) (P : Resend → Type 0) → P (resend_acknowledged w.resend w.sending.una (is_opening b.state) now) → P (record w.resend { expiries = 0 }) → P w.resend
+pub heard_paced : (b : Before) (w : View) (now : Moment) (P : Resend → Type 0) → P (resend_acknowledged w.resend w.sending.una (is_opening b.state) now) → P (resend_answered w) → P w.resend
     → P (resend_heard b w now)
 heard_paced b w now P moved answered same =
     either Resend P (is_moved b w) (resend_acknowledged w.resend w.sending.una (is_opening b.state) now) _ (λ moves. moved)
-    (λ stays. either Resend P b.answers_probe (record w.resend { expiries = 0 }) w.resend (λ answers. answered) (λ other. same))
+    (λ stays. either Resend P b.answers_probe (resend_answered w) w.resend (λ answers. answered) (λ other. same))
+
+-- the mark stays, but where the window opens behind a probe
+pub mark_heard : (b : Before) (w : View) (now : Moment) → (b.answers_probe && reopens w) ≡ false → (resend_heard b w now).mark ≡ w.resend.mark
+mark_heard b w now shut =
+    let P : Resend → Type 0 = λ p. p.mark ≡ w.resend.mark in
+    either Resend P (is_moved b w) (resend_acknowledged w.resend w.sending.una (is_opening b.state) now) _ (λ moves. refl)
+    (λ stays. either Resend P b.answers_probe (resend_answered w) w.resend
+    (λ answers. ap (λ t. if t then mark_past 0 (outstanding w.sending) else w.resend.mark) (ap (λ a. a && reopens w) (sym answers) ∙ shut))
+    (λ other. refl))
 
 -- what a segment is to the congestion window: nothing, the beginning, an ACK, a partial one, a duplicate one, a report that counts, such a report behind an ACK, or an ACK that ends a probe of the tail
 pub signalled : (b : Before) (w : View) (P : Signal → Type 0) → P Nothing → P Begins → (is_moved b w ≡ true → is_opening b.state ≡ false → is_partial w ≡ false → P (Counts (NewAck (b.held - length w.sending.held) (outstanding w.sending))))
@@ -337,8 +346,20 @@ resend_unlost b w now none first silent =
     ∙ told_none b w now silent
 
 -- what it tells of time leaves what goes out again
-pub marks_kept : (b : Before) (w : View) (now : Moment) → IsStill b w → b.is_duplicate ≡ false → b.blocks ≡ [] → (resend_after b w now).mark ≡ w.resend.mark
-marks_kept b w now none first silent = ap (λ (p : Resend). p.mark) (resend_unlost b w now none first silent) ∙ heard_paced b w now (λ p. p.mark ≡ w.resend.mark) refl refl refl
+pub marks_kept : (b : Before) (w : View) (now : Moment) → IsStill b w → b.answers_probe ≡ false → b.is_duplicate ≡ false → b.blocks ≡ [] → (resend_after b w now).mark ≡ w.resend.mark
+marks_kept b w now none quiet first silent = ap (λ (p : Resend). p.mark) (resend_unlost b w now none first silent) ∙ mark_heard b w now (ap (λ a. a && reopens w) quiet)
+
+-- .. and none opens a window that is open
+pub open_reopens_none : (v : View) (s : Segment) → 0 < v.sending.window → reopens_by v s ≡ false
+open_reopens_none v s wide =
+    let opened = not (is_opening v.state) in
+    let wide_open : (v.sending.window == 0) ≡ false = elim (eqb_tells v.sending.window 0) [ inl none ↦ let zero = none.1 in absurd (omega (arith, wide, zero)) | inr other ↦ other.0 ] in
+    ap (λ c. opened && c && is_acceptable_to v s && s.flags.ack && not s.flags.rst && reopens (after_heard v s)) wide_open
+    ∙ ap (λ c. c && is_acceptable_to v s && s.flags.ack && not s.flags.rst && reopens (after_heard v s)) (and_false opened)
+
+-- nothing answers a probe while the connection opens
+pub opening_answers_none : (v : View) (s : Segment) → is_opening v.state ≡ true → answers_probe v s ≡ false
+opening_answers_none v s opens = ap (λ b. not b && (v.sending.window == 0) && is_acceptable_to v s && s.flags.ack && not s.flags.rst) opens
 
 -- .. and whether a probe is due
 pub probes_kept : (b : Before) (w : View) (now : Moment) → (resend_after b w now).owes_probe ≡ w.resend.owes_probe
@@ -379,8 +400,8 @@ timed_unmoved b w now same quiet first silent needed =
     let alive = heard_now w.alive now in
     let resend : resend_left b w now ≡ w.resend =
     ap (λ t. excused_by t (resend_after b w now)) needed ∙ resend_unlost b w now (inl same) first silent
-    ∙ (ap (λ t. if t then resend_acknowledged w.resend w.sending.una (is_opening b.state) now else if b.answers_probe then record w.resend { expiries = 0 } else w.resend) same
-    ∙ ap (λ t. if t then record w.resend { expiries = 0 } else w.resend) quiet) in
+    ∙ (ap (λ t. if t then resend_acknowledged w.resend w.sending.una (is_opening b.state) now else if b.answers_probe then resend_answered w else w.resend) same
+    ∙ ap (λ t. if t then resend_answered w else w.resend) quiet) in
     let congestion : congestion_left b w now ≡ w.congestion = ap (λ t. given_back (gives_back t (resend_left b w now)) (congestion_after b w)) needed ∙ ap (λ e. after_signal w.congestion e w.sending.smss w.resend.syn_resent) (event_none b w same first silent) in
     ap (λ t. clocked t (guarded b (record w { since = since; resend = resend_left b w now; congestion = congestion_left b w now; alive = alive }) now) now) same
     ∙ (ap (λ (p : Resend). clocked false (guarded b (record w { since = since; resend = p; congestion = congestion_left b w now; alive = alive }) now) now) resend
@@ -419,4 +440,5 @@ pub unmarked_after : (b : Before) (w : View) (now : Moment) → w.resend.mark �
 unmarked_after b w now none idle =
     let gone : mark_past 0 (outstanding w.sending) ≡ None = ap (mark_past 0) idle in
     let P : Resend → Type 0 = λ p. p.mark ≡ None in
-    by_signal b w (resend_told b w now) P (heard_paced b w now P none none none) (λ moves opened. refl) (λ moves opened goes. gone) (λ r why. gone)
+    let answered : P (resend_answered w) = either (Option ℕ) (λ m. m ≡ None) (reopens w) (mark_past 0 (outstanding w.sending)) w.resend.mark (λ opens. gone) (λ shut. none) in
+    by_signal b w (resend_told b w now) P (heard_paced b w now P none answered none) (λ moves opened. refl) (λ moves opened goes. gone) (λ r why. gone)

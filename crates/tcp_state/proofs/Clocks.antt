@@ -18,7 +18,7 @@ use Rattle.tcp_state.specs.View.{View, IsSound, is_opening, is_syn_sent, is_syn_
 use Rattle.tcp_state.specs.Timing.{probes, retransmits, awaits_more, running, clocked, expires, retransmission_expired, probe_expired, after_expiry, delayed_ack_expired, after_timers}
 use Rattle.tcp_state.specs.Calls.{told_nodelay, latest, aborted_at}
 use Rattle.tcp_state.specs.Alive.{after_silence}
-use Rattle.tcp_state.specs.Arrival.{after_heard, acknowledges_unsent, is_rejected, is_acceptable_to, answers_probe, timed_by, before, is_moved, resend_heard, resend_after, noted_by}
+use Rattle.tcp_state.specs.Arrival.{after_heard, acknowledges_unsent, is_rejected, is_acceptable_to, answers_probe, timed_by, before, is_moved, resend_answered, resend_heard, resend_after, noted_by}
 use Rattle.tcp_state.specs.Due.{first_due, after_going_out}
 use Rattle.tcp_state.specs.Edges.{Event, Hears, Ticks, Emits, Sends, Receives, Shuts, SetsNoDelay, Closes, Unreachable, LosesHop, moment_of, after_first, after_event}
 use Rattle.tcp_halves.specs.Heard.{settled}
@@ -204,7 +204,7 @@ heard_unset v s now =
     let overridden : resend.overridden ≡ w.resend.overridden = after_paced b w now (λ p. p.overridden ≡ w.resend.overridden) override_kept override_kept (λ r. override_kept) override_kept in
     let P : Resend → Type 0 = λ p. (p.expiries ≡ v.resend.expiries) ⊎ (((p.expiries ≡ 0) × Progress v w) ⊎ Counts v (Hears s now) (record w { resend = p })) in
     let counted : P (resend_heard b w now) = either Resend P (is_moved b w) (resend_acknowledged w.resend w.sending.una (is_opening b.state) now) _ (λ moves. inr (inl (refl, inl (apart v.sending.una w.sending.una moves))))
-    (λ unmoved. either Resend P b.answers_probe (record w.resend { expiries = 0 }) w.resend (λ answers. inr (inl (refl, inr (closed_window v s answers)))) (λ other. inl h.expiries)) in
+    (λ unmoved. either Resend P b.answers_probe (resend_answered w) w.resend (λ answers. inr (inl (refl, inr (closed_window v s answers)))) (λ other. inl h.expiries)) in
     record {
       runs = λ lives was runs. elim h.timers [ inl same ↦ inl (ap (λ (t : Timers). t.retransmission) same ∙ runs) | inr stop ↦ clash (is_closed w.state) stop.1 lives ];
       none_runs = λ none. elim h.timers [ inl same ↦ ap (λ (t : Timers). t.retransmission) same ∙ none | inr stop ↦ ap (λ (t : Timers). t.retransmission) stop.0 ];
@@ -447,7 +447,7 @@ answered v s now lives opened shut fits acks unreset =
     (subst (λ x. (true && true && true && x && not s.flags.rst) ≡ true) (sym acks)
     (subst (λ x. (true && true && true && true && not x) ≡ true) (sym unreset) refl)))) in
     let heard : P (resend_heard b w now) = either Resend P (is_moved b w) (resend_acknowledged w.resend w.sending.una (is_opening b.state) now) _ (λ moved. refl)
-    (λ unmoved. either Resend P (answers_probe v s) (record w.resend { expiries = 0 }) w.resend (λ answers. refl) (λ silent. clash (answers_probe v s) told silent)) in
+    (λ unmoved. either Resend P (answers_probe v s) (resend_answered w) w.resend (λ answers. refl) (λ silent. clash (answers_probe v s) told silent)) in
     either View (λ x. x.resend.expiries ≡ 0) (is_closed v.state || is_rejected v s) v (timed_by b w now) (λ is. clash (is_closed v.state || is_rejected v s) is quiet) (λ goes. after_paced b w now P heard heard (λ r. heard) heard)
 
 -- .. where that is a host of this stack, whatever its window

@@ -107,6 +107,7 @@ pub mod ProbesOfSilence
 pub mod SetUp
 pub mod Duplicates
 pub mod Recovering
+pub mod Reopening
 pub mod Transmits
 pub mod Bare
 pub mod BlocksTold

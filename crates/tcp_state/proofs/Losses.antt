@@ -1,7 +1,6 @@
 -- Why the third duplicate ACK in a row, and no other, puts the segment at SND.UNA out again, and that alone.
 use Rattle.congestion.specs.Control.{repairs}
-use Rattle.std.proofs.Common.{◌≡◌, ℕ, ◌+◌, ◌-◌, ◌%◌, ◌^◌, ◌<◌, ◌==◌, ◌&&◌, ◌||◌, not, nat_lt, nat_le, if◌then◌else◌, Bool, true, false, length, Some, None, is_some, arith, refl, sym, ◌∙◌, ap, subst, inl}
-use Rattle.std.specs.Option.{option_or}
+use Rattle.std.proofs.Common.{◌≡◌, ℕ, ◌+◌, ◌-◌, ◌%◌, ◌^◌, ◌<◌, ◌==◌, ◌&&◌, ◌||◌, not, nat_lt, nat_le, if◌then◌else◌, Bool, true, false, length, Some, None, arith, refl, sym, ◌∙◌, ap, subst, inl}
 use Rattle.std.proofs.lemmas.Bool.{eqb-true, lt-ltb, ltb-true}
 use Rattle.tcp_segment.specs.Segment.{Segment}
 use Rattle.tcp_segment.specs.Wire.{past}
@@ -9,7 +8,7 @@ use Rattle.clock.specs.declared.moment.Moment.{Moment}
 use Rattle.congestion.specs.Window.{third_is_next, goes_on}
 use Rattle.congestion.specs.Events.Event.{NewAck, Duplicate, Loss}
 use Rattle.tcp_state.specs.declared.arrival.Before.{Before}
-use Rattle.tcp_state.specs.declared.emission.Due.TheVariants.{Rst, Syn, Text}
+use Rattle.tcp_state.specs.declared.emission.Due.TheVariants.{Text}
 use Rattle.tcp_state.specs.declared.emission.Stretch.{Stretch}
 use Rattle.tcp_state.specs.declared.state.State.{State}
 use Rattle.tcp_state.specs.declared.state.State.TheVariants.{SynSent, SynReceived}
@@ -22,13 +21,13 @@ use Rattle.tcp_state.specs.View.{View, IsSound, is_opening, is_syn_sent, is_syn_
 use Rattle.tcp_state.specs.Congestion.{Signal}
 use Rattle.tcp_state.specs.Congestion.Signal.{Begins, Counts, Both, Nothing}
 use Rattle.stream_buf.specs.Ranges.{AreApart}
-use Rattle.tcp_state.specs.Selective.{with_blocks, repairs_gaps}
+use Rattle.tcp_state.specs.Selective.{with_blocks}
 use Rattle.tcp_state.proofs.Guarded.{kept_mark}
-use Rattle.tcp_state.proofs.Places.{at_una_goes}
+use Rattle.tcp_state.proofs.Places.{first_at_una}
 use Rattle.tcp_state.proofs.Selects.{silent_unselected, counted_selects_none, ends_none}
-use Rattle.tcp_state.specs.Arrival.{owing_ack, after_establishment, is_receiving, beyond_fin, is_of_fin, fin_acknowledged, after_new_ack, is_off, after_ack, is_read, after_window, after_text, counts_fin, after_fin, is_lost, after_lost, after_segment, after_heard, octets_outstanding, is_duplicate, before, is_moved, resend_after, congestion_event_of, resend_told, reports_more, told, told_behind, behind_ack, tells_loss, reports_loss, timed_by, after_segment_at, acknowledged_signal, counts_duplicates, is_counted_duplicate, resend_signalled, report_signal}
-use Rattle.tcp_state.specs.Due.{end_of, after_resent, after_first_sent, after_numbers, after_new_text, brings_new_octets, after_emitted, ack_due, again, again_from, new_due, first_due}
-use Rattle.tcp_state.proofs.Clocked.{comes_to, unmoved, heard_paced, signalled, told_moved, told_still}
+use Rattle.tcp_state.specs.Arrival.{owing_ack, after_establishment, is_receiving, beyond_fin, is_of_fin, fin_acknowledged, after_new_ack, is_off, after_ack, is_read, after_window, after_text, counts_fin, after_fin, is_lost, after_lost, after_segment, after_heard, octets_outstanding, is_duplicate, before, is_moved, resend_after, congestion_event_of, resend_told, reports_more, told, told_behind, behind_ack, tells_loss, reports_loss, timed_by, after_segment_at, acknowledged_signal, counts_duplicates, is_counted_duplicate, resend_signalled, report_signal, reopens_by}
+use Rattle.tcp_state.specs.Due.{end_of, after_resent, after_first_sent, after_numbers, after_new_text, brings_new_octets, after_emitted, again, first_due}
+use Rattle.tcp_state.proofs.Clocked.{comes_to, unmoved, mark_heard, signalled, told_moved, told_still}
 use Rattle.tcp_halves.proofs.Choices.{either, clash, and_left, and_right, and_false, not_true, unowed}
 use Rattle.tcp_state.proofs.Segments.{IsRead, by_fin, by_ack, by_hearing, by_clock, read_tells, reads, not_rejected}
 use Rattle.tcp_state.proofs.Congestion.{window_kept}
@@ -143,14 +142,9 @@ third_resends v s now sound lives is third =
     let lost = loses v s now lives is third in
     let mark : x.resend.mark ≡ Some 0 =
     kept_mark v s w now (inl opened.1) ∙ ap (λ (p : Resend). p.mark) lost ∙ ap (λ n. mark_past 0 n) (numbers_stay v s).1 ∙ ap (λ b. if b then Some 0 else None) t.some in
-    let due : first_due x ≡ Some (Text (again x 0)) =
-    ap (λ b. if b then Some Rst else if is_opening v.state then (if (outstanding x.sending == 0) || is_some x.resend.mark then Some Syn else ack_due x) else option_or (again_from x x.resend.mark) (new_due x))
-    (unowed v.owes_reset (is_closed v.state) v.released lives sound.reset)
-    ∙ ap (λ b. if b then (if (outstanding x.sending == 0) || is_some x.resend.mark then Some Syn else ack_due x) else option_or (again_from x x.resend.mark) (new_due x)) t.opened
-    ∙ ap (λ m. option_or (again_from x m) (new_due x)) mark
-    ∙ ap (λ o. option_or o (new_due x)) (at_una_goes x
+    let due : first_due x ≡ Some (Text (again x 0)) = first_at_una x (unowed v.owes_reset (is_closed v.state) v.released lives sound.reset) t.opened mark (ap (λ (p : Resend). p.once) lost)
     (subst (AreApart 1) (sym (ap (λ (p : Resend). p.reported) lost ∙ ap (with_blocks v.resend.reported w.sending) (silent_unselected v s (counted_selects_none v (and_right (is_duplicate v s) (counts_duplicates v) is))))) sound.resend.reported.apart)
-    (ap (λ b. repairs_gaps x && not b) (ap (λ (p : Resend). p.once) lost) ∙ and_false (repairs_gaps x)) (ltb-true 0 (outstanding x.sending) (ap (nat_lt 0) (numbers_stay v s).1 ∙ t.some))) in
+    (ltb-true 0 (outstanding x.sending) (ap (nat_lt 0) (numbers_stay v s).1 ∙ t.some)) in
     subst (λ u. (first_due u ≡ Some (Text (again u 0))) × (u.resend.once ≡ true)) (sym at) (due, ap (λ (p : Resend). p.once) lost)
 
 -- No other.
@@ -214,14 +208,14 @@ others_unlost b w now stands other unreported =
     second_false true y e f = f
     second_false false y e f = cc
 
-pub others_resend_none : (v : View) (s : Segment) (now : Moment) → IsSound v → v.resend.mark ≡ None → is_opening v.state ≡ false → goes_on v.congestion ≡ false → (is_counted_duplicate v s && third_is_next v.congestion) ≡ false → reports_loss v s ≡ false
+pub others_resend_none : (v : View) (s : Segment) (now : Moment) → IsSound v → v.resend.mark ≡ None → is_opening v.state ≡ false → goes_on v.congestion ≡ false → (is_counted_duplicate v s && third_is_next v.congestion) ≡ false → reports_loss v s ≡ false → reopens_by v s ≡ false
     → (after_segment_at v s now).resend.mark ≡ None
-others_resend_none v s now sound none opened stands other unreported =
+others_resend_none v s now sound none opened stands other unreported shut =
     let b = before v s in
     let w = after_heard v s in
     by_clock (λ x. x.resend.mark ≡ None) v s now none
     (λ lives. kept_mark v s w now (inl (past_opening v.state opened).1) ∙ ap (λ (p : Resend). p.mark) (others_unlost b w now (ap goes_on (window_kept v s) ∙ stands) (ap (λ c. is_counted_duplicate v s && third_is_next c) (window_kept v s) ∙ other) unreported)
-    ∙ (heard_paced b w now (λ p. p.mark ≡ w.resend.mark) refl refl refl ∙ heard_marks_none v s opened none))
+    ∙ (mark_heard b w now shut ∙ heard_marks_none v s opened none))
 
 -- That segment alone.
 

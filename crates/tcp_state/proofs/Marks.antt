@@ -12,9 +12,9 @@ use Rattle.tcp_halves.specs.Stream.{outstanding, is_new_ack}
 use Rattle.tcp_halves.specs.Windows.{updates_window}
 use Rattle.tcp_state.specs.Resend.{Resend, stopped, mark_past, mark_left}
 use Rattle.tcp_state.specs.View.{View, IsSound, is_opening, is_syn_sent, is_syn_received, is_closed}
-use Rattle.tcp_state.specs.Arrival.{owing_ack, is_receiving, is_of_fin, beyond_fin, beyond_end, fin_acknowledged, after_new_ack, is_off, after_ack, after_window, after_text, before, after_heard, after_segment_at, is_counted_duplicate, reports_loss}
+use Rattle.tcp_state.specs.Arrival.{owing_ack, is_receiving, is_of_fin, beyond_fin, beyond_end, fin_acknowledged, after_new_ack, is_off, after_ack, after_window, after_text, before, after_heard, after_segment_at, is_counted_duplicate, reports_loss, reopens_by}
 use Rattle.tcp_state.proofs.Guarded.{kept_mark}
-use Rattle.tcp_state.proofs.Clocked.{heard_paced}
+use Rattle.tcp_state.proofs.Clocked.{mark_heard}
 use Rattle.tcp_halves.proofs.Choices.{either, clash}
 use Rattle.tcp_state.proofs.Segments.{by_fin, by_hearing, by_clock}
 use Rattle.tcp_state.proofs.Congestion.{window_kept}
@@ -84,14 +84,14 @@ heard_leaves v s distance sound opened mark =
     })
 
 -- .. and with the clock
-mark_left_by : (v : View) (s : Segment) (now : Moment) (distance : ℕ) → IsSound v → is_opening v.state ≡ false → goes_on v.congestion ≡ false → (is_counted_duplicate v s && third_is_next v.congestion) ≡ false → reports_loss v s ≡ false → v.resend.mark ≡ Some distance
+mark_left_by : (v : View) (s : Segment) (now : Moment) (distance : ℕ) → IsSound v → is_opening v.state ≡ false → goes_on v.congestion ≡ false → (is_counted_duplicate v s && third_is_next v.congestion) ≡ false → reports_loss v s ≡ false → reopens_by v s ≡ false → v.resend.mark ≡ Some distance
     → Left v.sending.una distance (after_segment_at v s now)
-mark_left_by v s now distance sound opened stands other unreported mark =
+mark_left_by v s now distance sound opened stands other unreported shut mark =
     let b = before v s in
     let w = after_heard v s in
     by_clock (Left v.sending.una distance) v s now (stays v distance sound mark)
     (λ lives. λ ends_not. kept_mark v s w now (inl (past_opening v.state opened).1) ∙ ap (λ (p : Resend). p.mark) (others_unlost b w now (ap goes_on (window_kept v s) ∙ stands) (ap (λ c. is_counted_duplicate v s && third_is_next c) (window_kept v s) ∙ other) unreported)
-    ∙ (heard_paced b w now (λ p. p.mark ≡ w.resend.mark) refl refl refl ∙ heard_leaves v s distance sound opened mark ends_not))
+    ∙ (mark_heard b w now shut ∙ heard_leaves v s distance sound opened mark ends_not))
 
 stood : (m : Option ℕ) (rest out left : ℕ) → m ≡ mark_past rest out → m ≡ Some left → left ≡ rest
 stood m rest out left is some = told (nat_lt rest out) (sym is ∙ some)
@@ -107,14 +107,14 @@ passed m rest out is none = ltb-false rest out (told (nat_lt rest out) (sym is �
     told true e = cc
     told false e = refl
 
-pub mark_stays : (v : View) (s : Segment) (now : Moment) (distance left : ℕ) → IsSound v → is_opening v.state ≡ false → goes_on v.congestion ≡ false → (is_counted_duplicate v s && third_is_next v.congestion) ≡ false → reports_loss v s ≡ false → v.resend.mark ≡ Some distance
+pub mark_stays : (v : View) (s : Segment) (now : Moment) (distance left : ℕ) → IsSound v → is_opening v.state ≡ false → goes_on v.congestion ≡ false → (is_counted_duplicate v s && third_is_next v.congestion) ≡ false → reports_loss v s ≡ false → reopens_by v s ≡ false → v.resend.mark ≡ Some distance
     → is_closed (after_segment_at v s now).state ≡ false → (after_segment_at v s now).resend.mark ≡ Some left → left ≡ distance - past (after_segment_at v s now).sending.una v.sending.una
-mark_stays v s now distance left sound opened stands other unreported mark lives some =
+mark_stays v s now distance left sound opened stands other unreported shut mark lives some =
     let w = after_segment_at v s now in
-    stood w.resend.mark (distance - past w.sending.una v.sending.una) (outstanding w.sending) left (mark_left_by v s now distance sound opened stands other unreported mark lives) some
+    stood w.resend.mark (distance - past w.sending.una v.sending.una) (outstanding w.sending) left (mark_left_by v s now distance sound opened stands other unreported shut mark lives) some
 
-pub mark_goes : (v : View) (s : Segment) (now : Moment) (distance : ℕ) → IsSound v → is_opening v.state ≡ false → goes_on v.congestion ≡ false → (is_counted_duplicate v s && third_is_next v.congestion) ≡ false → reports_loss v s ≡ false → v.resend.mark ≡ Some distance
+pub mark_goes : (v : View) (s : Segment) (now : Moment) (distance : ℕ) → IsSound v → is_opening v.state ≡ false → goes_on v.congestion ≡ false → (is_counted_duplicate v s && third_is_next v.congestion) ≡ false → reports_loss v s ≡ false → reopens_by v s ≡ false → v.resend.mark ≡ Some distance
     → is_closed (after_segment_at v s now).state ≡ false → (after_segment_at v s now).resend.mark ≡ None → outstanding (after_segment_at v s now).sending ≤ distance - past (after_segment_at v s now).sending.una v.sending.una
-mark_goes v s now distance sound opened stands other unreported mark lives none =
+mark_goes v s now distance sound opened stands other unreported shut mark lives none =
     let w = after_segment_at v s now in
-    passed w.resend.mark (distance - past w.sending.una v.sending.una) (outstanding w.sending) (mark_left_by v s now distance sound opened stands other unreported mark lives) none
+    passed w.resend.mark (distance - past w.sending.una v.sending.una) (outstanding w.sending) (mark_left_by v s now distance sound opened stands other unreported shut mark lives) none

@@ -13,7 +13,7 @@ use Rattle.tcp_state.specs.View.{View, is_opening, is_syn_received}
 use Rattle.tcp_state.specs.Alive.{after_silence}
 use Rattle.tcp_state.specs.Timing.{clocked, retransmission_expired, probe_expired, after_timers}
 use Rattle.tcp_state.specs.Calls.{aborted_at}
-use Rattle.tcp_state.specs.Arrival.{after_heard, before, resend_heard, resend_told, resend_after, timed_by}
+use Rattle.tcp_state.specs.Arrival.{after_heard, before, resend_answered, resend_heard, resend_told, resend_after, timed_by}
 use Rattle.tcp_state.specs.Due.{MayGoOut, sends_again, after_emitted, probe_stretch, end_of, after_syn_ack_paid, after_resent, after_first_sent, after_numbers, after_new_octets, after_new_text, brings_new_octets, after_syn_out, after_going_out, first_due}
 use Rattle.tcp_state.specs.Edges.{Event, moment_of, after_first, after_event, Ticks}
 use Rattle.tcp_state.proofs.Clocked.{by_others, syn_out, heard_paced, after_paced}
@@ -107,7 +107,7 @@ heard_measures v s now =
     let estimate : w.resend.timeout.estimate ≡ v.resend.timeout.estimate = ap (λ (t : Timeout). t.estimate) k.timeout in
     let kept : Measures v (Some now) w = elim k.timed [ inl same ↦ keeps v w (Some now) estimate same | inr none ↦ leaves v w (Some now) estimate none ] in
     let P : Resend → Type 0 = λ p. Measures v (Some now) (record w { resend = p }) in
-    let still : P (record w.resend { expiries = 0 }) = record { sampled = kept.sampled; begins = kept.begins } in
+    let still : P (resend_answered w) = record { sampled = kept.sampled; begins = kept.begins } in
     let heard : P (resend_heard b w now) = heard_paced b w now P (acknowledged v w w.sending.una (is_opening b.state) now estimate k.timed) still (record { sampled = kept.sampled; begins = kept.begins }) in
     let told : P (resend_told b w now) = record { sampled = heard.sampled; begins = heard.begins } in
     let resend_view : P (resend_after b w now) = after_paced b w now P told (record { sampled = heard.sampled; begins = heard.begins }) (λ r. record { sampled = heard.sampled; begins = heard.begins }) (record { sampled = heard.sampled; begins = heard.begins }) in

@@ -18,7 +18,7 @@ use Rattle.tcp_state.specs.Resend.{Resend, timing_of, timed_left, resend_acknowl
 use Rattle.tcp_state.specs.View.{View, IsSound, is_opening, is_closed, is_syn_received}
 use Rattle.tcp_state.specs.Alive.{after_silence}
 use Rattle.tcp_state.specs.Timing.{clocked, retransmission_expired, probe_expired, after_timers}
-use Rattle.tcp_state.specs.Arrival.{after_heard, before, is_moved, resend_heard, resend_after, timed_by}
+use Rattle.tcp_state.specs.Arrival.{after_heard, before, is_moved, resend_answered, resend_heard, resend_after, timed_by}
 use Rattle.tcp_state.specs.Due.{first_due, sends_again, end_of, after_resent, after_first_sent, after_numbers, after_new_text, brings_new_octets, after_syn_ack_paid, after_syn_out, after_emitted}
 use Rattle.tcp_state.specs.Edges.{Event, Hears, Emits, after_first, after_event}
 use Rattle.tcp_state.specs.Counted.{BringsNew, BringsAgain}
@@ -89,11 +89,11 @@ loss_leaves b w now = after_paced b w now (λ p. p.timed ≡ (resend_heard b w n
 
 unmoved : (b : Before) (w : View) (now : Moment) → is_moved b w ≡ false → (resend_heard b w now).timed ≡ w.resend.timed
 unmoved b w now stays =
-    ap (λ c. let p = if c then resend_acknowledged w.resend w.sending.una (is_opening b.state) now else if b.answers_probe then record w.resend { expiries = 0 } else w.resend in p.timed) stays
-    ∙ either Resend (λ p. p.timed ≡ w.resend.timed) b.answers_probe (record w.resend { expiries = 0 }) w.resend (λ answers. refl) (λ other. refl)
+    ap (λ c. let p = if c then resend_acknowledged w.resend w.sending.una (is_opening b.state) now else if b.answers_probe then resend_answered w else w.resend in p.timed) stays
+    ∙ either Resend (λ p. p.timed ≡ w.resend.timed) b.answers_probe (resend_answered w) w.resend (λ answers. refl) (λ other. refl)
 
 moved : (b : Before) (w : View) (now : Moment) → is_moved b w ≡ true → (resend_heard b w now).timed ≡ timed_left w.resend.timed w.sending.una
-moved b w now moves = ap (λ c. let p = if c then resend_acknowledged w.resend w.sending.una (is_opening b.state) now else if b.answers_probe then record w.resend { expiries = 0 } else w.resend in p.timed) moves
+moved b w now moves = ap (λ c. let p = if c then resend_acknowledged w.resend w.sending.una (is_opening b.state) now else if b.answers_probe then resend_answered w else w.resend in p.timed) moves
 
 heard_goes_on : (v : View) (s : Segment) (now : Moment) (timed : Timed) → v.resend.timed ≡ Some timed → GoesOn v (Hears s now) timed (timed_by (before v s) (after_heard v s) now)
 heard_goes_on v s now timed is =

@@ -120,7 +120,7 @@ acknowledged v ack sound fits =
       fin = λ new fin. on new;
     })
 
-acknowledged_nxt : (v : View) (ack : ℕ) → (after_ack v ack).sending.nxt ≡ v.sending.nxt
+pub acknowledged_nxt : (v : View) (ack : ℕ) → (after_ack v ack).sending.nxt ≡ v.sending.nxt
 acknowledged_nxt v ack = by_ack (λ w. w.sending.nxt ≡ v.sending.nxt) v ack (record { old = refl; beyond = refl; opens = λ received new. refl; octets = λ new. refl; fin = λ new fin. refl })
 
 acknowledged_bare : (v : View) (ack : ℕ) → IsSound v → GoesOn (bare_number v.sending) (bare_number (after_ack v ack).sending)
@@ -139,17 +139,17 @@ told_bare s number ack window = either Sending (λ t. bare_number t ≡ bare_num
 pub told_una : (s : Sending) (number ack window : ℕ) → (after_window_update s number ack window).una ≡ s.una
 told_una s number ack window = either Sending (λ t. t.una ≡ s.una) (updates_window s number ack) _ s (λ tells. refl) (λ none. refl)
 
-told_nxt : (s : Sending) (number ack window : ℕ) → (after_window_update s number ack window).nxt ≡ s.nxt
+pub told_nxt : (s : Sending) (number ack window : ℕ) → (after_window_update s number ack window).nxt ≡ s.nxt
 told_nxt s number ack window = either Sending (λ t. t.nxt ≡ s.nxt) (updates_window s number ack) _ s (λ tells. refl) (λ none. refl)
 
 -- RCV.NXT moves within the window that is told, whose edge stays
-record Advances (r t : Receiving) : Type 0 where
+pub record Advances (r t : Receiving) : Type 0 where
   pub by : ℕ
   pub within : by ≤ receive_window r
   pub rnext : t.rnext ≡ (r.rnext + by) % 2 ^ 32
   pub edge : t.edge ≡ r.edge
 
-waits : (r : Receiving) → r.rnext < 2 ^ 32 → Advances r r
+pub waits : (r : Receiving) → r.rnext < 2 ^ 32 → Advances r r
 waits r small = record { by = 0; within = omega arith; rnext = omega (arith, small); edge = refl }
 
 takes : (r : Receiving) (number : ℕ) (octets : List ℕ) → IsKeeping r → Advances r (after_octets r number octets)
@@ -165,12 +165,12 @@ ends r t small a room =
     one_more : (rnext edge by : ℕ) → rnext < 2 ^ 32 → by ≤ past edge rnext → 0 < past edge ((rnext + by) % 2 ^ 32) → by + 1 ≤ past edge rnext
     one_more rnext edge by small within space = omega (arith, small, within, space)
 
-advanced_text : (r : Receiving) (w : View) (s : Segment) → IsKeeping r → Advances r w.receiving → w.receiving ≡ r → Advances r (after_text w s).receiving
+pub advanced_text : (r : Receiving) (w : View) (s : Segment) → IsKeeping r → Advances r w.receiving → w.receiving ≡ r → Advances r (after_text w s).receiving
 advanced_text r w s is a same =
     either View (λ x. Advances r x.receiving) ((length s.octets == 0) || not (is_receiving w.state)) w _
     (λ none. a) (λ some. subst (λ t. Advances r (after_octets t s.number s.octets)) (sym same) (takes r s.number s.octets is))
 
-advanced_fin : (r : Receiving) (w : View) (s : Segment) → r.rnext < 2 ^ 32 → Advances r w.receiving → Advances r (after_fin w s).receiving
+pub advanced_fin : (r : Receiving) (w : View) (s : Segment) → r.rnext < 2 ^ 32 → Advances r w.receiving → Advances r (after_fin w s).receiving
 advanced_fin r w s small a =
     by_fin (λ x. Advances r x.receiving) w s
     (λ counts.
@@ -306,7 +306,7 @@ few_left : (r : Receiving) → IsKeeping r → receive_room r ≤ 1048576
 few_left r is = omega (arith, is.sized, is.most)
 
 -- .. that of the room, as far as units fill it, or that of a SYN; or it stays
-told_on : (r : Receiving) → IsKeeping r → GoesOn r.edge (after_advertisement r).edge
+pub told_on : (r : Receiving) → IsKeeping r → GoesOn r.edge (after_advertisement r).edge
 told_on r is = either Receiving (λ t. GoesOn r.edge t.edge) (has_grown r) _ r
     (λ grows.
     let filled = in_units r.unit (receive_room r) is.some in
@@ -319,7 +319,7 @@ syn_told_on r is = either Receiving (λ t. GoesOn r.edge t.edge) (nat_le (receiv
     (λ grows. let more = leb-true (receive_window r + 1460) (syn_window r) grows in wider r (syn_window r) is (omega (arith, more)) (omega (arith, few_left r is)))
     (λ keeps. rests r.edge)
 
-advertised : (r : Receiving) → (after_advertisement r).rnext ≡ r.rnext
+pub advertised : (r : Receiving) → (after_advertisement r).rnext ≡ r.rnext
 advertised r = either Receiving (λ t. t.rnext ≡ r.rnext) (has_grown r) _ r (λ grows. refl) (λ keeps. refl)
 
 syn_advertised : (r : Receiving) → (after_syn_advertisement r).rnext ≡ r.rnext

@@ -1,5 +1,6 @@
 -- Where what goes out again stands, and how much of it there is.
-use Rattle.std.proofs.Common.{◌≡◌, ℕ, ◌-◌, ◌<◌, ◌≤◌, ◌&&◌, not, nat_lt, min, max, true, false, if◌then◌else◌, length, List, [], ◌∷◌, Some, None, arith, refl, ◌∙◌, ap}
+use Rattle.std.proofs.Common.{◌≡◌, ℕ, ◌-◌, ◌<◌, ◌≤◌, ◌==◌, ◌&&◌, ◌||◌, not, nat_lt, min, max, true, false, if◌then◌else◌, length, List, [], ◌∷◌, Some, None, is_some, arith, refl, ◌∙◌, ap}
+use Rattle.std.specs.Option.{option_or}
 use Rattle.std.proofs.lemmas.Bool.{ltb-true, lt-ltb}
 use Rattle.stream_buf.specs.declared.ranges.Range.{Range}
 use Rattle.stream_buf.specs.Ranges.{AreApart}
@@ -7,11 +8,11 @@ use Rattle.stream_buf.specs.Scoreboard.{first_gap}
 use Rattle.stream_buf.proofs.Reports.{len_most, len_some}
 use Rattle.tcp_halves.specs.Stream.{outstanding}
 use Rattle.tcp_halves.proofs.Choices.{and_left, and_false, both}
-use Rattle.tcp_state.specs.View.{View, IsSound}
+use Rattle.tcp_state.specs.View.{View, IsSound, is_opening}
 use Rattle.congestion.specs.Window.{is_recovering}
 use Rattle.tcp_state.specs.Selective.{selects, repairs_gaps}
-use Rattle.tcp_state.specs.declared.emission.Due.TheVariants.{Text}
-use Rattle.tcp_state.specs.Due.{again, again_from, again_at, goes_by_reports, goes_by_windows, goes_again}
+use Rattle.tcp_state.specs.declared.emission.Due.TheVariants.{Rst, Syn, Text}
+use Rattle.tcp_state.specs.Due.{ack_due, again, again_from, again_at, goes_by_reports, goes_by_windows, goes_again, new_due, first_due}
 
 -- the first place from a resend mark on that isn't reported
 pub record IsMarked (v : View) (place : ℕ) : Type 0 where
@@ -48,6 +49,14 @@ pub at_una_goes : (v : View) → AreApart 1 v.resend.reported → (repairs_gaps 
 at_una_goes v apart plain some =
     ap (λ n. if goes_again v n then Some (Text (again v n)) else None) (front_gap v.resend.reported apart)
     ∙ ap (λ b. if b then Some (Text (again v 0)) else None) (goes_plainly v 0 plain some refl)
+
+-- .. and first of all, where it goes out alone
+pub first_at_una : (v : View) → v.owes_reset ≡ false → is_opening v.state ≡ false → v.resend.mark ≡ Some 0 → v.resend.once ≡ true → AreApart 1 v.resend.reported → 0 < outstanding v.sending → first_due v ≡ Some (Text (again v 0))
+first_at_una v owes opened mark once apart some =
+    ap (λ b. if b then Some Rst else if is_opening v.state then (if (outstanding v.sending == 0) || is_some v.resend.mark then Some Syn else ack_due v) else option_or (again_from v v.resend.mark) (new_due v)) owes
+    ∙ ap (λ b. if b then (if (outstanding v.sending == 0) || is_some v.resend.mark then Some Syn else ack_due v) else option_or (again_from v v.resend.mark) (new_due v)) opened
+    ∙ ap (λ m. option_or (again_from v m) (new_due v)) mark
+    ∙ ap (λ o. option_or o (new_due v)) (at_una_goes v apart (ap (λ b. repairs_gaps v && not b) once ∙ and_false (repairs_gaps v)) some)
 
 pub marked_at_una : (v : View) → IsSound v → v.resend.mark ≡ Some 0 → IsMarked v 0
 marked_at_una v sound is = record { mark = 0; is = is; at = gap_at_una v sound; from = omega arith }

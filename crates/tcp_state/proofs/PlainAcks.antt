@@ -18,7 +18,7 @@ use Rattle.tcp_state.specs.Congestion.Signal.{Begins, Counts, Both, Nothing}
 use Rattle.tcp_state.specs.Resend.{Resend, resend_acknowledged, resend_ends, excused_by, gives_back}
 use Rattle.tcp_state.specs.Selective.{selects}
 use Rattle.tcp_state.specs.Timing.{clocked}
-use Rattle.tcp_state.specs.Arrival.{is_off, after_ack, after_establishment, after_new_ack, fin_acknowledged, owing_ack, after_window, after_text, after_segment, fate, came_twice, before, since_after, is_moved, told, reports_more, resend_told, report_event, behind_ack, ends_tail, whole_signal, acknowledged_signal, report_signal, congestion_event_of, resend_signalled, resend_after, congestion_after, resend_left, given_back, congestion_left, guarded, after_segment_at}
+use Rattle.tcp_state.specs.Arrival.{is_off, after_ack, after_establishment, after_new_ack, fin_acknowledged, owing_ack, after_window, after_text, after_segment, fate, came_twice, before, since_after, is_moved, told, reports_more, resend_told, report_event, behind_ack, ends_tail, whole_signal, acknowledged_signal, report_signal, congestion_event_of, resend_signalled, resend_after, congestion_after, resend_left, given_back, congestion_left, guarded, after_segment_at, resend_answered}
 use Rattle.tcp_state.specs.Plain.{is_plain, acknowledges_octets}
 use Rattle.tcp_halves.proofs.Choices.{by, clash, and_left, and_right, and_false, not_true}
 use Rattle.tcp_state.proofs.Segments.{IsRead}
@@ -133,7 +133,7 @@ ack_resend v s now sound a =
     let w = acked v s in
     let p = resend_told b w now in
     let rules = is_selective w.congestion.control in
-    let other = if b.answers_probe then record w.resend { expiries = 0 } else w.resend in
+    let other = if b.answers_probe then resend_answered w else w.resend in
     ap (λ t. excused_by t (resend_after b w now)) (silent_needed v s a.plain.silent)
     ∙ ap (λ g. resend_signalled p g w.congestion (outstanding w.sending)) (ack_signal v s sound a)
     ∙ ap (λ r. if rules && r then resend_ends p else p) (ap is_recovering (ack_window v s) ∙ a.whole)

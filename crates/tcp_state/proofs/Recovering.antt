@@ -1,6 +1,5 @@
 -- Why the end of a recovery keeps its number, and what begins and ends a recovery.
-use Rattle.std.proofs.Common.{◌≡◌, ◌≢◌, ℕ, ◌-◌, ◌^◌, ◌<◌, ◌≤◌, ◌==◌, ◌&&◌, ◌||◌, ◌⊎◌, not, nat_lt, Bool, true, false, if◌then◌else◌, length, Option, Some, None, is_some, inl, inr, arith, refl, sym, ◌∙◌, ap, ap₂, subst}
-use Rattle.std.specs.Option.{option_or}
+use Rattle.std.proofs.Common.{◌≡◌, ◌≢◌, ℕ, ◌-◌, ◌^◌, ◌<◌, ◌≤◌, ◌==◌, ◌&&◌, ◌||◌, ◌⊎◌, not, nat_lt, Bool, true, false, if◌then◌else◌, length, Option, Some, None, inl, inr, arith, refl, sym, ◌∙◌, ap, ap₂, subst}
 use Rattle.std.proofs.lemmas.Bool.{lt-ltb, ltb-true, ltb-false}
 use Rattle.std.proofs.lemmas.Bool.Decides.{eqb_tells}
 use Rattle.tcp_segment.specs.Segment.{Segment}
@@ -28,13 +27,13 @@ use Rattle.tcp_state.specs.Congestion.{Signal, after_signal}
 use Rattle.tcp_state.specs.Congestion.Signal.{Begins, Counts, Nothing}
 use Rattle.tcp_state.specs.Arrival.{owing_ack, is_receiving, is_of_fin, beyond_fin, beyond_end, after_new_ack, after_ack, after_window, after_text, after_heard, is_rejected, is_duplicate, counts_duplicates, is_counted_duplicate, before, is_moved, resend_heard, resend_told, told, told_behind, whole_signal, reports_more, tells_loss, is_report, reports_loss, acknowledged_signal, congestion_event_of, resend_signalled, resend_after, timed_by, after_segment_at, report_signal}
 use Rattle.tcp_state.specs.Counted.{IsDuplicate}
-use Rattle.tcp_state.specs.Due.{ack_due, again, again_from, new_due, first_due, probe_stretch, end_of, after_resent, after_first_sent, after_numbers, after_new_octets, after_new_text, brings_new_octets, after_syn_ack_paid, after_syn_out, after_emitted}
+use Rattle.tcp_state.specs.Due.{again, first_due, probe_stretch, end_of, after_resent, after_first_sent, after_numbers, after_new_octets, after_new_text, brings_new_octets, after_syn_ack_paid, after_syn_out, after_emitted}
 use Rattle.tcp_state.specs.Edges.{Event, Hears, Ticks, Emits, after_first, after_event, gives_back_by}
 use Rattle.stream_buf.specs.Ranges.{AreApart}
-use Rattle.tcp_state.specs.Selective.{selects, repairs_gaps, with_blocks}
+use Rattle.tcp_state.specs.Selective.{selects, with_blocks}
 use Rattle.tcp_state.proofs.Guarded.{kept_mark}
 use Rattle.tcp_state.proofs.Selects.{silent_unselected, more_counts, report_counts}
-use Rattle.tcp_state.proofs.Places.{at_una_goes}
+use Rattle.tcp_state.proofs.Places.{first_at_una}
 use Rattle.tcp_state.proofs.Scores.{heard_scores}
 use Rattle.tcp_state.proofs.Clocked.{by_others, heard_paced, signalled, by_signal, recover_kept, syn_out}
 use Rattle.tcp_state.proofs.TailProbes.{silent_sound}
@@ -301,15 +300,16 @@ none_below v s now on runs some =
     (λ stays reports counts. clash (v.resend.recover == 0) (more_counts v s x reports).all more)
     (λ moves opened reports. clash (v.resend.recover == 0) (more_counts v s x reports).all more) (λ moves opened whole ends. refl))
 
-pub none_by_probes : (v : View) (s : Segment) (now : Moment) → IsSound v → repairs v.congestion.control ≡ true → probes v ≡ true → IsDuplicate v s → (after_segment_at v s now).congestion ≡ v.congestion
-none_by_probes v s now sound on asks twice =
+-- while a closed window is probed, what moves nothing is nothing to the congestion window
+pub unmoved_by_probes : (v : View) (s : Segment) (now : Moment) → repairs v.congestion.control ≡ true → probes v ≡ true → (after_segment_at v s now).sending.una ≡ v.sending.una → (after_segment_at v s now).congestion ≡ v.congestion
+unmoved_by_probes v s now on asks still =
     let goes = is_recovering v.congestion || (v.resend.recover == 0) in
     let uncounted : counts_duplicates v ≡ false = ap (λ r. not r || (goes && not (probes v) && not (selects v))) on ∙ ap (λ p. goes && not p && not (selects v)) asks ∙ ap (λ b. b && not (selects v)) (and_false goes) in
     elim (others_count_none v (Hears s now)) [
       | inl same ↦ same
       | inr tells ↦ elim tells [
         | inl hears ↦ elim hears.4 [
-          | inl moved ↦ absurd (moved (una_stays v s now sound twice))
+          | inl moved ↦ absurd (moved still)
           | inr told_so ↦ elim told_so [
             | inl counted ↦ clash (counts_duplicates v) counted.1 uncounted
             | inr reports ↦ clash (probes v) asks (report_counts v hears.0 reports).unprobed
@@ -321,6 +321,9 @@ none_by_probes v s now sound on asks twice =
         ]
       ]
     ]
+
+pub none_by_probes : (v : View) (s : Segment) (now : Moment) → IsSound v → repairs v.congestion.control ≡ true → probes v ≡ true → IsDuplicate v s → (after_segment_at v s now).congestion ≡ v.congestion
+none_by_probes v s now sound on asks twice = unmoved_by_probes v s now on asks (una_stays v s now sound twice)
 
 -- A third duplicate ACK notes the end.
 
@@ -428,11 +431,7 @@ part_resends v s now sound opened on plain fits moved alive some =
     let owes : u.owes_reset ≡ false = k.reset ∙ unowed v.owes_reset (is_closed v.state) v.released (neither (is_closed v.state) (is_rejected v s) hears).0 sound.reset in
     let once : u.resend.once ≡ true = ap (λ (p : Resend). p.once) resend in
     let reported : u.resend.reported ≡ x.resend.reported = ap (λ (p : Resend). p.reported) resend ∙ ap (with_blocks x.resend.reported x.sending) (silent_unselected v s plain) in
-    let due : first_due u ≡ Some (Text (again u 0)) =
-    ap (λ t. if t then Some Rst else if is_opening u.state then (if (outstanding u.sending == 0) || is_some u.resend.mark then Some Syn else ack_due u) else option_or (again_from u u.resend.mark) (new_due u)) owes
-    ∙ ap (λ t. if t then (if (outstanding u.sending == 0) || is_some u.resend.mark then Some Syn else ack_due u) else option_or (again_from u u.resend.mark) (new_due u)) k.opened
-    ∙ ap (λ m. option_or (again_from u m) (new_due u)) mark
-    ∙ ap (λ o. option_or o (new_due u)) (at_una_goes u (subst (AreApart 1) (sym reported) (heard_scores v s sound).apart) (ap (λ b. repairs_gaps u && not b) once ∙ and_false (repairs_gaps u)) flies) in
+    let due : first_due u ≡ Some (Text (again u 0)) = first_at_una u owes k.opened mark once (subst (AreApart 1) (sym reported) (heard_scores v s sound).apart) flies in
     let window = counts_partly v s now opened moved alive (both (goes_on v.congestion) (nat_lt 0 w.resend.recover) on (lt-ltb 0 w.resend.recover some)) plain in (
       subst (λ y. first_due y ≡ Some (Text (again y 0))) (sym at) due,
       ap (λ (y : View). y.resend.once) at ∙ once,

@@ -1,6 +1,5 @@
 -- Why what is reported is not sent again, and what reports let go out.
-use Rattle.std.proofs.Common.{◌≡◌, ℕ, ◌+◌, ◌-◌, ◌<◌, ◌≤◌, ◌==◌, ◌&&◌, ◌||◌, not, nat_lt, nat_le, min, true, false, if◌then◌else◌, List, [], ◌∷◌, length, Some, arith, refl, sym, ◌∙◌, ap, ap₂, subst, ◌⊎◌, inl, inr, Bool, None, is_some, ◌≢◌, max}
-use Rattle.std.specs.Option.{option_or}
+use Rattle.std.proofs.Common.{◌≡◌, ℕ, ◌+◌, ◌-◌, ◌<◌, ◌≤◌, ◌==◌, ◌&&◌, ◌||◌, not, nat_lt, nat_le, min, true, false, if◌then◌else◌, List, [], ◌∷◌, length, Some, arith, refl, sym, ◌∙◌, ap, ap₂, subst, ◌⊎◌, inl, inr, Bool, None, ◌≢◌, max}
 use Rattle.std.proofs.lemmas.Bool.{leb-true, eqb-true, ltb-true, lt-ltb, le-ltb}
 use Rattle.std.proofs.lemmas.Bool.Decides.{leb_tells}
 use Rattle.stream_buf.specs.declared.ranges.Range.{Range}
@@ -20,7 +19,7 @@ use Rattle.tcp_halves.specs.Halves.{Sending}
 use Rattle.tcp_halves.specs.Stream.{outstanding}
 use Rattle.tcp_halves.proofs.Choices.{either, by, clash, both, and_left, and_right, and_false, or_left, or_right, not_true, unowed}
 use Rattle.tcp_state.specs.declared.arrival.Before.{Before}
-use Rattle.tcp_state.specs.declared.emission.Due.TheVariants.{Rst, Syn, Text}
+use Rattle.tcp_state.specs.declared.emission.Due.TheVariants.{Text}
 use Rattle.tcp_state.specs.declared.emission.Stretch.{Stretch}
 use Rattle.tcp_state.specs.Resend.{Resend, resend_lost, resend_ends, once_more}
 use Rattle.tcp_state.specs.View.{View, IsSound, is_opening, is_closed, is_at_end}
@@ -28,7 +27,7 @@ use Rattle.tcp_state.specs.Congestion.{Signal, after_signal}
 use Rattle.tcp_state.specs.Congestion.Signal.{Begins, Counts, Both, Nothing}
 use Rattle.tcp_state.specs.New.{sends_new, sends_fin}
 use Rattle.tcp_state.specs.Selective.{selects, repairs_gaps, counts_pipe, tolerance, loss_end, pipe, allowance, place_of, with_blocks, repaired_end, is_usual, tolerance_of}
-use Rattle.tcp_state.specs.Due.{first_due, ack_due, new_due, again_from, again, again_at, is_missing, goes_by_reports, goes_by_windows, goes_again, new_octets, fin_alone, end_of, numbers_of}
+use Rattle.tcp_state.specs.Due.{first_due, again, again_at, is_missing, goes_by_reports, goes_by_windows, goes_again, new_octets, fin_alone, end_of, numbers_of}
 use Rattle.tcp_state.specs.Arrival.{after_heard, before, is_moved, is_rejected, is_counted_duplicate, counts_reports, reported_by, reports_more, told, told_behind, behind_ack, is_partial, came_twice, tells_loss, report_event, whole_signal, is_report, reports_loss, acknowledged_signal, congestion_event_of, resend_signalled, resend_told, resend_after, timed_by, is_duplicate, counts_duplicates, report_signal}
 use Rattle.tcp_state.specs.Edges.{Event, Hears, after_event, Ticks, Emits, Sends, Receives, Shuts, SetsNoDelay, SetsKeepAlive, Closes, Aborts, Unreachable, LosesHop, congestion_event_by}
 use Rattle.clock.specs.Moments.{has_come}
@@ -39,7 +38,7 @@ use Rattle.tcp_state.proofs.Losses.{past_opening}
 use Rattle.tcp_state.proofs.Recount.{heard_counts}
 use Rattle.tcp_state.proofs.Clocked.{by_others, heard_paced, after_paced, told_moved, told_still, signalled, reports_none}
 use Rattle.tcp_state.proofs.Congestion.{window_kept}
-use Rattle.tcp_state.proofs.Places.{at_una_goes}
+use Rattle.tcp_state.proofs.Places.{first_at_una}
 use Rattle.tcp_state.proofs.Scores.{blocks_score, heard_scores}
 use Rattle.tcp_state.proofs.Expiries.{goes_again_all}
 use Rattle.tcp_state.proofs.Recovering.{first_left, goes_after}
@@ -300,11 +299,7 @@ loss_resends v s now sound is other hears alive =
     let owes : u.owes_reset ≡ false = k.reset ∙ unowed v.owes_reset (is_closed v.state) v.released (neither (is_closed v.state) (is_rejected v s) hears) sound.reset in
     let once : u.resend.once ≡ true = ap (λ (p : Resend). p.once) resend in
     let scores = blocks_score x.resend.reported x.sending b.blocks (heard_scores v s sound) in
-    let due : first_due u ≡ Some (Text (again u 0)) =
-    ap (λ t. if t then Some Rst else if is_opening u.state then (if (outstanding u.sending == 0) || is_some u.resend.mark then Some Syn else ack_due u) else option_or (again_from u u.resend.mark) (new_due u)) owes
-    ∙ ap (λ t. if t then (if (outstanding u.sending == 0) || is_some u.resend.mark then Some Syn else ack_due u) else option_or (again_from u u.resend.mark) (new_due u)) k.opened
-    ∙ ap (λ m. option_or (again_from u m) (new_due u)) mark
-    ∙ ap (λ o. option_or o (new_due u)) (at_una_goes u (subst (AreApart 1) (sym (ap (λ (p : Resend). p.reported) resend)) scores.apart) (ap (λ b. repairs_gaps u && not b) once ∙ and_false (repairs_gaps u)) flies) in (
+    let due : first_due u ≡ Some (Text (again u 0)) = first_at_una u owes k.opened mark once (subst (AreApart 1) (sym (ap (λ (p : Resend). p.reported) resend)) scores.apart) flies in (
       subst (λ y. first_due y ≡ Some (Text (again y 0))) (sym at) due,
       ap (λ (y : View). y.resend.recover) at ∙ ap (λ (p : Resend). p.recover) resend ∙ sym (ap (λ (y : View). outstanding y.sending) at),
       ap (λ (y : View). y.resend.once) at ∙ once,

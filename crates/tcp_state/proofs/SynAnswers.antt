@@ -29,7 +29,7 @@ use Rattle.tcp_state.specs.Due.{first_due, ack_due}
 use Rattle.tcp_state.specs.Edges.{after_first}
 use Rattle.tcp_state.specs.Simultaneous.{AnswersSyn}
 use Rattle.tcp_state.specs.Unreachable.{IsRefused}
-use Rattle.tcp_state.proofs.Clocked.{silent_needed, comes_to, marks_kept, probes_kept}
+use Rattle.tcp_state.proofs.Clocked.{silent_needed, comes_to, marks_kept, opening_answers_none, probes_kept}
 use Rattle.tcp_halves.proofs.Choices.{either, clash, both, or_left, or_right, of_false, unowed}
 use Rattle.tcp_state.proofs.Emissions.{syn_sends}
 use Rattle.tcp_state.proofs.Resets.{one_out, next_accepted, rst_not_lost, rst_not_refused}
@@ -74,7 +74,7 @@ answers v s now sound opens =
     let o = opening v sound opens in
     let due : first_due w ≡ Some Syn =
     ap (λ b. if b then Some Rst else (if (out == 0) || is_some w.resend.mark then Some Syn else ack_due w)) o.quiet
-    ∙ (ap (λ m. if (out == 0) || is_some m then Some Syn else ack_due w) (kept_mark v s u now (inl (sent_not_received v.state o.waits)) ∙ marks_kept (before v s) u now (inr (ap is_opening opens)) (repeats_none v s (ap is_opening opens)) (silent_opening v s (ap is_opening opens))) ∙ ap (λ b. if b then Some Syn else ack_due w) (goes_at_once out)) in
+    ∙ (ap (λ m. if (out == 0) || is_some m then Some Syn else ack_due w) (kept_mark v s u now (inl (sent_not_received v.state o.waits)) ∙ marks_kept (before v s) u now (inr (ap is_opening opens)) (opening_answers_none v s (ap is_opening opens)) (repeats_none v s (ap is_opening opens)) (silent_opening v s (ap is_opening opens))) ∙ ap (λ b. if b then Some Syn else ack_due w) (goes_at_once out)) in
     let few : out ≤ 1 = one_out v.sending.size v.state (length v.sending.held) out o.waits sound.held sound.flight in
     record {
       state = refl;
@@ -157,7 +157,7 @@ refused v s now sound is quiet active =
       recv = λ len. refl;
       held = refl;
       readable = none_listed v.receiving.readable (subst (λ t. length v.receiving.readable ≤ (if is_opening t then 0 else v.receiving.size)) is sound.readable);
-      due = silent (record v { alive = heard_now v.alive now; guard = guard }) timed.resend quiet (marks_kept b w now (inr (ap is_opening is)) (repeats_none v s (ap is_opening is)) (silent_opening v s (ap is_opening is))) (ap (λ b. b && probes (record w { resend = resend })) (probes_kept b w now));
+      due = silent (record v { alive = heard_now v.alive now; guard = guard }) timed.resend quiet (marks_kept b w now (inr (ap is_opening is)) (opening_answers_none v s (ap is_opening is)) (repeats_none v s (ap is_opening is)) (silent_opening v s (ap is_opening is))) (ap (λ b. b && probes (record w { resend = resend })) (probes_kept b w now));
       timer = ap (λ t. sooner (sooner (next_of t) None) (sooner None (tail_by timed t.retransmission))) (at_rest v resend (is_moved b w) now sound.nxt);
     }))
 

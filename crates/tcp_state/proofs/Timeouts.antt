@@ -16,7 +16,7 @@ use Rattle.tcp_state.specs.Resend.{Resend, stopped, timeout_sampled, resend_ackn
 use Rattle.tcp_state.specs.View.{View, is_opening, is_closed, after_stop, after_reset}
 use Rattle.tcp_state.specs.Alive.{after_silence}
 use Rattle.tcp_state.specs.Timing.{clocked, retransmission_expired, probe_expired, after_timers, after_expiries}
-use Rattle.tcp_state.specs.Arrival.{is_receiving, after_new_ack, after_ack, after_window, after_text, after_heard, is_rejected, before, is_moved, resend_heard, resend_after, timed_by}
+use Rattle.tcp_state.specs.Arrival.{is_receiving, after_new_ack, after_ack, after_window, after_text, after_heard, is_rejected, before, is_moved, resend_answered, resend_heard, resend_after, timed_by}
 use Rattle.tcp_state.specs.Due.{first_due}
 use Rattle.tcp_state.specs.Edges.{Event, Hears, Ticks, after_first, after_event}
 use Rattle.tcp_state.proofs.Clocked.{by_others, after_paced}
@@ -80,7 +80,7 @@ heard_timeout v s now timed is moved =
     let b = before v s in
     let x = after_heard v s in
     let k = segment_hears v s in
-    ap (λ c. let p = if c then resend_acknowledged x.resend x.sending.una (is_opening v.state) now else if b.answers_probe then record x.resend { expiries = 0 } else x.resend in p.timeout) moved
+    ap (λ c. let p = if c then resend_acknowledged x.resend x.sending.una (is_opening v.state) now else if b.answers_probe then resend_answered x else x.resend in p.timeout) moved
     ∙ ap (λ n. let t = timeout_sampled x.resend.timeout x.resend.timed x.sending.una now in if is_opening v.state && nat_lt 0 n then after_lost_syn t else t) k.expiries
     ∙ ap₂ (λ o d. let t = timeout_sampled o d x.sending.una now in if is_late v then after_lost_syn t else t) k.timeout is
 
@@ -194,8 +194,8 @@ heard_by v s now =
       ]
       | inr none ↦ same (sampled None none)
     ]))
-    (λ stays. same (ap (λ c. let p = if c then resend_acknowledged x.resend x.sending.una (is_opening v.state) now else if b.answers_probe then record x.resend { expiries = 0 } else x.resend in p.timeout) stays
-    ∙ either Resend (λ p. p.timeout ≡ v.resend.timeout) b.answers_probe (record x.resend { expiries = 0 }) x.resend (λ answers. k.timeout) (λ other. k.timeout)))
+    (λ stays. same (ap (λ c. let p = if c then resend_acknowledged x.resend x.sending.una (is_opening v.state) now else if b.answers_probe then resend_answered x else x.resend in p.timeout) stays
+    ∙ either Resend (λ p. p.timeout ≡ v.resend.timeout) b.answers_probe (resend_answered x) x.resend (λ answers. k.timeout) (λ other. k.timeout)))
 
 emitted_keeps : (v : View) (o : Option Due) (now : Moment) → (after_first v o now).resend.timeout ≡ v.resend.timeout
 emitted_keeps v None now = refl

@@ -24,6 +24,7 @@ use Rattle.tcp_state.specs.declared.reporting.Reporting.{Reporting}
 use Rattle.tcp_state.specs.Edges.{Hears}
 use Rattle.tcp_state.specs.Selective.{selects, counts_pipe, allowance}
 use Rattle.tcp_state.proofs.Allowance.{allowance_plain}
+use Rattle.tcp_state.proofs.Clocked.{open_reopens_none}
 use Rattle.tcp_state.proofs.Selects.{counted_selects_none}
 use Rattle.tcp_state.proofs.SetUp.{control_stays}
 use Rattle.tcp_state.proofs.Duplicates.{window_stays, comes_alone}
@@ -110,6 +111,6 @@ limited_sends v s now sound keeps lives on is quiet few unmarked held window cwn
     let segment : v.congestion.smss ≡ v.sending.smss = keeps.segment (ap₂ (λ a b. a || b) d.opened lives) in
     let room : outstanding w.sending + w.sending.smss ≤ allowance w =
     let grown = segment_more v.congestion.duplicates v.congestion.smss in omega (arith, out, smss, more, segment, cwnd, grown) in
-    let due = full_due w (ap (λ (u : View). is_opening u.state) at ∙ d.opened) owes (others_resend_none v s now sound unmarked d.opened runs other quiet) (omega (arith, smss, sound.segment_least))
+    let due = full_due w (ap (λ (u : View). is_opening u.state) at ∙ d.opened) owes (others_resend_none v s now sound unmarked d.opened runs other quiet (open_reopens_none v s (omega (arith, window, sound.segment_least)))) (omega (arith, smss, sound.segment_least))
     (omega (arith, out, smss, octets, held)) (omega (arith, out, smss, told, window)) room in
     due ∙ ap₂ (λ o n. Some (Text (record { offset = o; count = n; fin = takes_fin w (o + n) }))) out smss

@@ -370,10 +370,21 @@ since_after b w now = if b.repeats_fin || begins_wait b.state w.state || (w.owes
 abbrev pub is_moved : Before → View → Bool
 is_moved b w = not (b.una.0 == w.sending.una)
 
+-- The window is open, and the number before SND.NXT went out in probes of a closed one alone, which the peer may have refused: where losses are repaired, the segment at SND.UNA goes out again before what is new, that alone; it is not lost, so nothing is paid for it.
+abbrev pub reopens : View → Bool
+reopens w = w.sending.probed && repairs w.congestion.control && nat_lt 0 w.sending.window
+
+-- a segment by which it does
+abbrev pub reopens_by : View → Segment → Bool
+reopens_by v s = answers_probe v s && reopens (after_heard v s)
+
+abbrev pub resend_answered : View → Resend
+resend_answered w = record w.resend { mark = if reopens w then mark_past 0 (outstanding w.sending) else w.resend.mark; once = reopens w || w.resend.once; expiries = 0 }
+
 abbrev pub resend_heard : Before → View → Moment → Resend
 resend_heard b w now =
     if is_moved b w then resend_acknowledged w.resend w.sending.una (is_opening b.state) now
-    else if b.answers_probe then record w.resend { expiries = 0 }
+    else if b.answers_probe then resend_answered w
     else w.resend
 
 -- What the segment reports joins what was reported, of what is outstanding still. Octets that nothing reported before make it a duplicate ACK, whatever else it brings (RFC 6675 section 2).

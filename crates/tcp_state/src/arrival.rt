@@ -1,28 +1,20 @@
 //! What an arriving segment does (RFC 9293 section 3.10.7).
 
-ghost use Rattle.std.specs.Prelude.{◌≡◌, ◌≤◌, ◌-◌, [], length, min, true, false, ◌&&◌, ◌||◌, not, if◌then◌else◌, IsTrue, ◌==◌};
+ghost use Rattle.std.specs.Prelude.{◌≡◌, ◌≤◌, ◌-◌, [], min, true, false, ◌&&◌, ◌||◌, not, if◌then◌else◌, ◌==◌};
 ghost use Rattle.tcp_state.specs.View.{is_opening, is_syn_sent, is_syn_received, is_closed, awaits_fin_ack, after_reset};
-ghost use Rattle.tcp_state.specs.Arrival.{after_segment, scales_with, after_first_syn, after_syn_ack, owing_ack, after_establishment, after_ack, is_off, is_read_on, after_window, after_text, after_acknowledging_segment, after_acceptable_segment, ends_by_syn, is_acceptable_to, fin_acknowledged, after_new_ack, after_fin, reset_error, after_rst_in_syn_sent, after_rst, is_acting_reset, ends_by_reset, is_right_syn_ack, is_simultaneous_syn, after_simultaneous_syn, fate, after_segment_at, after_heard, is_lost, is_read, brings_more, after_lost, repeats_fin, is_rejected, ends_opening, is_of_fin, may_delay, asks, answers_probe, octets_outstanding, is_duplicate, counts_duplicates, before, is_moved, resend_heard, signal_of, tells_loss, report_signal, given_back, ends_tail, whole_signal, resend_signalled, timed_by, begins_wait};
-ghost use Rattle.congestion.specs.Events.{after_event};
-ghost use Rattle.congestion.specs.Events.Event.{PartialAck, Duplicate};
-ghost use Rattle.congestion.specs.Control.{is_selective};
+ghost use Rattle.tcp_state.specs.Arrival.{after_segment, scales_with, after_first_syn, after_syn_ack, owing_ack, after_establishment, after_ack, is_off, is_read_on, after_window, after_text, after_acknowledging_segment, is_acceptable_to, fin_acknowledged, after_new_ack, after_fin, reset_error, after_rst_in_syn_sent, after_rst, is_acting_reset, ends_by_reset, is_right_syn_ack, is_simultaneous_syn, after_simultaneous_syn, fate, after_segment_at, after_heard, is_lost, is_read, brings_more, after_lost, repeats_fin, is_rejected, ends_opening, is_of_fin, may_delay, asks, answers_probe, octets_outstanding, is_duplicate, counts_duplicates, before, is_moved, reopens, resend_heard, timed_by, begins_wait};
 ghost use Rattle.congestion.specs.Window.{is_recovering};
 ghost use Rattle.tcp_halves.specs.Stream.{after_octets};
 ghost use Rattle.tcp_state.specs.Reporting.{noted};
-ghost use Rattle.tcp_state.specs.Resend.{resend_first, resend_ends, excused_by, gives_back};
 ghost use Rattle.tcp_state.specs.Selective.{selects};
-ghost use Rattle.tcp_state.specs.Congestion.{after_signal};
-ghost use Rattle.tcp_state.specs.Congestion.Signal.{Counts};
 ghost use Rattle.tcp_state.specs.declared.state.State.{State};
 ghost use Rattle.tcp_segment.specs.Wire.{past};
 ghost use Rattle.tcp_halves.specs.declared.buffers.TheConstants.{CAPACITY};
 ghost use Rattle.tcp_halves.specs.Stream.{outstanding, is_new_ack};
 
 use crate::connection::{Connection, Fate};
-use crate::needless::came_twice;
 use crate::state::State;
 use clock::Moment;
-use congestion::Cwnd;
 use retransmit::Timers;
 use tcp_segment::{Blocks, Seq, TcpView};
 
@@ -30,7 +22,7 @@ use tcp_segment::{Blocks, Seq, TcpView};
 #[derive(Drop)]
 pub(crate) struct Before {
     /// The state that the connection was in.
-    state: State,
+    pub(crate) state: State,
     /// SND.UNA as it was.
     una: Seq,
     /// Whether the reset of an abort was owed.
@@ -40,17 +32,17 @@ pub(crate) struct Before {
     /// Whether the segment shows that a peer whose window is closed is there.
     answers_probe: bool,
     /// Whether the segment is a duplicate ACK that counts.
-    is_duplicate: bool,
+    pub(crate) is_duplicate: bool,
     /// Whether it counts as one where it reports what nothing reported before.
     pub(crate) counts_reports: bool,
     /// What it reports.
     pub(crate) blocks: Blocks,
     /// How many octets were held.
-    held: u32,
+    pub(crate) held: u32,
     /// The number behind all that was outstanding when a probe of the tail went out, as a distance past SND.UNA as it was; 0 where none did, or all of it was acknowledged.
-    tail: u32,
+    pub(crate) tail: u32,
     /// Whether it tells that octets went out again which needn't have.
-    needless: bool,
+    pub(crate) needless: bool,
     /// Whether it asks for an acknowledgement, by the number before RCV.NXT.
     pub(crate) asks: bool,
     /// Whether it isn't used or asks for one, on guard, and draws an acknowledgement that isn't owed already.
@@ -201,7 +193,7 @@ impl Connection {
         self.update_timers(moved, now);
     }
 
-    /// A segment that moved SND.UNA is progress, and so is one that answers a probe.
+    /// A segment that moved SND.UNA is progress, and so is one that answers a probe. Where it opens the window behind one, what the probe brought goes out again.
     fn note_progress(&mut self, before: &Before, moved: bool, now: Moment)
         requires { moved ≡ is_moved before.now self.old }
         ensures { self.new ≡ record self.old { resend = resend_heard before.now self.old now } }
@@ -211,156 +203,17 @@ impl Connection {
                 .acknowledge(self.sender.una(), before.state.is_opening(), now);
         } else if before.answers_probe {
             self.resend.progress();
+            if self.reopens() {
+                self.resend.mark_first(self.sender.outstanding());
+            }
         }
     }
 
-    /// The congestion window takes what a segment is to it, and what it gives back.
-    fn note_news(&mut self, before: &Before, moved: bool, reports_more: bool)
-        requires { moved ≡ is_moved before.now self.old }
-        ensures { self.new ≡ (
-            let resend = excused_by before.now.needless (resend_signalled self.old.resend (signal_of before.now self.old reports_more) self.old.congestion (outstanding self.old.sending)) in record self.old {
-              resend = resend;
-              congestion = given_back (gives_back before.now.needless resend) (after_signal self.old.congestion (signal_of before.now self.old reports_more) self.old.sending.smss self.old.resend.syn_resent);
-            }) }
+    /// Whether the window is open behind a number that went out in probes of a closed one alone, and losses are repaired.
+    fn reopens(&self) -> bool
+        ensures { result ≡ reopens self.now }
     {
-        self.note_signal(before, moved, reports_more);
-        if before.needless {
-            self.note_needless();
-        }
-    }
-
-    /// The congestion window takes what a segment is to it; by the third duplicate ACK the segment at SND.UNA goes out again (fast retransmit, RFC 5681 section 3.2), by a partial ACK, too, and by reports that tell its loss.
-    fn note_signal(&mut self, before: &Before, moved: bool, reports_more: bool)
-        requires { moved ≡ is_moved before.now self.old }
-        ensures { self.new ≡ record self.old {
-          resend = resend_signalled self.old.resend (signal_of before.now self.old reports_more) self.old.congestion (outstanding self.old.sending);
-          congestion = after_signal self.old.congestion (signal_of before.now self.old reports_more) self.old.sending.smss self.old.resend.syn_resent;
-        } }
-    {
-        if self.state == State::Closed {
-            return;
-        }
-        if moved {
-            self.note_acknowledged(before, reports_more);
-        } else if before.is_duplicate {
-            self.note_duplicate();
-        } else if reports_more {
-            self.note_report();
-        }
-    }
-
-    /// A duplicate ACK counts: the third tells the loss of the segment at SND.UNA.
-    fn note_duplicate(&mut self)
-        ensures { self.new ≡ record self.old {
-          resend = resend_signalled self.old.resend (Counts (Duplicate (outstanding self.old.sending))) self.old.congestion (outstanding self.old.sending);
-          congestion = after_event self.old.congestion (Duplicate (outstanding self.old.sending));
-        } }
-    {
-        let outstanding = self.sender.outstanding();
-        if self.congestion.duplicate(outstanding) {
-            self.resend
-                .mark_lost(self.congestion.repairs(), outstanding);
-        }
-    }
-
-    /// A report counts: it tells the loss of the segment at SND.UNA, or is one before that.
-    fn note_report(&mut self)
-        ensures { self.new ≡ record self.old {
-          resend = resend_signalled self.old.resend (report_signal self.old) self.old.congestion (outstanding self.old.sending);
-          congestion = after_signal self.old.congestion (report_signal self.old) self.old.sending.smss self.old.resend.syn_resent;
-        } }
-    {
-        if !self.tells_loss() {
-            return self.note_early();
-        }
-        let outstanding = self.sender.outstanding();
-        self.congestion.lost(outstanding);
-        self.resend.mark_lost(true, outstanding);
-    }
-
-    /// A report counts that tells no loss: as a duplicate ACK, but for the third and those behind it.
-    fn note_early(&mut self)
-        requires { tells_loss self.old ≡ false }
-        ensures { self.new ≡ record self.old {
-          resend = resend_signalled self.old.resend (report_signal self.old) self.old.congestion (outstanding self.old.sending);
-          congestion = after_signal self.old.congestion (report_signal self.old) self.old.sending.smss self.old.resend.syn_resent;
-        } }
-    {
-        if !self.congestion.is_third_next() {
-            self.note_duplicate();
-        }
-    }
-
-    /// The congestion window begins where our SYN is acknowledged, and else takes the octets that are, and behind them what is reported.
-    fn note_acknowledged(&mut self, before: &Before, reports_more: bool)
-        requires moved { is_moved before.now self.old ≡ true }
-        requires open { is_closed self.old.state ≡ false }
-        ensures { self.new ≡ record self.old {
-          resend = resend_signalled self.old.resend (signal_of before.now self.old reports_more) self.old.congestion (outstanding self.old.sending);
-          congestion = after_signal self.old.congestion (signal_of before.now self.old reports_more) self.old.sending.smss self.old.resend.syn_resent;
-        } }
-    {
-        if before.state.is_opening() {
-            let (control, smss) = (self.congestion.control(), self.sender.smss() as u16);
-            self.congestion = Cwnd::new(control, smss, self.resend.is_syn_resent());
-            return;
-        }
-        let octets = before.held.saturating_sub(self.sender.held_len() as u32);
-        if self.is_partial() {
-            self.note_partial(octets);
-        } else {
-            self.note_whole(before, octets, reports_more);
-        }
-    }
-
-    /// An ACK of so many new octets came in a recovery that goes on.
-    fn note_partial(&mut self, octets: u32)
-        ensures { self.new ≡ (if selects self.old then self.old else record self.old { resend = resend_first self.old.resend (outstanding self.old.sending); congestion = after_event self.old.congestion (PartialAck octets) }) }
-    {
-        if !self.selects() {
-            self.congestion.partly_acked(octets);
-            self.resend.mark_first(self.sender.outstanding());
-        }
-    }
-
-    /// An ACK of so many new octets came that ends the recovery, if one runs; what it reports counts behind it.
-    fn note_whole(&mut self, before: &Before, octets: u32, reports_more: bool)
-        ensures { self.new ≡ record self.old {
-          resend = resend_signalled self.old.resend (whole_signal before.now self.old octets reports_more) self.old.congestion (outstanding self.old.sending);
-          congestion = after_signal self.old.congestion (whole_signal before.now self.old octets reports_more) self.old.sending.smss self.old.resend.syn_resent;
-        } }
-    {
-        let outstanding = self.sender.outstanding();
-        if !reports_more && self.ends_tail(before) {
-            self.congestion.lost(before.tail);
-            self.congestion.acked(octets, outstanding);
-            return;
-        }
-        self.end_repair();
-        self.congestion.acked(octets, outstanding);
-        if reports_more {
-            self.note_report();
-        }
-    }
-
-    /// Whether an ACK tells that a probe of the tail brought what was lost.
-    fn ends_tail(&self, before: &Before) -> bool
-        ensures { result ≡ ends_tail before.now self.now }
-    {
-        self.selects()
-            && before.tail > 0
-            && self.resend.tail() == 0
-            && !self.congestion.is_recovering()
-            && !came_twice(self.sender.una(), &before.blocks)
-    }
-
-    /// A recovery is over, if one runs; where reports ruled it, nothing goes out again by its mark.
-    fn end_repair(&mut self)
-        ensures { self.new ≡ record self.old { resend = if is_selective self.old.congestion.control && is_recovering self.old.congestion then resend_ends self.old.resend else self.old.resend } }
-    {
-        if self.congestion.control().is_selective() && self.congestion.is_recovering() {
-            self.resend.end_repair();
-        }
+        self.sender.is_probed() && self.congestion.repairs() && self.sender.window() > 0
     }
 
     /// Takes a segment, without the clock.

@@ -37,7 +37,7 @@ ghost use Rattle.stream_buf.specs.Scoreboard.{is_reported};
 ghost use Rattle.tcp_state.specs.Selective.{repairs_gaps, pipe, allowance};
 ghost use Rattle.tcp_state.specs.Congestion.{KeepsCongestion, after_signal};
 ghost use Rattle.tcp_state.specs.Resend.{is_alone};
-ghost use Rattle.tcp_state.specs.Arrival.{opened_passively, fate, is_acceptable_to, is_receiving, is_read, is_counted_duplicate, reports_loss, after_ack, after_heard, after_segment_at, tells_needless, given_back};
+ghost use Rattle.tcp_state.specs.Arrival.{opened_passively, fate, is_acceptable_to, is_receiving, is_read, is_counted_duplicate, reports_loss, reopens_by, after_ack, after_heard, after_segment_at, tells_needless, given_back};
 ghost use Rattle.tcp_state.specs.Due.{MayGoOut, first_due, number_of, end_of, flags_of, octets_of, window_of, sends_again, again, rest_of, IsSmall, after_emitted};
 ghost use Rattle.tcp_state.specs.Unreachable.{IsRefused};
 ghost use Rattle.tcp_state.specs.Simultaneous.{crossed, AnswersSyn, CanBeMade, HasOpened, KnowsWindow};
@@ -309,22 +309,22 @@ pub fn one_segment_raises_the_window_by_one()
         → is_recovering (after_segment_at v s now).congestion ≡ false → (after_segment_at v s now).congestion.cwnd ≤ max (v.congestion.cwnd + most_growth v.congestion) v.congestion.prior_cwnd }
 {}
 
-/// The third duplicate ACK in a row, and but for partial ACKs and reports of a loss no other segment, sends the segment at SND.UNA again, and that alone (RFC 5681 section 3.2).
+/// The third duplicate ACK in a row, and but for partial ACKs, reports of a loss and the opening of a probed window no other segment, sends the segment at SND.UNA again, and that alone (RFC 5681 section 3.2).
 pub fn the_third_duplicate_resends()
     ensures third { (v : View) (s : Segment) (now : Moment) → IsSound v → is_closed v.state ≡ false → is_counted_duplicate v s ≡ true → third_is_next v.congestion ≡ true
         → (first_due (after_segment_at v s now) ≡ Some (Due.Text (again (after_segment_at v s now) 0))) × ((after_segment_at v s now).resend.once ≡ true) }
-    ensures others { (v : View) (s : Segment) (now : Moment) → IsSound v → v.resend.mark ≡ None → is_opening v.state ≡ false → goes_on v.congestion ≡ false → is_counted_duplicate v s && third_is_next v.congestion ≡ false → reports_loss v s ≡ false
+    ensures others { (v : View) (s : Segment) (now : Moment) → IsSound v → v.resend.mark ≡ None → is_opening v.state ≡ false → goes_on v.congestion ≡ false → is_counted_duplicate v s && third_is_next v.congestion ≡ false → reports_loss v s ≡ false → reopens_by v s ≡ false
         → (after_segment_at v s now).resend.mark ≡ None }
     ensures alone { (v : View) (stretch : Stretch) (now : Moment) → is_alone v.resend ≡ true → nat_lt stretch.offset (outstanding v.sending) ≡ true
         → (after_emitted v (Due.Text stretch) now).resend.mark ≡ None }
 {}
 
 /// The resend mark keeps its number (RFC 6298 section 5.4): an acknowledgement that moves SND.UNA brings it as much nearer to that, or to it, and takes it away only where nothing is outstanding past it.
-/// The third duplicate ACK alone puts it back, a partial one, and a report of a loss.
+/// The third duplicate ACK alone puts it back, a partial one, a report of a loss, and the opening of a probed window.
 pub fn the_mark_keeps_its_number()
-    ensures stays { (v : View) (s : Segment) (now : Moment) (distance left : ℕ) → IsSound v → is_opening v.state ≡ false → goes_on v.congestion ≡ false → (is_counted_duplicate v s && third_is_next v.congestion) ≡ false → reports_loss v s ≡ false → v.resend.mark ≡ Some distance
+    ensures stays { (v : View) (s : Segment) (now : Moment) (distance left : ℕ) → IsSound v → is_opening v.state ≡ false → goes_on v.congestion ≡ false → (is_counted_duplicate v s && third_is_next v.congestion) ≡ false → reports_loss v s ≡ false → reopens_by v s ≡ false → v.resend.mark ≡ Some distance
         → is_closed (after_segment_at v s now).state ≡ false → (after_segment_at v s now).resend.mark ≡ Some left → left ≡ distance - past (after_segment_at v s now).sending.una v.sending.una }
-    ensures goes { (v : View) (s : Segment) (now : Moment) (distance : ℕ) → IsSound v → is_opening v.state ≡ false → goes_on v.congestion ≡ false → (is_counted_duplicate v s && third_is_next v.congestion) ≡ false → reports_loss v s ≡ false → v.resend.mark ≡ Some distance
+    ensures goes { (v : View) (s : Segment) (now : Moment) (distance : ℕ) → IsSound v → is_opening v.state ≡ false → goes_on v.congestion ≡ false → (is_counted_duplicate v s && third_is_next v.congestion) ≡ false → reports_loss v s ≡ false → reopens_by v s ≡ false → v.resend.mark ≡ Some distance
         → is_closed (after_segment_at v s now).state ≡ false → (after_segment_at v s now).resend.mark ≡ None → outstanding (after_segment_at v s now).sending ≤ distance - past (after_segment_at v s now).sending.una v.sending.una }
 {}
 

@@ -18,6 +18,7 @@ mod info;
 pub mod late;
 pub mod laws;
 mod needless;
+mod news;
 mod plain;
 pub mod probing;
 pub mod progress;

@@ -20,7 +20,7 @@ ghost use Rattle.tcp_state.specs.Congestion.Signal.{Counts};
 ghost use Rattle.tcp_state.specs.Timing.{probes};
 ghost use Rattle.tcp_state.specs.New.{takes_fin};
 ghost use Rattle.tcp_state.specs.Due.{first_due, again, end_of};
-ghost use Rattle.tcp_state.specs.Arrival.{opened_passively, is_counted_duplicate, reports_loss, after_segment_at};
+ghost use Rattle.tcp_state.specs.Arrival.{opened_passively, is_counted_duplicate, reports_loss, answers_probe, reopens_by, after_segment_at};
 ghost use Rattle.tcp_state.specs.Selective.{selects, counts_pipe};
 ghost use Rattle.tcp_state.specs.Counted.{IsDuplicate};
 ghost use Rattle.tcp_state.specs.Edges.{Event, after_event, congestion_event_by};
@@ -65,6 +65,15 @@ pub fn a_recovery_ends_at_its_end()
 pub fn no_recovery_begins_below_the_last()
     ensures below { (v : View) (s : Segment) (now : Moment) → repairs v.congestion.control ≡ true → is_recovering v.congestion ≡ false → 0 < v.resend.recover → is_recovering (after_segment_at v s now).congestion ≡ false }
     ensures probing { (v : View) (s : Segment) (now : Moment) → IsSound v → repairs v.congestion.control ≡ true → probes v ≡ true → IsDuplicate v s → (after_segment_at v s now).congestion ≡ v.congestion }
+{}
+
+/// What went out in probes of a closed window alone, and isn't acknowledged, goes out again by the segment that opens the window, before anything new (RFC 9293 section 3.8.6.1): its peer may have refused it, and what is new stands behind it. It is all that is outstanding, and is no loss: the congestion window
+/// stays as it is. Nothing goes out again by it where losses aren't repaired, where not only a probe took the number, or where the window was open.
+pub fn what_a_closed_window_refused_goes_out_again()
+    ensures sends { (v : View) (s : Segment) (now : Moment) → IsSound v → repairs v.congestion.control ≡ true → probes v ≡ true → v.sending.probed ≡ true → is_closed v.state ≡ false → answers_probe v s ≡ true
+        → let w = after_segment_at v s now in is_closed w.state ≡ false → w.sending.una ≡ v.sending.una → 0 < w.sending.window
+        → (first_due w ≡ Some (Due.Text (again w 0))) × (outstanding w.sending ≡ 1) × (w.congestion ≡ v.congestion) }
+    ensures alone { (v : View) (s : Segment) → is_opening v.state ≡ false → (repairs v.congestion.control ≡ false) ⊎ ((v.sending.probed ≡ false) ⊎ (0 < v.sending.window)) → reopens_by v s ≡ false }
 {}
 
 /// Limited transmit (RFC 3042 section 2), where reports don't count what is in the network: new octets go past the congestion window by a segment for each of the first two duplicate ACKs at most, in no recovery, and never past the peer's window; and at the first two duplicate ACKs that

@@ -369,3 +369,34 @@ fn answers_to_probes_begin_no_recovery(rt: HostRuntime) {
         assert!(rt; windows(&end) == (16_060, 65_535));
     }
 }
+
+/// How losses are repaired, and which segments go out where the window opens behind a probe that was refused, each by its octets with its header.
+const REOPENED: [(Recovery, &[usize]); 2] = [
+    (Recovery::Plain, &[WITH_HEADER, WITH_HEADER]),
+    (Recovery::NewReno, &[21, WITH_HEADER, WITH_HEADER]),
+];
+
+/// The window closes behind a segment, and the peer refuses the octet of the first probe. When it opens, that octet goes out again before those behind it, once, where losses are repaired. The last octets
+/// wait by Nagle's rule, the congestion window has nothing to pay, and the timer runs for what is outstanding.
+#[test]
+fn what_a_closed_window_refused_goes_out_again(rt: HostRuntime) {
+    for (recovery, segments) in &REOPENED {
+        let control = Control {
+            recovery: *recovery,
+            ..PLAIN
+        };
+        let mut end = opened(&rt, rt.alloc(), control, 1_000, 0);
+        assert!(rt; writes(&mut end, 0, 1) && sends(&mut end, 0, &[0]));
+        assert!(rt; hears(&mut end, 0, 1, 0) && writes(&mut end, 0, 3));
+        assert!(rt; end.connection.tick(Moment(1_000)) == Stays);
+        assert!(rt; end.emit(1_000) == Some(21));
+        assert!(rt; hears(&mut end, 1_000, 1, 0) && end.connection.due().is_none());
+        assert!(rt; hears(&mut end, 1_500, 1, WIDE));
+        for len in *segments {
+            assert!(rt; end.emit(1_500) == Some(*len));
+        }
+        assert!(rt; end.connection.due().is_none());
+        assert!(rt; end.connection.deadline() == Some(Moment(2_500)));
+        assert!(rt; windows(&end) == (16_060, 65_535));
+    }
+}

@@ -25,7 +25,7 @@ use Rattle.tcp_halves.specs.Windows.{window_in, sendable, is_worth_sending, has_
 use Rattle.tcp_state.specs.declared.emission.Due.{Due}
 use Rattle.std.specs.Option.{option_or}
 use Rattle.tcp_state.proofs.Selects.{silent_opening}
-use Rattle.tcp_state.proofs.Clocked.{comes_to, marks_kept}
+use Rattle.tcp_state.proofs.Clocked.{comes_to, marks_kept, opening_answers_none}
 use Rattle.tcp_state.proofs.Guarded.{kept_mark, sent_not_received, sent_owes}
 use Rattle.tcp_state.proofs.ResetErrors.{refused_in_syn_sent}
 use Rattle.tcp_state.proofs.Segments.{by_segment, by_ack, by_fin, opened_by_syn_ack}
@@ -176,7 +176,7 @@ opened_by ours theirs f v now answers sound asks out =
     let heard : after_heard v s ≡ opened_by_syn_ack v s = ap (λ b. if b then after_lost v s else after_segment v s) kept ∙ syn_ack_heard v s asks.state refl refl ack new in
     let u = opened_by_syn_ack v s in
     let at : after_segment_at v s now ≡ timed_by (before v s) u now = comes_to v s now (ap is_closed asks.state) taken ∙ ap (λ w. timed_by (before v s) w now) heard in
-    let mark : (resend_after (before v s) u now).mark ≡ None = marks_kept (before v s) u now (inr opens) (ap (λ b. not b && is_read v s && nat_lt 0 (octets_outstanding v) && (length s.octets == 0) && not s.flags.fin && (s.acknowledgement == v.sending.una) && (window_in v.sending s.window == v.sending.window) && not (stands_before v.receiving s.number) && counts_duplicates v) opens) (silent_opening v s opens) in
+    let mark : (resend_after (before v s) u now).mark ≡ None = marks_kept (before v s) u now (inr opens) (opening_answers_none v s opens) (ap (λ b. not b && is_read v s && nat_lt 0 (octets_outstanding v) && (length s.octets == 0) && not s.flags.fin && (s.acknowledgement == v.sending.una) && (window_in v.sending s.window == v.sending.window) && not (stands_before v.receiving s.number) && counts_duplicates v) opens) (silent_opening v s opens) in
     let w = timed_by (before v s) u now in
     let P : View → Type 0 = λ e. IsOpen ours theirs e × (first_due e ≡ Some Ack) in (
       subst P (sym at) (
