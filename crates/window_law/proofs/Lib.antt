@@ -1,0 +1,10 @@
+pub mod Meeting
+pub mod Heard
+pub mod Sent
+pub mod Known
+pub mod Knowing
+pub mod Openings
+pub mod Scaled
+pub mod Hearing
+pub mod Run
+pub mod Acknowledged
