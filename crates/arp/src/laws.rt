@@ -16,7 +16,7 @@ ghost use Rattle.arp.specs.Events.{Event, moment_of, after_event, cache_after, I
 ghost use Rattle.arp.specs.Packet.{spelling, request_of, reply_to, HasWidths, Spells, IsParsed};
 ghost use Rattle.arp.specs.Reading.{packet_in};
 
-/// A request names whom it seeks, and who seeks it: its target is the address whose MAC is wanted, and its sender's pair is that of the host that asks, by which it is answered. On the wire
+/// A request names whom it seeks, and who seeks it: its target is the address whose MAC is wanted, and its sender's pair is that of the host that asks. On the wire
 /// a request has the operation 1 and a reply 2 (RFC 826).
 pub fn requests_name_whom_they_seek()
     ensures target { (mac : Mac) (own sought : Addr) → (request_of mac own sought).target_addr ≡ sought }

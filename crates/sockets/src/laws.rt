@@ -168,7 +168,7 @@ pub fn ticks_wait()
     ensures { (h : SocketsView) (now : Moment) → has_come (least_deadline h) (later_moment h now) ≡ false → after_tick h now ≡ record h { kept = later_moment h now } }
 {}
 
-/// The two ends of a connection are told as they are, in any state: `getpeername` tells the peer's and `getsockname` the own (POSIX.1-2017), by which its segments are known (RFC 9293 section 4).
+/// The two ends of a connection are told as they are, in any state: `getpeername` tells the peer's and `getsockname` the own (POSIX.1-2017).
 /// A listener tells where it listens, and has no peer.
 pub fn ends_are_told()
     ensures connection { (h : SocketsView) (id : SocketId) (c : View) (listener : Option SocketId) → role_of h id ≡ Some (Connected c listener) → (peername_answer h id ≡ Ok c.peer) × (sockname_answer h id ≡ Ok c.local) }

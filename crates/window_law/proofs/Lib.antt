@@ -8,3 +8,4 @@ pub mod Scaled
 pub mod Hearing
 pub mod Run
 pub mod Acknowledged
+pub mod Drawing

@@ -1,5 +1,5 @@
 -- What two ends of one connection know of one another's windows, over the runs of `stream_law`: each sends what is due first, and what the network does with it is as there.
-use Rattle.std.specs.Prelude.{◌≡◌, ℕ, ◌+◌, ◌*◌, ◌<◌, ◌≤◌, ◌^◌, ◌||◌, true, false, ◌∷◌, length}
+use Rattle.std.specs.Prelude.{◌≡◌, ℕ, ◌+◌, ◌*◌, ◌<◌, ◌≤◌, ◌^◌, ◌||◌, ◌⊎◌, true, false, ◌∷◌, length, Some}
 use Rattle.clock.specs.declared.moment.Moment.{Moment}
 use Rattle.ipv4.specs.declared.addr.Endpoint.{Endpoint}
 use Rattle.tcp_segment.specs.Wire.{past}
@@ -9,13 +9,12 @@ use Rattle.tcp_halves.specs.Stream.{receive_window}
 use Rattle.tcp_state.specs.declared.emission.Due.{Due}
 use Rattle.tcp_state.specs.declared.emission.Due.TheVariants.{Ack}
 use Rattle.tcp_state.specs.View.{View, IsSound, is_opening, is_syn_sent, is_closed, opened_actively}
-use Rattle.tcp_state.specs.Arrival.{opened_passively, is_read, after_segment, fate}
+use Rattle.tcp_state.specs.Arrival.{opened_passively, is_read, after_segment, after_segment_at, fate}
 use Rattle.tcp_state.specs.Due.{first_due, flags_of, after_emitted}
 use Rattle.tcp_state.specs.Said.{segment_of}
 use Rattle.stream_law.specs.Channel.{IsAmong}
 use Rattle.stream_law.specs.ChannelViews.{IsOfWidth}
 use Rattle.stream_law.specs.Pairing.{Absent, Present, Emission, Pairing, apart, from_other, IsTimely, with_connection, remains, Move}
-use Rattle.std.specs.Prelude.{Some}
 
 -- How far past SND.UNA of the one end the window of the other reaches: RCV.NXT + RCV.WND there.
 abbrev pub edge_from : Sending → Receiving → ℕ
@@ -85,3 +84,11 @@ HearsAcknowledgement v w = let s = segment_of v Ack in let x = after_segment w s
 abbrev pub EachAcknowledgementIsHeard : Type 0
 EachAcknowledgementIsHeard = (limit : ℕ) → limit ≤ 2 ^ 30 → (p : Pairing) → Talks limit p → (v w : View) → p.own.connection ≡ Present v → p.other.connection ≡ Present w → IsOpen v → IsOpen w → IsSound v → IsSound w
     → HearsAcknowledgement v w × HearsAcknowledgement w v
+
+-- One that comes draws no other, unless what only a probe took is known as taken to the other end alone: then the answer tells it, and no more are drawn.
+abbrev pub DrawsNone : View → View → Moment → Type 0
+DrawsNone v w now = (after_segment_at w (segment_of v Ack) now).owes_ack ≡ true → (w.owes_ack ≡ true) ⊎ ((v.sending.probed ≡ true) × ((let y = after_segment v (segment_of w Ack) in y.sending.probed) ≡ false))
+
+abbrev pub AcknowledgementsDrawNone : Type 0
+AcknowledgementsDrawNone = (limit : ℕ) → limit ≤ 2 ^ 30 → (p : Pairing) → Talks limit p → (v w : View) → p.own.connection ≡ Present v → p.other.connection ≡ Present w → IsOpen v → IsOpen w → IsSound v → IsSound w → (now : Moment)
+    → DrawsNone v w now × DrawsNone w v now
