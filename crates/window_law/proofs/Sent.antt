@@ -81,12 +81,12 @@ few_end v stretch sound first =
       asks = λ quiet owes t e. cc;
     }) stretch first
 
--- no SYN is due past the opening
-no_syn : (v : View) → is_opening v.state ≡ false → first_due v ≡ Some Syn → ⊥
-no_syn v opened first = by_due (λ o. o ≡ Some Syn → ⊥) v (record {
+-- a SYN is due of an opening alone
+pub opening_syn : (v : View) → first_due v ≡ Some Syn → is_opening v.state ≡ true
+opening_syn v first = by_due (λ o. o ≡ Some Syn → is_opening v.state ≡ true) v (record {
   nothing = λ quiet heard e. cc;
   rst = λ owes e. cc;
-  syn = λ opening goes e. clash (is_opening v.state) opening opened;
+  syn = λ opening goes e. opening;
   once_more = λ still place is goes e. cc;
   octets = λ still sends e. cc;
   fin = λ still sends e. cc;
@@ -94,6 +94,9 @@ no_syn v opened first = by_due (λ o. o ≡ Some Syn → ⊥) v (record {
   ack = λ owes e. cc;
   asks = λ quiet owes e. cc;
 }) first
+
+no_syn : (v : View) → is_opening v.state ≡ false → first_due v ≡ Some Syn → ⊥
+no_syn v opened first = clash (is_opening v.state) (opening_syn v first) opened
 
 -- more is settled only up to the end of the window
 abbrev pub Settles : View → View → Type 0
@@ -175,19 +178,6 @@ widens v Ack now sound first unreset = wider v.receiving (sound_keeping v sound)
 widens v KeepAlive now sound first unreset = wider v.receiving (sound_keeping v sound)
 
 -- A SYN that is due acknowledges the peer's where that came, and only there; no other segment has SYN.
-pub opening_syn : (v : View) → first_due v ≡ Some Syn → is_opening v.state ≡ true
-opening_syn v first = by_due (λ o. o ≡ Some Syn → is_opening v.state ≡ true) v (record {
-  nothing = λ quiet heard e. cc;
-  rst = λ owes e. cc;
-  syn = λ opening goes e. opening;
-  once_more = λ still place is goes e. cc;
-  octets = λ still sends e. cc;
-  fin = λ still sends e. cc;
-  probe = λ still owes goes e. cc;
-  ack = λ owes e. cc;
-  asks = λ quiet owes e. cc;
-}) first
-
 pub syn_acks : (v : View) (due : Due) → first_due v ≡ Some due → (let f = flags_of v due in f.syn) ≡ true → is_syn_sent v.state ≡ false → (let f = flags_of v due in f.ack) ≡ true
 syn_acks v Rst first syn past = cc
 syn_acks v Syn first syn past = received v.state (opening_syn v first) past

@@ -81,6 +81,7 @@ EveryTalkAgrees = (limit : ℕ) → limit ≤ 2 ^ 30 → (p : Pairing) → Talks
 abbrev pub HearsAcknowledgement : View → View → Type 0
 HearsAcknowledgement v w = let s = segment_of v Ack in let x = after_segment w s in (is_read w s ≡ true) × (is_closed x.state ≡ false → x.sending.una ≡ v.receiving.rnext)
 
+-- in every reached state, in both directions
 abbrev pub EachAcknowledgementIsHeard : Type 0
 EachAcknowledgementIsHeard = (limit : ℕ) → limit ≤ 2 ^ 30 → (p : Pairing) → Talks limit p → (v w : View) → p.own.connection ≡ Present v → p.other.connection ≡ Present w → IsOpen v → IsOpen w → IsSound v → IsSound w
     → HearsAcknowledgement v w × HearsAcknowledgement w v
@@ -89,6 +90,7 @@ EachAcknowledgementIsHeard = (limit : ℕ) → limit ≤ 2 ^ 30 → (p : Pairing
 abbrev pub DrawsNone : View → View → Moment → Type 0
 DrawsNone v w now = (after_segment_at w (segment_of v Ack) now).owes_ack ≡ true → (w.owes_ack ≡ true) ⊎ ((v.sending.probed ≡ true) × ((let y = after_segment v (segment_of w Ack) in y.sending.probed) ≡ false))
 
+-- in every reached state, in both directions
 abbrev pub AcknowledgementsDrawNone : Type 0
 AcknowledgementsDrawNone = (limit : ℕ) → limit ≤ 2 ^ 30 → (p : Pairing) → Talks limit p → (v w : View) → p.own.connection ≡ Present v → p.other.connection ≡ Present w → IsOpen v → IsOpen w → IsSound v → IsSound w → (now : Moment)
     → DrawsNone v w now × DrawsNone w v now
