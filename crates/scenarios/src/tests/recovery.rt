@@ -377,7 +377,7 @@ const REOPENED: [(Recovery, &[usize]); 2] = [
 ];
 
 /// The window closes behind a segment, and the peer refuses the octet of the first probe. When it opens, that octet goes out again before those behind it, once, where losses are repaired. The last octets
-/// wait by Nagle's rule, the congestion window has nothing to pay, and the timer runs for what is outstanding.
+/// wait by Nagle's rule, for 500 ms at most, and the congestion window has nothing to pay.
 #[test]
 fn what_a_closed_window_refused_goes_out_again(rt: HostRuntime) {
     for (recovery, segments) in &REOPENED {
@@ -396,7 +396,7 @@ fn what_a_closed_window_refused_goes_out_again(rt: HostRuntime) {
             assert!(rt; end.emit(1_500) == Some(*len));
         }
         assert!(rt; end.connection.due().is_none());
-        assert!(rt; end.connection.deadline() == Some(Moment(2_500)));
+        assert!(rt; end.connection.deadline() == Some(Moment(2_000)));
         assert!(rt; windows(&end) == (16_060, 65_535));
     }
 }
