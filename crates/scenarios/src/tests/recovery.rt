@@ -376,6 +376,16 @@ const REOPENED: [(Recovery, &[usize]); 2] = [
     (Recovery::NewReno, &[21, WITH_HEADER, WITH_HEADER]),
 ];
 
+/// Segments of these lengths go out, and nothing else is due.
+fn emits(end: &mut End, now: u64, lens: &[usize]) -> bool {
+    for len in lens {
+        if end.emit(now) != Some(*len) {
+            return false;
+        }
+    }
+    end.connection.due().is_none()
+}
+
 /// The window closes behind a segment, and the peer refuses the octet of the first probe. When it opens, that octet goes out again before those behind it, once, where losses are repaired. The last octets
 /// wait by Nagle's rule, for 500 ms at most, and the congestion window has nothing to pay.
 #[test]
@@ -392,10 +402,7 @@ fn what_a_closed_window_refused_goes_out_again(rt: HostRuntime) {
         assert!(rt; end.emit(1_000) == Some(21));
         assert!(rt; hears(&mut end, 1_000, 1, 0) && end.connection.due().is_none());
         assert!(rt; hears(&mut end, 1_500, 1, WIDE));
-        for len in *segments {
-            assert!(rt; end.emit(1_500) == Some(*len));
-        }
-        assert!(rt; end.connection.due().is_none());
+        assert!(rt; emits(&mut end, 1_500, segments));
         assert!(rt; end.connection.deadline() == Some(Moment(2_000)));
         assert!(rt; windows(&end) == (16_060, 65_535));
     }
