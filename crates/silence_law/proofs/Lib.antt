@@ -1,3 +1,4 @@
 pub mod Bounds
 pub mod Measure
 pub mod Weighing
+pub mod Emitting
