@@ -293,3 +293,106 @@ sends_text v stretch now sound lives first =
         let size = held.size in
         let one : (if stretch.fin then 1 else 0) ≤ 1 = one_at_most stretch.fin in
         omega (arith, out, joined, size, one)
+
+sends_probe : (v : View) (now : Moment) → IsSound v → is_closed v.state ≡ false → first_due v ≡ Some Probe → Sends v (after_emitted v Probe now) (segment_of v Probe)
+sends_probe v now sound lives first =
+    let held : IsHeld v (probe_stretch v) = due-may v Probe sound first in
+    let end = end_of (probe_stretch v) in
+    let one : end ≡ 1 = probe_one v in
+    let y = after_probe v in
+    let w = after_emitted v Probe now in
+    let sends : w.sending ≡ after_probed v.sending end = probe_sends v in
+    let nxt : w.sending.nxt ≡ (after_sent v.sending end).nxt = ap (λ (t : Sending). t.nxt) sends in
+    let una : w.sending.una ≡ v.sending.una = ap (λ (t : Sending). t.una) sends in
+    let out : outstanding w.sending ≡ outstanding (after_sent v.sending end) = ap₂ (λ n u. past n u) nxt una in
+    let reach = out_after v.sending end sound.una sound.nxt (omega (arith, one)) in
+    elim (leb_tells end (outstanding v.sending)) [
+      | inr beyond ↦ let more = beyond.1 in inl (omega (arith, out, reach, more))
+      | inl before ↦
+          let within = before.1 in
+          let stays = sent_stays v.sending end sound.una sound.nxt within in
+          let some : (outstanding v.sending == 0) ≡ false = elim (eqb_tells (outstanding v.sending) 0) [ inl none ↦ let zero = none.1 in absurd (omega (arith, within, one, zero)) | inr other ↦ other.0 ] in
+          let probed : w.sending.probed ≡ v.sending.probed = ap (λ (t : Sending). t.probed) sends ∙ ap (λ b. (after_sent v.sending end).probed || b) some ∙ or_false (after_sent v.sending end).probed ∙ stays.probed in
+          let kept : (y.resend.mark ≡ v.resend.mark) × (y.resend.owes_probe ≡ false) × (y.alive ≡ v.alive) = left v in
+          let same : outstanding w.sending ≡ outstanding v.sending = omega (arith, out, reach, within) in
+          let mark : left_from w.resend.mark (outstanding w.sending) ≡ left_from v.resend.mark (outstanding v.sending) = ap₂ left_from kept.0 same in
+          let owed : one_if v.resend.owes_probe ≡ 1 = ap one_if (probe_owed v first) in
+          let paid : one_if w.resend.owes_probe ≡ 0 = ap (λ b. one_if (b && probes (after_speaking y))) kept.1 in
+          let alive : one_if w.alive.owed ≡ one_if v.alive.owed = ap (λ (a : Alive). one_if a.owed) kept.2 in
+          let none : one_if (is_ack_due w) ≡ 0 = ap one_if (none_to_pay y (subst IsKeeping (sym (probe_receives v)) (sound_keeping v sound))) in
+          inr (record { nxt = nxt ∙ stays.nxt; probed = probed }, inl (record { left = omega (arith, mark, owed, paid, alive); due = omega (arith, none); short = λ probed. probe_short v held }))
+    ]
+  where
+    or_false : (b : Bool) → (b || false) ≡ b
+    or_false true = refl
+    or_false false = refl
+
+    left : (v : View) → let y = after_probe v in (y.resend.mark ≡ v.resend.mark) × (y.resend.owes_probe ≡ false) × (y.alive ≡ v.alive)
+    left v =
+        let P : View → Type 0 = λ y. (y.resend.mark ≡ v.resend.mark) × (y.resend.owes_probe ≡ false) × (y.alive ≡ v.alive) in
+        let sent : View = record v { sending = after_probed v.sending (end_of (probe_stretch v)); resend = resend_probed v.resend } in
+        either View P (brings_new_octets v (probe_stretch v)) (after_new_octets sent) sent (λ new. (refl, refl, refl)) (λ old. (refl, refl, refl))
+
+light_so : (v : View) → is_light (stance v) (segment_of v Ack) ≡ true
+light_so v =
+    let x = stance v in
+    let s = segment_of v Ack in
+    ap (λ b. b && (s.acknowledgement == x.rnext) && (span_of s == 0)) (equal s.number) ∙ ap (λ b. b && (span_of s == 0)) (equal x.rnext)
+
+sends_ack : (v : View) (now : Moment) → IsSound v → first_due v ≡ Some Ack → Sends v (after_emitted v Ack now) (segment_of v Ack)
+sends_ack v now sound first =
+    let probe = owed_less v.resend.owes_probe (probes (after_speaking v)) in
+    inr (record { nxt = refl; probed = refl }, inr (record {
+      left = omega (arith, probe);
+      due = ap one_if (ack_owed v first);
+      paid = ap one_if (none_to_pay v (sound_keeping v sound));
+      light = light_so v;
+    }))
+
+-- a silent peer is asked where nothing is held, and so not behind a probe of a closed window
+none_at_rest : (opening : Bool) (t : State) (held out : ℕ) → opening ≡ false → may_rest t ≡ true → (held == 0) ≡ true → out ≤ held + (if opening || awaits_fin_ack t then 1 else 0) → out ≡ 0
+none_at_rest false t held out o rest none few = by_state t rest (eqb-true held 0 none) few
+  where
+    by_state : (t : State) → may_rest t ≡ true → held ≡ 0 → out ≤ held + (if awaits_fin_ack t then 1 else 0) → out ≡ 0
+    by_state Established rest zero few = omega (arith, zero, few)
+    by_state CloseWait rest zero few = omega (arith, zero, few)
+    by_state FinWait2 rest zero few = omega (arith, zero, few)
+    by_state _ rest zero few = cc
+none_at_rest true t held out o rest none few = cc
+
+sends_question : (v : View) (now : Moment) → IsSound v → is_closed v.state ≡ false → is_opening v.state ≡ false → first_due v ≡ Some KeepAlive → Sends v (after_emitted v KeepAlive now) (segment_of v KeepAlive)
+sends_question v now sound lives opened first =
+    let owes = question_owed v first in
+    let quiet = rests v in
+    let one : one_if v.alive.owed ≡ 1 = ap one_if (and_left v.alive.owed quiet owes.1) in
+    let resting = and_right v.alive.owed quiet owes.1 in
+    let out = none_at_rest (is_opening v.state) v.state (length v.sending.held) (outstanding v.sending) opened (and_left (may_rest v.state) _ resting) (and_right (may_rest v.state) (length v.sending.held == 0) resting) sound.flight in
+    let probe = owed_less v.resend.owes_probe (probes (after_asking v)) in
+    let none : one_if (is_ack_due (after_emitted v KeepAlive now)) ≡ 0 = ap one_if (none_but_to_ask v (sound_keeping v sound) owes.0) in
+    inr (record { nxt = refl; probed = refl }, inl (record {
+      left = omega (arith, one, probe);
+      due = omega (arith, none);
+      short = λ probed. let single = probed_is_one v sound lives probed in absurd (omega (arith, single, out));
+    }))
+
+pub sends : (v : View) (due : Due) (now : Moment) → IsSound v → is_closed v.state ≡ false → is_opening v.state ≡ false → first_due v ≡ Some due → Sends v (after_emitted v due now) (segment_of v due)
+sends v Rst now sound lives opened first = absurd (no_rst v sound lives first)
+sends v Syn now sound lives opened first = clash (is_opening v.state) (opening_syn v first) opened
+sends v (Text stretch) now sound lives opened first = sends_text v stretch now sound lives first
+sends v Probe now sound lives opened first = sends_probe v now sound lives first
+sends v Ack now sound lives opened first = sends_ack v now sound first
+sends v KeepAlive now sound lives opened first = sends_question v now sound lives opened first
+
+-- it has ACK, and neither RST nor SYN
+pub record IsPlain (s : Segment) : Type 0 where
+  pub no_rst : s.flags.rst ≡ false
+  pub no_syn : s.flags.syn ≡ false
+  pub ack : s.flags.ack ≡ true
+
+pub plainly : (v : View) (due : Due) → IsSound v → is_closed v.state ≡ false → is_opening v.state ≡ false → first_due v ≡ Some due → IsPlain (segment_of v due)
+plainly v Rst sound lives opened first = absurd (no_rst v sound lives first)
+plainly v Syn sound lives opened first = clash (is_opening v.state) (opening_syn v first) opened
+plainly v (Text stretch) sound lives opened first = record { no_rst = refl; no_syn = refl; ack = refl }
+plainly v Probe sound lives opened first = record { no_rst = refl; no_syn = refl; ack = refl }
+plainly v Ack sound lives opened first = record { no_rst = refl; no_syn = refl; ack = refl }
+plainly v KeepAlive sound lives opened first = record { no_rst = refl; no_syn = refl; ack = refl }
