@@ -2,3 +2,5 @@ pub mod Bounds
 pub mod Measure
 pub mod Weighing
 pub mod Emitting
+pub mod Acknowledging
+pub mod Repeating
