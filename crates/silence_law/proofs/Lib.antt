@@ -4,3 +4,4 @@ pub mod Weighing
 pub mod Emitting
 pub mod Acknowledging
 pub mod Repeating
+pub mod Owing

@@ -1,5 +1,5 @@
 -- What a segment that acknowledges nothing new makes of what goes out again.
-use Rattle.std.proofs.Common.{◌≡◌, ℕ, ◌+◌, ◌-◌, ◌<◌, ◌≤◌, ◌==◌, ◌||◌, ◌&&◌, ◌⊎◌, inl, inr, not, nat_lt, nat_le, if◌then◌else◌, Bool, true, false, length, arith, refl, sym, ◌∙◌, ap, subst}
+use Rattle.std.proofs.Common.{◌≡◌, ℕ, ◌+◌, ◌-◌, ◌<◌, ◌≤◌, ◌==◌, ◌||◌, ◌&&◌, ◌⊎◌, inl, inr, not, nat_lt, nat_le, if◌then◌else◌, Bool, true, false, Option, Some, None, length, arith, refl, sym, ◌∙◌, ap, ap₂, subst}
 use Rattle.std.proofs.lemmas.Bool.{ltb-true, leb-true, leb-false, eqb-true}
 use Rattle.clock.specs.declared.moment.Moment.{Moment}
 use Rattle.congestion.specs.Window.{Window, is_recovering, third_is_next}
@@ -15,7 +15,7 @@ use Rattle.tcp_state.specs.Congestion.{Signal, after_signal}
 use Rattle.tcp_state.specs.Congestion.Signal.{Begins, Counts, Nothing}
 use Rattle.tcp_state.specs.View.{View, IsSound, is_opening, is_syn_sent, is_syn_received, is_closed}
 use Rattle.tcp_state.specs.Resend.{Resend, mark_past}
-use Rattle.tcp_state.specs.Most.{one_if}
+use Rattle.tcp_state.specs.Most.{one_if, left_from}
 use Rattle.tcp_state.specs.Timing.{probes}
 use Rattle.tcp_state.specs.Arrival.{is_receiving, counts_reports, after_ack, after_window, after_text, after_heard, answers_probe, before, is_moved, reopens, reopens_by, resend_told, told, reports_more, tells_loss, report_event, report_signal, acknowledged_signal, resend_signalled, congestion_event_of, resend_after, noted_by, timed_by, after_segment_at}
 use Rattle.tcp_state.proofs.Clocked.{unmoved, comes_to, mark_heard, probes_kept}
@@ -24,6 +24,10 @@ use Rattle.tcp_state.proofs.Guarded.{kept_mark}
 use Rattle.tcp_state.proofs.Losses.{past_opening}
 use Rattle.tcp_state.proofs.Onward.{told_una}
 use Rattle.tcp_state.proofs.Segments.{after_reading, by_fin, by_ack, by_hearing, reading_sends, not_rejected}
+use Rattle.tcp_state.proofs.AckNumbers.{probed_is_one}
+use Rattle.tcp_state.proofs.Recovering.{heard_left}
+use Rattle.tcp_state.proofs.Reopening.{reopened_alone}
+use Rattle.silence_law.proofs.Measure.{left_of}
 use Rattle.silence_law.proofs.Emitting.{one_at_most}
 
 -- The retransmission state without the clock.
@@ -88,8 +92,7 @@ counts_one c p flight smss outstanding resent =
 loses_one : (c : Window) (p : Resend) (flight smss outstanding : ℕ) (resent : Bool) → is_recovering c ≡ false → Counted c p (after_signal c (Counts (Loss flight)) smss resent) (resend_signalled p (Counts (Loss flight)) c outstanding)
 loses_one c p flight smss outstanding resent none = let few = leb-false 3 c.duplicates none in inl (omega (arith, few))
 
--- what came at most
-pub counted : (v : View) (s : Segment) (now : Moment) → (after_heard v s).sending.una ≡ v.sending.una → (let b = before v s in let x = after_heard v s in
+counted : (v : View) (s : Segment) (now : Moment) → (after_heard v s).sending.una ≡ v.sending.una → (let b = before v s in let x = after_heard v s in
     let g = congestion_event_of b x in Counted x.congestion (resend_told b x now) (after_signal x.congestion g x.sending.smss x.resend.syn_resent) (resend_after b x now))
 counted v s now same =
     let b = before v s in
@@ -112,3 +115,50 @@ counted v s now same =
     (λ counts. either Event (λ e. P (Counts e)) (tells_loss (told b x)) (Loss out) (Duplicate out) (λ loss. loses_one x.congestion p out x.sending.smss out x.resend.syn_resent not_running) (λ early. one)))
     (λ none. nothing)))) in
     goal
+
+-- With the clock.
+
+left_few : (mark : Option ℕ) (out : ℕ) → left_from mark out ≤ out
+left_few None out = omega arith
+left_few (Some mark) out = omega arith
+
+owed_less : (a b : Bool) → one_if (a && b) ≤ one_if a
+owed_less true b = one_at_most b
+owed_less false b = omega arith
+
+-- one more duplicate ACK counts; or no more goes out again, but for one number that only a probe took, where the window opens
+abbrev pub Repeats : View → Segment → View → Type 0
+Repeats v s w = (3 - w.congestion.duplicates < 3 - v.congestion.duplicates)
+    ⊎ ((w.congestion.duplicates ≡ v.congestion.duplicates) × ((left_of w ≤ left_of v) ⊎ ((reopens_by v s ≡ true) × (left_of w ≤ left_of v + 1))))
+
+-- what only a probe took goes out again, once the window is open
+pub reopens_probed : (v : View) (s : Segment) → is_opening v.state ≡ false → reopens_by v s ≡ true → v.sending.probed ≡ true
+reopens_probed v s opened again = by (v.sending.probed ≡ true) v.sending.probed (λ probed. probed) (λ unprobed. clash (reopens_by v s) again (reopened_alone v s opened (inr (inl unprobed))))
+
+pub repeats : (v : View) (s : Segment) (now : Moment) → IsSound v → is_closed v.state ≡ false → is_opening v.state ≡ false → (let w = after_segment_at v s now in is_closed w.state ≡ false → w.sending.una ≡ v.sending.una → Repeats v s w)
+repeats v s now sound living opened =
+    let b = before v s in
+    let x = after_heard v s in
+    let u = timed_by b x now in
+    let gone = past_opening v.state opened in
+    let at = comes_to v s now living (not_rejected v s gone.0 gone.1) in
+    subst (λ (w : View). is_closed w.state ≡ false → w.sending.una ≡ v.sending.una → Repeats v s w) (sym at)
+    (λ lives same.
+    let resend = resend_stays v s sound opened lives same in
+    let window = window_kept v s in
+    let nxt : x.sending.nxt ≡ v.sending.nxt = (heard_left v s sound).1 in
+    let out : outstanding x.sending ≡ outstanding v.sending = ap₂ (λ n m. past n m) nxt same in
+    let probe : one_if u.resend.owes_probe ≤ one_if v.resend.owes_probe =
+    subst (λ o. one_if u.resend.owes_probe ≤ one_if o) (probes_kept b x now ∙ ap (λ (p : Resend). p.owes_probe) resend) (owed_less (resend_after b x now).owes_probe (probes x)) in
+    elim (counted v s now same) [
+      | inl less ↦ inl (subst (λ (c : Window). 3 - u.congestion.duplicates < 3 - c.duplicates) window less)
+      | inr kept ↦ inr (kept.0 ∙ ap (λ (c : Window). c.duplicates) window, by _ (reopens_by v s)
+          (λ again.
+          let one = probed_is_one v sound living (reopens_probed v s opened again) in
+          let few = left_few u.resend.mark (outstanding x.sending) in
+          inr (again, omega (arith, one, few, out, probe)))
+          (λ shut.
+          let mark : u.resend.mark ≡ v.resend.mark = kept_mark v s x now (inl gone.1) ∙ ap (λ (p : Resend). p.mark) kept.1 ∙ mark_heard b x now shut ∙ ap (λ (p : Resend). p.mark) resend in
+          let left : left_from u.resend.mark (outstanding x.sending) ≡ left_from v.resend.mark (outstanding v.sending) = ap₂ left_from mark out in
+          inl (omega (arith, left, probe))))
+    ])
