@@ -5,3 +5,4 @@ pub mod Emitting
 pub mod Acknowledging
 pub mod Repeating
 pub mod Owing
+pub mod Standing
