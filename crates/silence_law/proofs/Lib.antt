@@ -6,3 +6,4 @@ pub mod Acknowledging
 pub mod Repeating
 pub mod Owing
 pub mod Standing
+pub mod Along
