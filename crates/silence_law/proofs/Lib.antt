@@ -7,3 +7,5 @@ pub mod Repeating
 pub mod Owing
 pub mod Standing
 pub mod Along
+pub mod Alone
+pub mod Short

@@ -36,7 +36,7 @@ known_on w ack sound fits none =
     ap₂ (λ a b. a || (w.guard.on && b)) early old ∙ and_false w.guard.on
 
 -- all that the one end received is acknowledged by it, or known as acknowledged already
-read_on : (w : View) (ack : ℕ) → is_opening w.state ≡ false → IsSound w → ack < 2 ^ 32 → past ack w.sending.una ≤ outstanding w.sending → is_read_on w ack ≡ true
+pub read_on : (w : View) (ack : ℕ) → is_opening w.state ≡ false → IsSound w → ack < 2 ^ 32 → past ack w.sending.una ≤ outstanding w.sending → is_read_on w ack ≡ true
 read_on w ack opened sound fits within =
     let new = is_new_ack w.sending ack in
     ap (λ b. if b then new else new || not (is_off w ack)) (past_opening w.state opened).1
@@ -46,7 +46,7 @@ read_on w ack opened sound fits within =
     ]
 
 -- and is known so then
-knows : (w : View) (ack una : ℕ) → IsSound w → ack < 2 ^ 32 → past ack w.sending.una ≤ outstanding w.sending → ((is_new_ack w.sending ack ≡ false) × (una ≡ w.sending.una)) ⊎ ((is_new_ack w.sending ack ≡ true) × (una ≡ ack)) → una ≡ ack
+pub knows : (w : View) (ack una : ℕ) → IsSound w → ack < 2 ^ 32 → past ack w.sending.una ≤ outstanding w.sending → ((is_new_ack w.sending ack ≡ false) × (una ≡ w.sending.una)) ⊎ ((is_new_ack w.sending ack ≡ true) × (una ≡ ack)) → una ≡ ack
 knows w ack una sound fits within how = elim how [
   | inr moved ↦ moved.1
   | inl still ↦ elim (leb_tells (past ack w.sending.una) 0) [

@@ -25,7 +25,7 @@ use Rattle.window_law.proofs.Run.{meets}
 use Rattle.window_law.proofs.Acknowledged.{each_heard}
 
 -- what is read, and no more than an acknowledgement, owes none of itself
-ack_owes : (w : View) (ack : ℕ) → is_opening w.state ≡ false → is_read_on w ack ≡ true → (after_ack w ack).owes_ack ≡ true → w.owes_ack ≡ true
+pub ack_owes : (w : View) (ack : ℕ) → is_opening w.state ≡ false → is_read_on w ack ≡ true → (after_ack w ack).owes_ack ≡ true → w.owes_ack ≡ true
 ack_owes w ack opened on =
     let P : View → Type 0 = λ x. x.owes_ack ≡ true → w.owes_ack ≡ true in
     let past_syn = (past_opening w.state opened).1 in
