@@ -9,3 +9,4 @@ pub mod Standing
 pub mod Along
 pub mod Alone
 pub mod Short
+pub mod Coming

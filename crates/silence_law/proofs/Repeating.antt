@@ -33,7 +33,7 @@ use Rattle.silence_law.proofs.Emitting.{one_at_most}
 -- The retransmission state without the clock.
 
 -- it acknowledges nothing new
-new_moves : (v : View) (ack : ℕ) → IsSound v → is_new_ack v.sending ack ≡ true → ack ≡ v.sending.una → ⊥
+pub new_moves : (v : View) (ack : ℕ) → IsSound v → is_new_ack v.sending ack ≡ true → ack ≡ v.sending.una → ⊥
 new_moves v ack sound new same =
     let some = ltb-true 0 (past ack v.sending.una) (and_left (nat_lt 0 (past ack v.sending.una)) _ new) in
     omega (arith, some, sound.una, ap (λ n. past n v.sending.una) same)

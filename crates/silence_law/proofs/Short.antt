@@ -45,7 +45,7 @@ brings_one x s short =
 one_number : (x y : View) (s : Segment) → BringsOne x s → is_acceptable_to y s ≡ (is_in_window y.receiving x.sending.una || is_in_window y.receiving ((x.sending.una + 0) % 2 ^ 32))
 one_number x y s says = ap₂ (λ n span. is_acceptable y.receiving n span) says.number says.span
 
-few_window : (y : View) → IsSound y → receive_window y.receiving ≤ 1048576
+pub few_window : (y : View) → IsSound y → receive_window y.receiving ≤ 1048576
 few_window y sound = omega (arith, sound.window, sound.terms.places, sound.terms.capacity)
 
 -- The other has taken that number: the segment isn't acceptable, and opens nothing.
