@@ -243,3 +243,58 @@ other_lowers x y s now left heavy long =
     ap (λ b. if b then (if tells (stance x) (stance y) then 0 else 5) else if is_short (stance x) s && may_reopen (stance x) (stance y) then 2 else 10) heavy ∙ ap (λ b. if b then 2 else 10) long in
     subst (λ n. again_weight (may_reopen (stance y) (stance x)) (left_of w) + answer_weight (tells (stance y) (stance x)) (one_if (is_ack_due w)) < again_weight (may_reopen (stance y) (stance x)) (left_of y) + answer_weight (tells (stance y) (stance x)) (one_if (is_ack_due y)) + n) (sym ten)
     (any_draws_less (may_reopen (stance y) (stance x)) (tells (stance y) (stance x)) (left_of y) (left_of w) (one_if (is_ack_due y)) (one_if (is_ack_due w)) left (few_due x y s now))
+
+-- All of it.
+
+-- both lack less; or no more, and less is owed and on its way
+abbrev pub Lowers : View → View → View → Segment → List Segment → List Segment → Type 0
+Lowers x y w s rest way = (lacks x w + lacks w x < lacks x y + lacks y x) ⊎ ((lacks x w + lacks w x ≤ lacks x y + lacks y x) × (busy x w rest + busy w x way < busy x y (s ∷ rest) + busy y x way))
+
+stays_lower : (x y : View) (s : Segment) (rest way : List Segment) (now : Moment) → (k : Coming x y s now) → Rests y (after_segment_at y s now) → (left_of (after_segment_at y s now) ≤ left_of y) ⊎ ((reopens_by y s ≡ true) × (left_of (after_segment_at y s now) ≤ left_of y + 1))
+    → (let w = after_segment_at y s now in busy x w rest + busy w x way < busy x y (s ∷ rest) + busy y x way)
+stays_lower x y s rest way now k r left =
+    let w = after_segment_at y s now in
+    let X = stance x in
+    let Y = stance y in
+    let reopened = left_so x y s now k r left in
+    let drawn : again_weight (may_reopen Y X) (left_of w) + answer_weight (tells Y X) (one_if (is_ack_due w)) < again_weight (may_reopen Y X) (left_of y) + answer_weight (tells Y X) (one_if (is_ack_due y)) + weight X Y s =
+    by _ (is_light X s) (λ light. light_lowers x y s now k r reopened light)
+    (λ heavy. by _ (is_short X s && may_reopen X Y) (λ short. short_lowers x y s now k r left heavy short) (λ long. other_lowers x y s now reopened heavy long)) in
+    let there : busy x w rest ≡ again_weight (may_reopen X Y) (left_of x) + answer_weight (tells X Y) (one_if (is_ack_due x)) + weights X Y rest =
+    ap (λ (t : Stance). again_weight (may_reopen X t) (left_of x) + answer_weight (tells X t) (one_if (is_ack_due x)) + weights X t rest) r.stands in
+    let back : busy w x way ≡ again_weight (may_reopen Y X) (left_of w) + answer_weight (tells Y X) (one_if (is_ack_due w)) + weights Y X way =
+    ap (λ (t : Stance). again_weight (may_reopen t X) (left_of w) + answer_weight (tells t X) (one_if (is_ack_due w)) + weights t X way) r.stands in
+    let before : busy x y (s ∷ rest) ≡ again_weight (may_reopen X Y) (left_of x) + answer_weight (tells X Y) (one_if (is_ack_due x)) + (weight X Y s + weights X Y rest) =
+    ap (λ n. again_weight (may_reopen X Y) (left_of x) + answer_weight (tells X Y) (one_if (is_ack_due x)) + n) (one_before X Y s rest) in
+    sums (again_weight (may_reopen X Y) (left_of x) + answer_weight (tells X Y) (one_if (is_ack_due x))) (weights X Y rest) (weight X Y s) (again_weight (may_reopen Y X) (left_of w) + answer_weight (tells Y X) (one_if (is_ack_due w)))
+    (again_weight (may_reopen Y X) (left_of y) + answer_weight (tells Y X) (one_if (is_ack_due y))) (weights Y X way) (busy x w rest) (busy w x way) (busy x y (s ∷ rest)) (busy y x way) there back before refl drawn
+  where
+    sums : (own on_way weighs after before ways a b c d : ℕ) → a ≡ own + on_way → b ≡ after + ways → c ≡ own + (weighs + on_way) → d ≡ before + ways → after < before + weighs → a + b < c + d
+    sums own on_way weighs after before ways a b c d e f g h less = omega (arith, e, f, g, h, less)
+
+pub comes_lowers : (x y : View) (s : Segment) (rest way : List Segment) (now : Moment) → Coming x y s now → Lowers x y (after_segment_at y s now) s rest way
+comes_lowers x y s rest way now k =
+    let w = after_segment_at y s now in
+    let m = moves x y s now k in
+    let g = m.gained in
+    let there = other_lacks x y w m k.met_then in
+    let within = k.back.between in
+    elim (eqb_tells g.by 0) [
+      | inr some ↦
+          let own = acknowledged_falls (most_outstanding y) (outstanding y.sending) (past x.receiving.rnext y.sending.una) y.congestion.duplicates (most_outstanding w) (outstanding w.sending) (past x.receiving.rnext w.sending.una) w.congestion.duplicates g.by g.fewer m.out m.taken within some.1 in
+          inl (omega (arith, own, there))
+      | inl none ↦
+          let una : w.sending.una ≡ y.sending.una = let zero = none.1 in omega (arith, g.una, zero, k.other.una, k.sound_then.una) in
+          elim (repeats y s now k.other k.there k.opened k.lives una) [
+            | inl counts ↦
+                let own = counted_falls (most_outstanding y) (outstanding y.sending) (past x.receiving.rnext y.sending.una) y.congestion.duplicates (most_outstanding w) (outstanding w.sending) (past x.receiving.rnext w.sending.una) w.congestion.duplicates g.by g.fewer m.out m.taken none.1 counts in
+                inl (omega (arith, own, there))
+            | inr left ↦
+                let same : 3 - w.congestion.duplicates ≤ 3 - y.congestion.duplicates = let d = left.0 in omega (arith, d) in
+                let own = unmoved_stays (most_outstanding y) (outstanding y.sending) (past x.receiving.rnext y.sending.una) y.congestion.duplicates (most_outstanding w) (outstanding w.sending) (past x.receiving.rnext w.sending.una) w.congestion.duplicates g.by g.fewer m.out m.taken none.1 same in
+                elim (eqb_tells m.advanced.by 0) [
+                  | inr taken_some ↦ let less = other_lacks_less x y w m k.met_then taken_some.1 in inl (omega (arith, own, less))
+                  | inl taken_none ↦ inr (omega (arith, own, there), stays_lower x y s rest way now k (rests x y s now k m none.1 taken_none.1) left.1)
+                ]
+          ]
+    ]
