@@ -92,7 +92,7 @@ width v Probe sound lives opened first = record { number = sound.una; acknowledg
 width v Ack sound lives opened first = record { number = bare_fits v sound; acknowledgement = sound.rnext; octets = omega arith }
 width v KeepAlive sound lives opened first = record { number = omega arith; acknowledgement = sound.rnext; octets = omega arith }
 
-unreset : (v : View) (due : Due) → IsPlain (segment_of v due) → (let f = flags_of v due in f.rst) ≡ false
+pub unreset : (v : View) (due : Due) → IsPlain (segment_of v due) → (let f = flags_of v due in f.rst) ≡ false
 unreset v due plain = plain.no_rst
 
 pub sends_on : (limit : ℕ) (l : Link) (due : Due) (now : Moment) → 0 < limit → IsSound l.near → first_due l.near ≡ Some due → Together limit l

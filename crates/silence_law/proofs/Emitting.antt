@@ -93,7 +93,7 @@ none_but_to_ask v is quiet =
 -- Which segments.
 
 -- an open end sends no reset
-no_rst : (v : View) → IsSound v → is_closed v.state ≡ false → first_due v ≡ Some Rst → ⊥
+pub no_rst : (v : View) → IsSound v → is_closed v.state ≡ false → first_due v ≡ Some Rst → ⊥
 no_rst v sound lives first = by_due (λ o. o ≡ Some Rst → ⊥) v (record {
   nothing = λ quiet heard e. cc;
   rst = λ owes e. clash v.owes_reset owes (unowed v.owes_reset (is_closed v.state) v.released lives sound.reset);

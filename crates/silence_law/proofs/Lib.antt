@@ -10,3 +10,5 @@ pub mod Along
 pub mod Alone
 pub mod Short
 pub mod Coming
+pub mod Going
+pub mod Ending

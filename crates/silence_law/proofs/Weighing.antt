@@ -33,6 +33,12 @@ ten_each x y (s ∷ way) = let ih = ten_each x y way in let one = ten_at_most x 
 abbrev pub wide : Stance → ℕ → Stance
 wide y window = record y { window = window }
 
+-- what is on its way from it weighs the same
+pub same_weights : (x y : Stance) (window : ℕ) (way : List Segment) → weights (wide x window) y way ≡ weights x y way
+unfolding weights
+same_weights x y window [] = refl
+same_weights x y window (s ∷ way) = ap (λ n. weight x y s + n) (same_weights x y window way)
+
 or_more : (a b c : Bool) → (b ≡ true → c ≡ true) → (a || b) ≡ true → (a || c) ≡ true
 or_more true b c more e = refl
 or_more false b c more e = more e
