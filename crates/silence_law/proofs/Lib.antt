@@ -12,3 +12,4 @@ pub mod Short
 pub mod Coming
 pub mod Going
 pub mod Ending
+pub mod Silent

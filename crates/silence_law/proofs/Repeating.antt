@@ -118,7 +118,7 @@ counted v s now same =
 
 -- With the clock.
 
-left_few : (mark : Option ℕ) (out : ℕ) → left_from mark out ≤ out
+pub left_few : (mark : Option ℕ) (out : ℕ) → left_from mark out ≤ out
 left_few None out = omega arith
 left_few (Some mark) out = omega arith
 
