@@ -1,6 +1,6 @@
 -- What a segment that comes acknowledges.
-use Rattle.std.proofs.Common.{◌≡◌, ℕ, ◌+◌, ◌-◌, ◌%◌, ◌^◌, ◌<◌, ◌≤◌, ◌==◌, ◌||◌, ◌&&◌, inl, inr, not, nat_lt, nat_le, if◌then◌else◌, Bool, true, false, length, drop, arith, refl, sym, ◌∙◌, ap, subst}
-use Rattle.std.proofs.lemmas.Bool.{ltb-true, leb-true, lt-ltb}
+use Rattle.std.proofs.Common.{◌≡◌, ℕ, ◌+◌, ◌-◌, ◌≤◌, ◌==◌, ◌||◌, inl, inr, not, nat_lt, if◌then◌else◌, Bool, true, false, length, arith, refl, sym, ◌∙◌, ap, subst}
+use Rattle.std.proofs.lemmas.Bool.{leb-true, lt-ltb}
 use Rattle.std.proofs.lemmas.Bool.Decides.{leb_tells}
 use Rattle.std.proofs.lemmas.List.{length-drop}
 use Rattle.clock.specs.declared.moment.Moment.{Moment}
@@ -11,7 +11,7 @@ use Rattle.tcp_halves.specs.Windows.{window_in}
 use Rattle.tcp_halves.proofs.Choices.{either, by, clash, and_left, and_right, both}
 use Rattle.tcp_state.specs.declared.state.State.{State}
 use Rattle.tcp_state.specs.declared.state.State.TheVariants.{Established, FinWait1, FinWait2, Closing, LastAck}
-use Rattle.tcp_state.specs.View.{View, IsSound, is_opening, is_syn_sent, is_syn_received, is_closed, awaits_fin_ack, takes_flag_number, most_outstanding}
+use Rattle.tcp_state.specs.View.{View, IsSound, is_opening, is_syn_sent, is_syn_received, is_closed, awaits_fin_ack, most_outstanding}
 use Rattle.tcp_state.specs.Arrival.{owing_ack, is_receiving, beyond_fin, beyond_end, after_new_ack, is_of_fin, fin_acknowledged, is_off, after_ack, after_window, after_text, after_segment_at}
 use Rattle.tcp_state.specs.Most.{one_if}
 use Rattle.tcp_state.proofs.Losses.{past_opening}
@@ -49,10 +49,13 @@ ack_waits v ack sound opened =
     (λ past_it. either View P (is_new_ack v.sending ack) (if is_of_fin v ack then fin_acknowledged new_one else new_one) _
     (λ new. either View P (is_of_fin v ack) (fin_acknowledged new_one) new_one
     (λ fin awaits. absurd (done v.state (and_left (awaits_fin_ack v.state) _ fin) awaits))
-    (λ octets awaits. (awaits, elim (leb_tells gained (length v.sending.held)) [
-      | inl within ↦ within.1
-      | inr beyond ↦ clash (is_of_fin v ack) (both (awaits_fin_ack v.state) (nat_lt (length v.sending.held) gained) awaits (lt-ltb (length v.sending.held) gained beyond.1)) octets
-    ])))
+    (λ octets awaits. (
+      awaits,
+      elim (leb_tells gained (length v.sending.held)) [
+        | inl within ↦ within.1
+        | inr beyond ↦ clash (is_of_fin v ack) (both (awaits_fin_ack v.state) (nat_lt (length v.sending.held) gained) awaits (lt-ltb (length v.sending.held) gained beyond.1)) octets
+      ],
+    )))
     (λ old. either View P (is_off v ack) (owing_ack v) v (λ off. waits v sound) (λ on. waits v sound)))
 
 reading_waits : (v : View) (s : Segment) → IsSound v → is_opening v.state ≡ false → AwaitsStill v (after_reading v s)

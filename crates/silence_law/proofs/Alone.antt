@@ -1,5 +1,5 @@
 -- What an acknowledgement alone draws, as its sender would say it now.
-use Rattle.std.proofs.Common.{◌≡◌, ℕ, ◌+◌, ◌-◌, ◌<◌, ◌≤◌, ◌^◌, ◌==◌, ◌&&◌, ◌||◌, ◌⊎◌, inl, inr, not, nat_lt, nat_le, Bool, true, false, length, if◌then◌else◌, arith, refl, sym, ◌∙◌, ap, ap₂, subst}
+use Rattle.std.proofs.Common.{◌≡◌, ℕ, ◌+◌, ◌==◌, ◌&&◌, ◌||◌, ◌⊎◌, inl, inr, not, Bool, true, false, length, if◌then◌else◌, arith, refl, sym, ◌∙◌, ap, ap₂, subst}
 use Rattle.std.proofs.lemmas.Bool.{eqb-true, eq-eqb}
 use Rattle.std.proofs.lemmas.Bool.Decides.{eqb_tells}
 use Rattle.clock.specs.declared.moment.Moment.{Moment}
@@ -11,7 +11,7 @@ use Rattle.tcp_halves.specs.Stream.{outstanding, is_new_ack, bare_number, number
 use Rattle.tcp_halves.proofs.Choices.{either, by, clash, and_left, and_right, both, or_else, of_false}
 use Rattle.tcp_halves.proofs.HeardBare.{heard}
 use Rattle.tcp_state.specs.View.{View, IsSound, is_opening, is_syn_sent, is_closed}
-use Rattle.tcp_state.specs.Arrival.{is_receiving, counts_fin, owing_ack, after_ack, is_acceptable_to, is_read_on, is_read, after_window, after_text, after_fin, after_segment, asks, before, is_held_back, timed_by, after_segment_at}
+use Rattle.tcp_state.specs.Arrival.{is_receiving, counts_fin, owing_ack, after_ack, is_acceptable_to, is_read_on, is_read, after_window, after_text, after_segment, asks, before, is_held_back, timed_by, after_segment_at}
 use Rattle.tcp_state.proofs.AckNumbers.{probed_is_one}
 use Rattle.tcp_state.proofs.Losses.{past_opening}
 use Rattle.tcp_state.proofs.Onward.{few_outstanding}
@@ -20,7 +20,7 @@ use Rattle.window_law.proofs.Acknowledged.{read_on, knows}
 use Rattle.window_law.proofs.Drawing.{ack_owes}
 use Rattle.window_law.proofs.Heard.{told}
 use Rattle.silence_law.proofs.Emitting.{IsPlain}
-use Rattle.silence_law.proofs.Measure.{Stance, stance, bare_of, tells, is_light}
+use Rattle.silence_law.proofs.Measure.{stance, tells, is_light}
 use Rattle.silence_law.proofs.Standing.{Met}
 use Rattle.silence_law.proofs.Along.{comes_open}
 

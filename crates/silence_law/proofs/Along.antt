@@ -1,6 +1,6 @@
 -- Two open ends that are left to themselves talk on.
-use Rattle.std.proofs.Common.{◌≡◌, ℕ, ◌+◌, ◌%◌, ◌<◌, ◌≤◌, ◌^◌, ◌||◌, ◌&&◌, ◌⊎◌, inl, inr, not, Bool, true, false, List, [], ◌∷◌, ◌++◌, length, take, drop, if◌then◌else◌, Some, arith, refl, sym, ◌∙◌, ap, subst}
-use Rattle.std.proofs.lemmas.List.{length-take, length-drop}
+use Rattle.std.proofs.Common.{◌≡◌, ℕ, ◌<◌, ◌≤◌, ◌^◌, ◌||◌, ◌&&◌, ◌⊎◌, inl, inr, not, Bool, true, false, List, [], ◌∷◌, ◌++◌, length, drop, if◌then◌else◌, Some, arith, refl, sym, ◌∙◌, ap, subst}
+use Rattle.std.proofs.lemmas.List.{length-take}
 use Rattle.clock.specs.declared.moment.Moment.{Moment}
 use Rattle.tcp_segment.specs.Segment.{Segment}
 use Rattle.tcp_halves.proofs.Choices.{either, by, clash, and_left, and_right, neither}
@@ -20,8 +20,8 @@ use Rattle.tcp_state.proofs.Losses.{past_opening}
 use Rattle.tcp_state.proofs.Segments.{not_rejected}
 use Rattle.stream_law.specs.Channel.{IsAmong, here, there}
 use Rattle.stream_law.specs.ChannelViews.{IsOfWidth, SameStream}
-use Rattle.stream_law.specs.Pairing.{Presence, Present, Emission, Pairing, apart, from_other, IsTimely, with_connection, remains, Move, rests as stays_on}
-use Rattle.window_law.specs.Windows.{IsOpen, KeepsWindows, Rests, Talk, sends, hears, rests, Talks, begins, here_talks, there_talks}
+use Rattle.stream_law.specs.Pairing.{Present, Emission, Pairing, from_other, IsTimely, with_connection, remains, rests as stays_on}
+use Rattle.window_law.specs.Windows.{IsOpen, KeepsWindows, Rests, sends, hears, rests, Talks, begins, here_talks, there_talks}
 use Rattle.window_law.proofs.Heard.{heard}
 use Rattle.window_law.proofs.Knowing.{leaves}
 use Rattle.silence_law.specs.Silence.{Link, turned}

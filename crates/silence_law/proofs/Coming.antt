@@ -1,24 +1,24 @@
 -- What comes to an open end lowers what both lack, or what is owed and on its way.
-use Rattle.std.proofs.Common.{◌≡◌, ℕ, ◌+◌, ◌-◌, ◌*◌, ◌%◌, ◌<◌, ◌≤◌, ◌^◌, ◌==◌, ◌&&◌, ◌||◌, ◌⊎◌, inl, inr, not, nat_lt, Bool, true, false, List, ◌∷◌, if◌then◌else◌, arith, refl, sym, ◌∙◌, ap, ap₂, subst}
+use Rattle.std.proofs.Common.{◌≡◌, ℕ, ◌+◌, ◌-◌, ◌*◌, ◌%◌, ◌<◌, ◌≤◌, ◌^◌, ◌&&◌, ◌||◌, ◌⊎◌, inl, inr, not, nat_lt, Bool, true, false, List, ◌∷◌, if◌then◌else◌, arith, refl, sym, ◌∙◌, ap, ap₂, subst}
 use Rattle.std.proofs.lemmas.Bool.{ltb-true, lt-ltb, eq-eqb}
 use Rattle.std.proofs.lemmas.Bool.Decides.{eqb_tells}
 use Rattle.clock.specs.declared.moment.Moment.{Moment}
 use Rattle.tcp_segment.specs.Segment.{Segment}
 use Rattle.tcp_segment.specs.Wire.{past}
-use Rattle.tcp_halves.specs.Halves.{Sending, Receiving}
-use Rattle.tcp_halves.specs.Stream.{outstanding, is_new_ack, receive_window}
+use Rattle.tcp_halves.specs.Halves.{Sending}
+use Rattle.tcp_halves.specs.Stream.{outstanding, receive_window}
 use Rattle.tcp_halves.proofs.Choices.{by, clash, and_left, and_right, or_else, or_left, or_right, both}
 use Rattle.tcp_state.specs.View.{View, IsSound, is_opening, is_closed, most_outstanding}
 use Rattle.tcp_state.specs.Due.{is_ack_due}
 use Rattle.tcp_state.specs.Most.{one_if}
-use Rattle.tcp_state.specs.Arrival.{is_lost, after_lost, after_segment, after_heard, reopens_by, reopens, after_segment_at, answers_probe}
+use Rattle.tcp_state.specs.Arrival.{after_lost, after_segment, after_heard, reopens_by, reopens, after_segment_at, answers_probe}
 use Rattle.tcp_state.proofs.Onward.{Advances, few_outstanding}
-use Rattle.window_law.proofs.Heard.{Hears, heard}
+use Rattle.window_law.proofs.Heard.{heard}
 use Rattle.silence_law.proofs.Measure.{Stance, stance, tells, may_reopen, is_light, is_short, weight, weights, again_weight, answer_weight, left_of, busy, lacks}
 use Rattle.silence_law.proofs.Weighing.{one_before, Reopens, Answers, light_draws_less, short_draws_less, any_draws_less}
 use Rattle.silence_law.proofs.Emitting.{IsPlain, one_at_most}
 use Rattle.silence_law.proofs.Acknowledging.{Gains, gains}
-use Rattle.silence_law.proofs.Repeating.{Repeats, repeats, new_moves, reopens_probed}
+use Rattle.silence_law.proofs.Repeating.{repeats, new_moves, reopens_probed}
 use Rattle.silence_law.proofs.Owing.{owing}
 use Rattle.silence_law.proofs.Standing.{Met}
 use Rattle.silence_law.proofs.Along.{comes_open}

@@ -1,16 +1,15 @@
 -- What goes out of an open end lowers what it lacks, or what it owes.
-use Rattle.std.proofs.Common.{◌≡◌, ℕ, suc, ◌+◌, ◌-◌, ◌%◌, ◌^◌, ◌<◌, ◌≤◌, ◌==◌, ◌&&◌, ◌||◌, ◌⊎◌, inl, inr, not, nat_le, nat_lt, min, max, if◌then◌else◌, Bool, true, false, length, take, drop, List, Option, Some, None, arith, refl, sym, ◌∙◌, ap, ap₂, subst}
-use Rattle.std.proofs.lemmas.Bool.{ltb-true, lt-ltb, le-ltb, lt-leb, le-leb, eqb-true}
+use Rattle.std.proofs.Common.{◌≡◌, ℕ, ◌+◌, ◌-◌, ◌%◌, ◌^◌, ◌<◌, ◌≤◌, ◌==◌, ◌&&◌, ◌||◌, ◌⊎◌, inl, inr, not, nat_le, nat_lt, min, max, if◌then◌else◌, Bool, true, false, length, drop, Option, Some, None, arith, refl, sym, ◌∙◌, ap, ap₂, subst}
+use Rattle.std.proofs.lemmas.Bool.{lt-ltb, lt-leb, le-leb, eqb-true}
 use Rattle.std.proofs.lemmas.Bool.Decides.{leb_tells, eqb_tells}
 use Rattle.std.proofs.lemmas.List.{length-take, length-drop}
 use Rattle.clock.specs.declared.moment.Moment.{Moment}
 use Rattle.tcp_segment.specs.Wire.{past}
 use Rattle.tcp_segment.specs.Segment.{Segment, bit, span_of}
-use Rattle.tcp_halves.specs.Numbers.{later_number}
 use Rattle.tcp_halves.specs.Halves.{Sending, Receiving}
-use Rattle.tcp_halves.specs.Stream.{outstanding, after_sent, after_probed, receive_window}
+use Rattle.tcp_halves.specs.Stream.{outstanding, after_sent, after_probed}
 use Rattle.tcp_halves.specs.Windows.{receive_room, has_grown, whole_units, after_advertisement}
-use Rattle.tcp_halves.proofs.Choices.{either, by, clash, and_left, and_right, neither, unowed, and_false}
+use Rattle.tcp_halves.proofs.Choices.{either, clash, and_left, and_right, neither, unowed, and_false}
 use Rattle.tcp_halves.proofs.Keeping.{IsKeeping, in_units}
 use Rattle.tcp_state.specs.declared.emission.Due.{Due}
 use Rattle.tcp_state.specs.declared.emission.Due.TheVariants.{Rst, Syn, Text, Probe, Ack, KeepAlive}
@@ -18,11 +17,11 @@ use Rattle.tcp_state.specs.declared.emission.Stretch.{Stretch}
 use Rattle.tcp_state.specs.declared.alive.KeepAlive.{KeepAlive as Alive}
 use Rattle.tcp_state.specs.declared.state.State.{State}
 use Rattle.tcp_state.specs.declared.state.State.TheVariants.{Established, FinWait2, CloseWait}
-use Rattle.tcp_state.specs.View.{View, IsSound, is_opening, is_closed, awaits_fin_ack, takes_flag_number, most_outstanding}
+use Rattle.tcp_state.specs.View.{View, IsSound, is_opening, is_closed, awaits_fin_ack}
 use Rattle.tcp_state.specs.Resend.{is_alone, mark_past, resend_probed}
-use Rattle.tcp_state.specs.Timing.{probes, clocked}
+use Rattle.tcp_state.specs.Timing.{probes}
 use Rattle.tcp_state.specs.Alive.{may_rest, rests}
-use Rattle.tcp_state.specs.Due.{IsHeld, numbers_of, end_of, probe_stretch, octets_of_stretch, first_due, is_ack_due, again, goes_again, new_octets, fin_alone, after_ack_paid, after_speaking, after_asking, after_resent, after_first_sent, after_numbers, after_new_octets, after_new_text, brings_new_octets, after_stretch, after_probe, after_emitted}
+use Rattle.tcp_state.specs.Due.{IsHeld, end_of, probe_stretch, octets_of_stretch, first_due, is_ack_due, again, new_octets, fin_alone, after_speaking, after_asking, after_resent, after_first_sent, after_numbers, after_new_octets, after_new_text, brings_new_octets, after_stretch, after_probe, after_emitted}
 use Rattle.tcp_state.specs.Said.{segment_of}
 use Rattle.tcp_state.specs.Most.{one_if, left_from}
 use Rattle.tcp_state.proofs.AckNumbers.{probed_is_one}
@@ -262,28 +261,31 @@ sends_text v stretch now sound lives first =
       | inl before ↦
           let within = before.1 in
           let stays : Stays v.sending w.sending = subst (λ (t : Sending). Stays v.sending t) (sym sends) (sent_stays v.sending end sound.una sound.nxt within) in
-          inr (stays, inl (elim (text_begins v stretch first) [
-            | inr new ↦ absurd (omega (arith, within, new, some))
-            | inl old ↦
-                let place = old.0 in
-                let is = old.1 in
-                let below = old.2 in
-                let at = old.3 in
-                let l = again_left v stretch now (lt-ltb stretch.offset (outstanding v.sending) (omega (arith, below, at))) in
-                let same : outstanding w.sending ≡ outstanding v.sending = ap₂ (λ n u. past n u) stays.nxt (ap (λ (t : Sending). t.una) sends) in
-                let left : left_from w.resend.mark (outstanding w.sending) ≤ outstanding w.sending - end = subst (λ m. left_from m (outstanding w.sending) ≤ outstanding w.sending - end) (sym l.mark) (left_past (is_alone v.resend) end (outstanding (after_sent v.sending end)) (outstanding w.sending)) in
-                let was : left_from v.resend.mark (outstanding v.sending) ≡ outstanding v.sending - is.mark = ap (λ m. left_from m (outstanding v.sending)) is.is in
-                let below_mark = sound.mark is.mark is.is in
-                let from = is.from in
-                let probe : one_if w.resend.owes_probe ≤ one_if v.resend.owes_probe = subst (λ b. one_if (y.resend.owes_probe && probes (after_speaking y)) ≤ one_if b) l.probe (owed_less y.resend.owes_probe (probes (after_speaking y))) in
-                let alive : one_if w.alive.owed ≡ one_if v.alive.owed = ap (λ (a : Alive). one_if a.owed) l.alive in
-                let none : one_if (is_ack_due w) ≡ 0 = ap one_if (none_to_pay y (subst IsKeeping (sym (stretch_receives v stretch now)) (sound_keeping v sound))) in
-                record {
-                  left = omega (arith, left, was, same, probe, alive, from, at, some, below_mark, within);
-                  due = omega (arith, none);
-                  short = text_short v stretch sound lives held within;
-                }
-          ]))
+          inr (
+            stays,
+            inl (elim (text_begins v stretch first) [
+              | inr new ↦ absurd (omega (arith, within, new, some))
+              | inl old ↦
+                  let place = old.0 in
+                  let is = old.1 in
+                  let below = old.2 in
+                  let at = old.3 in
+                  let l = again_left v stretch now (lt-ltb stretch.offset (outstanding v.sending) (omega (arith, below, at))) in
+                  let same : outstanding w.sending ≡ outstanding v.sending = ap₂ (λ n u. past n u) stays.nxt (ap (λ (t : Sending). t.una) sends) in
+                  let left : left_from w.resend.mark (outstanding w.sending) ≤ outstanding w.sending - end = subst (λ m. left_from m (outstanding w.sending) ≤ outstanding w.sending - end) (sym l.mark) (left_past (is_alone v.resend) end (outstanding (after_sent v.sending end)) (outstanding w.sending)) in
+                  let was : left_from v.resend.mark (outstanding v.sending) ≡ outstanding v.sending - is.mark = ap (λ m. left_from m (outstanding v.sending)) is.is in
+                  let below_mark = sound.mark is.mark is.is in
+                  let from = is.from in
+                  let probe : one_if w.resend.owes_probe ≤ one_if v.resend.owes_probe = subst (λ b. one_if (y.resend.owes_probe && probes (after_speaking y)) ≤ one_if b) l.probe (owed_less y.resend.owes_probe (probes (after_speaking y))) in
+                  let alive : one_if w.alive.owed ≡ one_if v.alive.owed = ap (λ (a : Alive). one_if a.owed) l.alive in
+                  let none : one_if (is_ack_due w) ≡ 0 = ap one_if (none_to_pay y (subst IsKeeping (sym (stretch_receives v stretch now)) (sound_keeping v sound))) in
+                  record {
+                    left = omega (arith, left, was, same, probe, alive, from, at, some, below_mark, within);
+                    due = omega (arith, none);
+                    short = text_short v stretch sound lives held within;
+                  }
+            ]),
+          )
     ]
   where
     end_few : (v : View) (stretch : Stretch) → IsSound v → IsHeld v stretch → end_of stretch < 2 ^ 32
@@ -342,12 +344,15 @@ light_so v =
 sends_ack : (v : View) (now : Moment) → IsSound v → first_due v ≡ Some Ack → Sends v (after_emitted v Ack now) (segment_of v Ack)
 sends_ack v now sound first =
     let probe = owed_less v.resend.owes_probe (probes (after_speaking v)) in
-    inr (record { nxt = refl; probed = refl }, inr (record {
-      left = omega (arith, probe);
-      due = ap one_if (ack_owed v first);
-      paid = ap one_if (none_to_pay v (sound_keeping v sound));
-      light = light_so v;
-    }))
+    inr (
+      record { nxt = refl; probed = refl },
+      inr (record {
+        left = omega (arith, probe);
+        due = ap one_if (ack_owed v first);
+        paid = ap one_if (none_to_pay v (sound_keeping v sound));
+        light = light_so v;
+      }),
+    )
 
 -- a silent peer is asked where nothing is held, and so not behind a probe of a closed window
 none_at_rest : (opening : Bool) (t : State) (held out : ℕ) → opening ≡ false → may_rest t ≡ true → (held == 0) ≡ true → out ≤ held + (if opening || awaits_fin_ack t then 1 else 0) → out ≡ 0
@@ -369,11 +374,14 @@ sends_question v now sound lives opened first =
     let out = none_at_rest (is_opening v.state) v.state (length v.sending.held) (outstanding v.sending) opened (and_left (may_rest v.state) _ resting) (and_right (may_rest v.state) (length v.sending.held == 0) resting) sound.flight in
     let probe = owed_less v.resend.owes_probe (probes (after_asking v)) in
     let none : one_if (is_ack_due (after_emitted v KeepAlive now)) ≡ 0 = ap one_if (none_but_to_ask v (sound_keeping v sound) owes.0) in
-    inr (record { nxt = refl; probed = refl }, inl (record {
-      left = omega (arith, one, probe);
-      due = omega (arith, none);
-      short = λ probed. let single = probed_is_one v sound lives probed in absurd (omega (arith, single, out));
-    }))
+    inr (
+      record { nxt = refl; probed = refl },
+      inl (record {
+        left = omega (arith, one, probe);
+        due = omega (arith, none);
+        short = λ probed. let single = probed_is_one v sound lives probed in absurd (omega (arith, single, out));
+      }),
+    )
 
 pub sends : (v : View) (due : Due) (now : Moment) → IsSound v → is_closed v.state ≡ false → is_opening v.state ≡ false → first_due v ≡ Some due → Sends v (after_emitted v due now) (segment_of v due)
 sends v Rst now sound lives opened first = absurd (no_rst v sound lives first)

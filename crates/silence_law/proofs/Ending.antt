@@ -1,15 +1,14 @@
 -- Once one end is CLOSED, each act lowers what may still go out and come.
-use Rattle.std.proofs.Common.{◌≡◌, ℕ, ◌+◌, ◌-◌, ◌*◌, ◌<◌, ◌≤◌, ◌^◌, ◌⊎◌, inl, inr, Bool, true, false, List, [], ◌∷◌, ◌++◌, Option, Some, None, length, length-append, if◌then◌else◌, arith, refl, sym, ◌∙◌, ap, subst}
+use Rattle.std.proofs.Common.{◌≡◌, ℕ, ◌+◌, ◌*◌, ◌<◌, ◌≤◌, ◌^◌, true, List, [], ◌∷◌, ◌++◌, Option, Some, None, length, length-append, arith, refl, sym, ◌∙◌, ap, subst}
 use Rattle.clock.specs.declared.moment.Moment.{Moment}
 use Rattle.tcp_segment.specs.Segment.{Segment}
-use Rattle.tcp_halves.specs.Stream.{outstanding}
-use Rattle.tcp_halves.proofs.Choices.{either, clash}
+use Rattle.tcp_halves.proofs.Choices.{clash}
 use Rattle.tcp_state.specs.declared.emission.Due.{Due}
 use Rattle.tcp_state.specs.View.{View, IsSound, is_closed, takes_flag_number, most_outstanding}
 use Rattle.tcp_state.specs.Due.{first_due, is_ack_due, after_emitted}
 use Rattle.tcp_state.specs.Arrival.{after_segment_at}
 use Rattle.tcp_state.specs.Said.{segment_of}
-use Rattle.tcp_state.specs.Most.{one_if, left_from, numbers_left, most_due}
+use Rattle.tcp_state.specs.Most.{left_from, most_due}
 use Rattle.tcp_state.proofs.Onward.{few_held}
 use Rattle.tcp_state.proofs.Segments.{by_clock}
 use Rattle.tcp_state.proofs.RunsDry.{runs_dry}

@@ -1,23 +1,21 @@
 -- What goes out of an open end lowers what both lack, or what is owed and on its way.
-use Rattle.std.proofs.Common.{◌≡◌, ℕ, ◌+◌, ◌-◌, ◌*◌, ◌<◌, ◌≤◌, ◌^◌, ◌⊎◌, inl, inr, Bool, true, false, List, [], ◌∷◌, ◌++◌, Some, length, if◌then◌else◌, arith, refl, sym, ◌∙◌, ap, ap₂, subst}
+use Rattle.std.proofs.Common.{◌≡◌, ℕ, ◌+◌, ◌-◌, ◌*◌, ◌<◌, ◌≤◌, ◌⊎◌, inl, inr, Bool, true, false, List, [], ◌∷◌, ◌++◌, Some, length, if◌then◌else◌, arith, refl, sym, ◌∙◌, ap, ap₂, subst}
 use Rattle.clock.specs.declared.moment.Moment.{Moment}
-use Rattle.congestion.specs.Window.{Window}
 use Rattle.tcp_segment.specs.Segment.{Segment}
 use Rattle.tcp_segment.specs.Wire.{past}
 use Rattle.tcp_halves.specs.Halves.{Sending, Receiving}
 use Rattle.tcp_halves.specs.Stream.{outstanding, receive_window}
 use Rattle.tcp_halves.proofs.Choices.{and_left}
 use Rattle.tcp_state.specs.declared.emission.Due.{Due}
-use Rattle.tcp_state.specs.declared.emission.Due.TheVariants.{Rst}
 use Rattle.tcp_state.specs.View.{View, IsSound, is_opening, is_closed, most_outstanding, takes_flag_number}
 use Rattle.tcp_state.specs.Due.{first_due, is_ack_due, after_emitted}
 use Rattle.tcp_state.specs.Said.{segment_of}
 use Rattle.tcp_state.specs.Most.{one_if}
 use Rattle.tcp_state.proofs.Clocked.{emission}
-use Rattle.window_law.proofs.Knowing.{Leaves, leaves}
+use Rattle.window_law.proofs.Knowing.{leaves}
 use Rattle.window_law.proofs.Sent.{widens}
 use Rattle.silence_law.proofs.Along.{unreset}
-use Rattle.silence_law.proofs.Emitting.{no_rst, Stays, SendsAgain, SendsAnswer, Sends, sends, plainly}
+use Rattle.silence_law.proofs.Emitting.{no_rst, sends, plainly}
 use Rattle.silence_law.proofs.Measure.{Stance, stance, tells, may_reopen, weight, weights, again_weight, answer_weight, left_of, busy, lacks}
 use Rattle.silence_law.proofs.Weighing.{one_behind, wide, same_weights, again_less, weights_less, goes_again_lighter, answer_lighter}
 

@@ -1,5 +1,5 @@
 -- What two open ends lack of being silent.
-use Rattle.std.proofs.Common.{◌≡◌, ℕ, ◌+◌, ◌-◌, ◌*◌, ◌==◌, ◌&&◌, ◌||◌, not, nat_lt, Bool, true, false, if◌then◌else◌, List, [], ◌∷◌, length}
+use Rattle.std.proofs.Common.{ℕ, ◌+◌, ◌-◌, ◌*◌, ◌==◌, ◌&&◌, ◌||◌, not, nat_lt, Bool, true, false, if◌then◌else◌, List, [], ◌∷◌, length}
 use Rattle.tcp_segment.specs.Segment.{Segment, span_of}
 use Rattle.tcp_segment.specs.Wire.{past}
 use Rattle.tcp_halves.specs.Stream.{outstanding, number_before, receive_window}

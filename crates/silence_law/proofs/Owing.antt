@@ -1,12 +1,12 @@
 -- When an acknowledgement is due after a segment that brings nothing new.
-use Rattle.std.proofs.Common.{◌≡◌, ℕ, ◌+◌, ◌-◌, ◌<◌, ◌≤◌, ◌==◌, ◌||◌, ◌&&◌, ◌⊎◌, inl, inr, not, nat_le, if◌then◌else◌, Bool, true, false, length, length-append, arith, refl, sym, ◌∙◌, ap, subst}
+use Rattle.std.proofs.Common.{◌≡◌, ◌+◌, ◌≤◌, ◌&&◌, ◌⊎◌, inl, inr, not, true, false, length, length-append, arith, ◌∙◌, ap}
 use Rattle.std.proofs.lemmas.Bool.{leb-true, le-leb}
 use Rattle.clock.specs.declared.moment.Moment.{Moment}
 use Rattle.tcp_segment.specs.Segment.{Segment}
 use Rattle.tcp_halves.specs.Stream.{receive_window}
 use Rattle.tcp_halves.specs.Windows.{has_grown, receive_room}
 use Rattle.tcp_halves.proofs.Choices.{by, clash, and_left, and_right, both, or_else, or_right, of_false}
-use Rattle.tcp_state.specs.View.{View, is_opening, is_syn_sent, is_closed}
+use Rattle.tcp_state.specs.View.{View, is_opening, is_closed}
 use Rattle.tcp_state.specs.Due.{is_ack_due}
 use Rattle.tcp_state.specs.Arrival.{after_segment_at}
 use Rattle.tcp_state.specs.Edges.{Hears}

@@ -1,23 +1,23 @@
 -- What a segment that acknowledges nothing new makes of what goes out again.
-use Rattle.std.proofs.Common.{◌≡◌, ℕ, ◌+◌, ◌-◌, ◌<◌, ◌≤◌, ◌==◌, ◌||◌, ◌&&◌, ◌⊎◌, inl, inr, not, nat_lt, nat_le, if◌then◌else◌, Bool, true, false, Option, Some, None, length, arith, refl, sym, ◌∙◌, ap, ap₂, subst}
+use Rattle.std.proofs.Common.{◌≡◌, ℕ, ◌+◌, ◌-◌, ◌<◌, ◌≤◌, ◌==◌, ◌||◌, ◌&&◌, ◌⊎◌, inl, inr, not, nat_lt, if◌then◌else◌, Bool, true, false, Option, Some, None, length, arith, refl, sym, ◌∙◌, ap, ap₂, subst}
 use Rattle.std.proofs.lemmas.Bool.{ltb-true, leb-true, leb-false, eqb-true}
 use Rattle.clock.specs.declared.moment.Moment.{Moment}
 use Rattle.congestion.specs.Window.{Window, is_recovering, third_is_next}
-use Rattle.congestion.specs.Events.{Event, after_event}
+use Rattle.congestion.specs.Events.{Event}
 use Rattle.congestion.specs.Events.Event.{Duplicate, Loss}
 use Rattle.tcp_segment.specs.Segment.{Segment}
 use Rattle.tcp_segment.specs.Wire.{past}
 use Rattle.tcp_halves.specs.Halves.{Sending}
 use Rattle.tcp_halves.specs.Stream.{outstanding, is_new_ack}
 use Rattle.tcp_halves.specs.Windows.{window_in}
-use Rattle.tcp_halves.proofs.Choices.{either, by, clash, and_left, and_right, not_true}
+use Rattle.tcp_halves.proofs.Choices.{either, by, clash, and_left, not_true}
 use Rattle.tcp_state.specs.Congestion.{Signal, after_signal}
 use Rattle.tcp_state.specs.Congestion.Signal.{Begins, Counts, Nothing}
 use Rattle.tcp_state.specs.View.{View, IsSound, is_opening, is_syn_sent, is_syn_received, is_closed}
-use Rattle.tcp_state.specs.Resend.{Resend, mark_past}
+use Rattle.tcp_state.specs.Resend.{Resend}
 use Rattle.tcp_state.specs.Most.{one_if, left_from}
 use Rattle.tcp_state.specs.Timing.{probes}
-use Rattle.tcp_state.specs.Arrival.{is_receiving, counts_reports, after_ack, after_window, after_text, after_heard, answers_probe, before, is_moved, reopens, reopens_by, resend_told, told, reports_more, tells_loss, report_event, report_signal, acknowledged_signal, resend_signalled, congestion_event_of, resend_after, noted_by, timed_by, after_segment_at}
+use Rattle.tcp_state.specs.Arrival.{is_receiving, counts_reports, after_ack, after_window, after_text, after_heard, before, is_moved, reopens_by, resend_told, told, reports_more, tells_loss, report_event, report_signal, acknowledged_signal, resend_signalled, congestion_event_of, resend_after, timed_by, after_segment_at}
 use Rattle.tcp_state.proofs.Clocked.{unmoved, comes_to, mark_heard, probes_kept}
 use Rattle.tcp_state.proofs.Congestion.{window_kept}
 use Rattle.tcp_state.proofs.Guarded.{kept_mark}
@@ -152,13 +152,16 @@ repeats v s now sound living opened =
     subst (λ o. one_if u.resend.owes_probe ≤ one_if o) (probes_kept b x now ∙ ap (λ (p : Resend). p.owes_probe) resend) (owed_less (resend_after b x now).owes_probe (probes x)) in
     elim (counted v s now same) [
       | inl less ↦ inl (subst (λ (c : Window). 3 - u.congestion.duplicates < 3 - c.duplicates) window less)
-      | inr kept ↦ inr (kept.0 ∙ ap (λ (c : Window). c.duplicates) window, by _ (reopens_by v s)
-          (λ again.
-          let one = probed_is_one v sound living (reopens_probed v s opened again) in
-          let few = left_few u.resend.mark (outstanding x.sending) in
-          inr (again, omega (arith, one, few, out, probe)))
-          (λ shut.
-          let mark : u.resend.mark ≡ v.resend.mark = kept_mark v s x now (inl gone.1) ∙ ap (λ (p : Resend). p.mark) kept.1 ∙ mark_heard b x now shut ∙ ap (λ (p : Resend). p.mark) resend in
-          let left : left_from u.resend.mark (outstanding x.sending) ≡ left_from v.resend.mark (outstanding v.sending) = ap₂ left_from mark out in
-          inl (omega (arith, left, probe))))
+      | inr kept ↦ inr (
+        kept.0 ∙ ap (λ (c : Window). c.duplicates) window,
+        by _ (reopens_by v s)
+            (λ again.
+            let one = probed_is_one v sound living (reopens_probed v s opened again) in
+            let few = left_few u.resend.mark (outstanding x.sending) in
+            inr (again, omega (arith, one, few, out, probe)))
+            (λ shut.
+            let mark : u.resend.mark ≡ v.resend.mark = kept_mark v s x now (inl gone.1) ∙ ap (λ (p : Resend). p.mark) kept.1 ∙ mark_heard b x now shut ∙ ap (λ (p : Resend). p.mark) resend in
+            let left : left_from u.resend.mark (outstanding x.sending) ≡ left_from v.resend.mark (outstanding v.sending) = ap₂ left_from mark out in
+            inl (omega (arith, left, probe))),
+      )
     ])

@@ -1,5 +1,5 @@
 -- What a segment draws that brings the one number which only a probe of a closed window took.
-use Rattle.std.proofs.Common.{◌≡◌, ℕ, zero, suc, ◌+◌, ◌-◌, ◌%◌, ◌<◌, ◌≤◌, ◌^◌, ◌==◌, ◌&&◌, ◌||◌, ◌⊎◌, inl, inr, not, nat_lt, nat_le, Bool, true, false, List, [], ◌∷◌, ◌++◌, Option, Some, length, take, drop, map, if◌then◌else◌, arith, refl, sym, ◌∙◌, ap, ap₂, subst}
+use Rattle.std.proofs.Common.{◌≡◌, ℕ, zero, suc, ◌+◌, ◌-◌, ◌%◌, ◌<◌, ◌≤◌, ◌^◌, ◌==◌, ◌&&◌, ◌||◌, ◌⊎◌, inl, inr, not, nat_lt, Bool, true, false, List, [], ◌∷◌, length, take, drop, if◌then◌else◌, arith, refl, sym, ◌∙◌, ap, ap₂, subst}
 use Rattle.std.proofs.lemmas.Bool.{eqb-true, eq-eqb, le-ltb, lt-ltb, lt-leb}
 use Rattle.std.proofs.lemmas.Bool.Decides.{eqb_tells}
 use Rattle.clock.specs.declared.moment.Moment.{Moment}
@@ -8,15 +8,15 @@ use Rattle.tcp_segment.specs.Segment.{Segment, bit, span_of}
 use Rattle.tcp_segment.specs.Wire.{past}
 use Rattle.tcp_halves.specs.Numbers.{is_before}
 use Rattle.tcp_halves.specs.Halves.{Receiving}
-use Rattle.tcp_halves.specs.Stream.{outstanding, receive_window, is_in_window, is_acceptable, buffer_of, distance_of, octets_within, octets_gained, after_octets, stands_next, after_end}
+use Rattle.tcp_halves.specs.Stream.{receive_window, is_in_window, is_acceptable, buffer_of, distance_of, octets_within, octets_gained, stands_next, after_end}
 use Rattle.tcp_halves.proofs.Choices.{either, by, clash, and_left, and_right, and_false, both, or_left}
-use Rattle.tcp_halves.proofs.Keeping.{IsKeeping, gained_fits}
-use Rattle.tcp_state.specs.View.{View, IsSound, is_opening, is_syn_sent, is_closed}
-use Rattle.tcp_state.specs.Arrival.{is_receiving, beyond_end, counts_fin, owing_ack, after_ack, answers_probe, reopens, reopens_by, is_acceptable_to, is_read, after_window, after_text, after_fin, after_heard, after_segment, after_segment_at}
+use Rattle.tcp_halves.proofs.Keeping.{gained_fits}
+use Rattle.tcp_state.specs.View.{View, IsSound, is_opening, is_closed}
+use Rattle.tcp_state.specs.Arrival.{is_receiving, beyond_end, counts_fin, owing_ack, after_ack, reopens, reopens_by, is_acceptable_to, after_window, after_text, after_heard, after_segment_at}
 use Rattle.tcp_state.proofs.AckNumbers.{probed_is_one}
 use Rattle.tcp_state.proofs.Gains.{told_receives, receiving_after}
 use Rattle.tcp_state.proofs.Losses.{past_opening}
-use Rattle.tcp_state.proofs.Segments.{after_reading, by_fin, read_tells, reads}
+use Rattle.tcp_state.proofs.Segments.{after_reading, read_tells, reads}
 use Rattle.tcp_state.proofs.Sound.{sound_keeping}
 use Rattle.silence_law.proofs.Emitting.{IsPlain}
 use Rattle.silence_law.proofs.Measure.{stance, tells, is_short}

@@ -1,5 +1,5 @@
 -- Two ends that are left to themselves fall silent.
-use Rattle.std.proofs.Common.{◌≡◌, ℕ, zero, suc, ◌+◌, ◌-◌, ◌*◌, ◌<◌, ◌≤◌, ◌^◌, ◌⊎◌, inl, inr, Bool, true, false, List, [], ◌∷◌, ◌++◌, Some, length, length-append, arith, refl, sym, ◌∙◌, ap, subst}
+use Rattle.std.proofs.Common.{◌≡◌, ℕ, ◌+◌, ◌*◌, ◌<◌, ◌≤◌, ◌^◌, ◌⊎◌, inl, inr, Bool, true, false, List, [], ◌∷◌, ◌++◌, Some, length, length-append, arith, sym, ap, subst}
 use Rattle.std.proofs.lemmas.Bool.Decides.{leb_tells}
 use Rattle.clock.specs.declared.moment.Moment.{Moment}
 use Rattle.tcp_segment.specs.Segment.{Segment}
@@ -10,22 +10,22 @@ use Rattle.tcp_state.specs.View.{View, IsSound, is_opening, is_closed}
 use Rattle.tcp_state.specs.Due.{first_due, is_ack_due, after_emitted}
 use Rattle.tcp_state.specs.Arrival.{after_segment_at}
 use Rattle.tcp_state.specs.Said.{segment_of}
-use Rattle.tcp_state.specs.Most.{one_if, left_from}
+use Rattle.tcp_state.specs.Most.{one_if}
 use Rattle.tcp_state.proofs.Onward.{few_outstanding}
 use Rattle.stream_law.specs.Channel.{IsAmong, here as first_one}
-use Rattle.stream_law.specs.Pairing.{Present, Pairing, from_other}
+use Rattle.stream_law.specs.Pairing.{Present, Pairing}
 use Rattle.window_law.specs.Windows.{IsOpen, Talks}
 use Rattle.silence_law.specs.Silence.{Link, turned, still, Acts, sends, hears, Stir, here_stirs, there_stirs, AreSound, Stirs, ends, goes_on, FallsSilent}
 use Rattle.silence_law.proofs.Bounds.{most_owed, most_acts, owed_falls, lacked_falls, one_ends}
-use Rattle.silence_law.proofs.Measure.{Stance, stance, tells, may_reopen, weights, again_weight, answer_weight, left_of, busy, lacks, owed, lacked, on_way}
+use Rattle.silence_law.proofs.Measure.{stance, tells, may_reopen, again_weight, answer_weight, left_of, busy, lacks, owed, lacked, on_way}
 use Rattle.silence_law.proofs.Weighing.{ten_each}
 use Rattle.silence_law.proofs.Emitting.{one_at_most}
 use Rattle.silence_law.proofs.Repeating.{left_few}
-use Rattle.silence_law.proofs.Standing.{Met, meet}
-use Rattle.silence_law.proofs.Along.{OnWay, Together, together_turned, sends_on, hears_on}
+use Rattle.silence_law.proofs.Standing.{meet}
+use Rattle.silence_law.proofs.Along.{Together, together_turned, sends_on, hears_on}
 use Rattle.silence_law.proofs.Coming.{Coming, comes_lowers}
 use Rattle.silence_law.proofs.Going.{goes_out_lowers}
-use Rattle.silence_law.proofs.Ending.{most_left, few_left, StaysClosed, closed_acts, LeavesClosed, other_acts}
+use Rattle.silence_law.proofs.Ending.{most_left, few_left, closed_acts, other_acts}
 
 -- How much is owed and on its way at most.
 

@@ -1,18 +1,18 @@
 -- Where two open ends stand in one another's streams and windows.
-use Rattle.std.proofs.Common.{◌≡◌, ℕ, ◌+◌, ◌-◌, ◌<◌, ◌≤◌, ◌^◌, ◌||◌, not, Bool, true, false, if◌then◌else◌, List, [], ◌++◌, length, length-append, arith, refl, sym, ◌∙◌, ap, subst}
+use Rattle.std.proofs.Common.{◌≡◌, ℕ, ◌+◌, ◌≤◌, ◌^◌, true, false, if◌then◌else◌, ◌++◌, length, length-append, arith, refl, sym, ◌∙◌, ap, subst}
 use Rattle.tcp_segment.specs.Wire.{wire, past}
 use Rattle.tcp_halves.specs.Heard.{settled}
 use Rattle.tcp_halves.specs.Stream.{outstanding}
-use Rattle.tcp_halves.proofs.Choices.{clash, neither}
+use Rattle.tcp_halves.proofs.Choices.{neither}
 use Rattle.tcp_state.specs.declared.state.State.{State}
 use Rattle.tcp_state.specs.declared.state.State.TheVariants.{Listen, SynSent, SynReceived, Established, FinWait1, FinWait2, Closed}
 use Rattle.tcp_state.specs.View.{View, IsSound, is_opening, is_syn_sent, is_closed, is_listening, is_read_closed}
 use Rattle.tcp_state.specs.Arrival.{is_receiving}
 use Rattle.tcp_state.proofs.Losses.{past_opening}
-use Rattle.stream_law.specs.Channel.{Sending, Receiving, Waiting, Synchronised, Channel, number_of}
-use Rattle.stream_law.specs.ChannelViews.{SendsInto, sender_of, receiver_of, receiving_of}
+use Rattle.stream_law.specs.Channel.{Sending, Receiving, Waiting, Synchronised, number_of}
+use Rattle.stream_law.specs.ChannelViews.{sender_of, receiver_of}
 use Rattle.stream_law.specs.Pairing.{Present, Pairing, from_other}
-use Rattle.stream_law.proofs.Invariant.{SenderFits, SendingFits, ReceiverFits, ReceivingFits, Holds}
+use Rattle.stream_law.proofs.Invariant.{SenderFits, SendingFits, ReceiverFits, ReceivingFits}
 use Rattle.stream_law.proofs.ChannelLaw.{holds}
 use Rattle.stream_law.proofs.PairingInvariant.{Shown, shown-from_other, connected, open_tells}
 use Rattle.stream_law.proofs.PairingLaw.{shown}

@@ -1,8 +1,8 @@
 -- How what goes out and what comes is weighed.
-use Rattle.std.proofs.Common.{◌≡◌, ℕ, ◌+◌, ◌*◌, ◌<◌, ◌≤◌, ◌==◌, ◌&&◌, ◌||◌, ◌⊎◌, inl, inr, not, nat_lt, Bool, true, false, if◌then◌else◌, List, [], ◌∷◌, ◌++◌, length, arith, refl, sym, ◌∙◌, ap, ap₂}
+use Rattle.std.proofs.Common.{◌≡◌, ℕ, ◌+◌, ◌*◌, ◌<◌, ◌≤◌, ◌==◌, ◌&&◌, ◌||◌, ◌⊎◌, inl, inr, nat_lt, Bool, true, false, if◌then◌else◌, List, [], ◌∷◌, ◌++◌, length, arith, refl, ◌∙◌, ap, ap₂}
 use Rattle.std.proofs.lemmas.Bool.{ltb-true, lt-ltb, eqb-true}
 use Rattle.tcp_segment.specs.Segment.{Segment, span_of}
-use Rattle.tcp_halves.proofs.Choices.{either, by, clash, and_left, and_right, and_false}
+use Rattle.tcp_halves.proofs.Choices.{either, by, clash, and_right, and_false}
 use Rattle.silence_law.proofs.Measure.{Stance, bare_of, tells, may_reopen, is_light, is_short, weight, weights, again_weight, answer_weight}
 
 -- A list.
