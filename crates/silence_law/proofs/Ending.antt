@@ -71,6 +71,14 @@ other_heard_sum : (due far more way left near : ℕ) → 2 * more < 2 ^ 29 → w
 unfolding left_sum
 other_heard_sum due far more way left near a b = omega (arith, a, b)
 
+pub fewer_left : (due way far left near : ℕ) → left ≤ near → left_sum due way far left ≤ left_sum due way far near
+unfolding left_sum
+fewer_left due way far left near a = omega (arith, a)
+
+pub fewer_on : (due left way far near : ℕ) → left ≤ way → left_sum due left far near ≤ left_sum due way far near
+unfolding left_sum
+fewer_on due left way far near a = omega (arith, a)
+
 -- The CLOSED end acts: it sends no more than what it owes, and hears nothing.
 
 hears_nothing : (v : View) (s : Segment) (now : Moment) → is_closed v.state ≡ true → after_segment_at v s now ≡ v

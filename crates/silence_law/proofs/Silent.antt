@@ -10,22 +10,22 @@ use Rattle.tcp_state.specs.View.{View, IsSound, is_opening, is_closed}
 use Rattle.tcp_state.specs.Due.{first_due, is_ack_due, after_emitted}
 use Rattle.tcp_state.specs.Arrival.{after_segment_at}
 use Rattle.tcp_state.specs.Said.{segment_of}
-use Rattle.tcp_state.specs.Most.{one_if}
+use Rattle.tcp_state.specs.Most.{one_if, most_due}
 use Rattle.tcp_state.proofs.Onward.{few_outstanding}
-use Rattle.stream_law.specs.Channel.{IsAmong, here as first_one}
+use Rattle.stream_law.specs.Channel.{IsAmong, here as first_one, there as later}
 use Rattle.stream_law.specs.Pairing.{Present, Pairing}
 use Rattle.window_law.specs.Windows.{IsOpen, Talks}
-use Rattle.silence_law.specs.Silence.{Link, turned, still, Acts, sends, hears, Stir, here_stirs, there_stirs, AreSound, Stirs, ends, goes_on, FallsSilent}
-use Rattle.silence_law.proofs.Bounds.{most_owed, most_acts, owed_falls, lacked_falls, one_ends}
+use Rattle.silence_law.specs.Silence.{Link, turned, still, Acts, sends, hears, Stir, here_stirs, there_stirs, Loses, loses, AreSound, Stirs, ends, goes_on, lost_here, lost_there, FallsSilent}
+use Rattle.silence_law.proofs.Bounds.{most_owed, most_acts, more_acts, owed_falls, lacked_falls, one_ends}
 use Rattle.silence_law.proofs.Measure.{stance, tells, may_reopen, again_weight, answer_weight, left_of, busy, lacks, owed, lacked, on_way}
-use Rattle.silence_law.proofs.Weighing.{ten_each}
+use Rattle.silence_law.proofs.Weighing.{one_before, ten_each}
 use Rattle.silence_law.proofs.Emitting.{one_at_most}
 use Rattle.silence_law.proofs.Repeating.{left_few}
 use Rattle.silence_law.proofs.Standing.{meet}
 use Rattle.silence_law.proofs.Along.{Together, together_turned, sends_on, hears_on}
 use Rattle.silence_law.proofs.Coming.{Coming, comes_lowers}
 use Rattle.silence_law.proofs.Going.{goes_out_lowers}
-use Rattle.silence_law.proofs.Ending.{most_left, few_left, closed_acts, other_acts}
+use Rattle.silence_law.proofs.Ending.{most_left, few_left, fewer_left, fewer_on, closed_acts, other_acts}
 
 -- How much is owed and on its way at most.
 
@@ -53,31 +53,31 @@ few_owed : (l : Link) → AreSound l → owed l ≤ most_owed (on_way l)
 few_owed l sound = let a = few_busy l.near l.far l.to_far sound.near in let b = few_busy l.far l.near l.to_near sound.far in omega (arith, a, b)
 
 -- At most so many acts are left: both ends are open, or one is CLOSED.
-record BothOpen (limit : ℕ) (l : Link) (n : ℕ) : Type 0 where
-  together : Together limit l
-  sound : AreSound l
-  within : most_acts (lacked l) (owed l) (on_way l) ≤ n
+pub record BothOpen (limit : ℕ) (l : Link) (n : ℕ) : Type 0 where
+  pub together : Together limit l
+  pub sound : AreSound l
+  pub within : most_acts (lacked l) (owed l) (on_way l) ≤ n
 
-record NearEnded (l : Link) (n : ℕ) : Type 0 where
-  closed : is_closed l.near.state ≡ true
-  sound : AreSound l
-  within : most_left l ≤ n
+pub record NearEnded (l : Link) (n : ℕ) : Type 0 where
+  pub closed : is_closed l.near.state ≡ true
+  pub sound : AreSound l
+  pub within : most_left l ≤ n
 
-record FarEnded (l : Link) (n : ℕ) : Type 0 where
-  closed : is_closed l.far.state ≡ true
-  sound : AreSound l
-  within : most_left (turned l) ≤ n
+pub record FarEnded (l : Link) (n : ℕ) : Type 0 where
+  pub closed : is_closed l.far.state ≡ true
+  pub sound : AreSound l
+  pub within : most_left (turned l) ≤ n
 
-data Within (limit : ℕ) (l : Link) (n : ℕ) : Type 0 where
+pub data Within (limit : ℕ) (l : Link) (n : ℕ) : Type 0 where
   both_open : BothOpen limit l n → Within limit l n
   near_ended : NearEnded l n → Within limit l n
   far_ended : FarEnded l n → Within limit l n
 
 -- .. and then fewer
-record Fewer (limit : ℕ) (k : Link) (n : ℕ) : Type 0 where
-  left : ℕ
-  less : left < n
-  within : Within limit k left
+pub record Fewer (limit : ℕ) (k : Link) (n : ℕ) : Type 0 where
+  pub left : ℕ
+  pub less : left < n
+  pub within : Within limit k left
 
 sound_turned : (l : Link) → AreSound l → AreSound (turned l)
 sound_turned l s = record { near = s.far; far = s.near }
@@ -94,7 +94,7 @@ open_turned limit l n b = record {
     swap : (a b : ℕ) → a + b ≡ b + a
     swap a b = omega arith
 
-within_turned : (limit : ℕ) (l : Link) (n : ℕ) → Within limit l n → Within limit (turned l) n
+pub within_turned : (limit : ℕ) (l : Link) (n : ℕ) → Within limit l n → Within limit (turned l) n
 within_turned limit l n (both_open b) = both_open (open_turned limit l n b)
 within_turned limit l n (near_ended e) = far_ended (record { closed = e.closed; sound = sound_turned l e.sound; within = e.within })
 within_turned limit l n (far_ended e) = near_ended (record { closed = e.closed; sound = sound_turned l e.sound; within = e.within })
@@ -204,9 +204,49 @@ acts limit some small now l k n act sound (far_ended e) = far_acts limit now l k
 fewer_turned : (limit : ℕ) (k : Link) (n : ℕ) → Fewer limit k n → Fewer limit (turned k) n
 fewer_turned limit k n f = record { left = f.left; less = f.less; within = within_turned limit k f.left f.within }
 
-stirs_once : (limit : ℕ) → 0 < limit → limit ≤ 2 ^ 30 → (now : Moment) (l k : Link) → Stir now l k → (n : ℕ) → AreSound k → Within limit l n → Fewer limit k n
+pub stirs_once : (limit : ℕ) → 0 < limit → limit ≤ 2 ^ 30 → (now : Moment) (l k : Link) → Stir now l k → (n : ℕ) → AreSound k → Within limit l n → Fewer limit k n
 stirs_once limit some small now _ _ (here_stirs l k act) n sound w = acts limit some small now l k n act sound w
 stirs_once limit some small now _ _ (there_stirs l k act) n sound w = fewer_turned limit k n (acts limit some small now (turned l) k n act (sound_turned (turned k) sound) (within_turned limit l n w))
+
+-- Where some is lost, no more are left.
+
+lost_weighs : (y x : View) (s : Segment) (rest way : List Segment) → way ≡ s ∷ rest → busy y x rest ≤ busy y x way
+lost_weighs y x s rest way first = let same : busy y x way ≡ busy y x (s ∷ rest) = ap (busy y x) first in let one = one_before (stance y) (stance x) s rest in omega (arith, same, one)
+
+shorter : (s : Segment) (rest way : List Segment) → way ≡ s ∷ rest → length rest ≤ length way
+shorter s rest way first = let long : length way ≡ length (s ∷ rest) = ap length first in omega (arith, long)
+
+together_lost : (limit : ℕ) (l : Link) (s : Segment) (rest : List Segment) → l.to_near ≡ s ∷ rest → Together limit l → Together limit (record l { to_near = rest })
+together_lost limit l s rest first t = record {
+  p = t.p;
+  talks = t.talks;
+  own = t.own;
+  other = t.other;
+  near_open = t.near_open;
+  far_open = t.far_open;
+  to_near = λ g among. t.to_near g (subst (λ way. IsAmong g way) (sym first) (later g s rest among));
+  to_far = t.to_far;
+}
+
+lost_within : (limit : ℕ) (l : Link) (s : Segment) (rest : List Segment) (n : ℕ) → l.to_near ≡ s ∷ rest → Within limit l n → Within limit (record l { to_near = rest }) n
+lost_within limit l s rest n first (both_open b) =
+    let k : Link = record l { to_near = rest } in
+    let less = lost_weighs l.far l.near s rest l.to_near first in
+    let short = shorter s rest l.to_near first in
+    let fewer = more_acts (lacked l) (owed k) (on_way k) (owed l) (on_way l) (omega (arith, less)) (omega (arith, short)) in
+    let within = b.within in
+    both_open (record { together = together_lost limit l s rest first b.together; sound = record { near = b.sound.near; far = b.sound.far }; within = omega (arith, fewer, within) })
+lost_within limit l s rest n first (near_ended e) =
+    let short = shorter s rest l.to_near first in
+    let within = e.within in
+    near_ended (record { closed = e.closed; sound = record { near = e.sound.near; far = e.sound.far }; within = omega (arith, within, fewer_left (most_due l.near) (length l.to_far) (most_due l.far) (length rest) (length l.to_near) short) })
+lost_within limit l s rest n first (far_ended e) =
+    let short = shorter s rest l.to_near first in
+    let within = e.within in
+    far_ended (record { closed = e.closed; sound = record { near = e.sound.near; far = e.sound.far }; within = omega (arith, within, fewer_on (most_due l.far) (length rest) (length l.to_near) (most_due l.near) (length l.to_far) short) })
+
+pub loses_some : (limit : ℕ) (l k : Link) (n : ℕ) → Loses l k → Within limit l n → Within limit k n
+loses_some limit _ _ n (loses l s rest first) w = lost_within limit l s rest n first w
 
 -- .. so that no more follow than that.
 no_more : (limit : ℕ) → 0 < limit → limit ≤ 2 ^ 30 → (now : Moment) (m : ℕ) (l j : Link) → Stirs now m l j → (n : ℕ) → Within limit l n → m ≤ n
@@ -216,26 +256,33 @@ no_more limit some small now _ _ _ (goes_on m l k j stir sound run) n w =
     let rest = no_more limit some small now m k j run f.left f.within in
     let less = f.less in
     omega (arith, rest, less)
+no_more limit some small now _ _ _ (lost_here m l k j lost run) n w = no_more limit some small now m k j run n (loses_some limit l k n lost w)
+no_more limit some small now _ _ _ (lost_there m l k j lost run) n w =
+    no_more limit some small now m (turned k) j run n (within_turned limit k n (loses_some limit (turned l) k n lost (within_turned limit l n w)))
 
 not_on_way : (s : Segment) → IsAmong s [] → ⊥
 not_on_way s among = elim among [ ]
 
+-- at most so many are left of two open ends between which nothing is on its way
+abbrev pub most_of : View → View → ℕ
+most_of v w = most_acts (lacked (still v w)) (owed (still v w)) (on_way (still v w))
+
+pub at_first : (limit : ℕ) (p : Pairing) → Talks limit p → (v w : View) → p.own.connection ≡ Present v → p.other.connection ≡ Present w → IsOpen v → IsOpen w → IsSound v → IsSound w → Within limit (still v w) (most_of v w)
+at_first limit p talks v w own other here there sound sound_there = both_open (record {
+  together = record {
+    p = p;
+    talks = talks;
+    own = own;
+    other = other;
+    near_open = here;
+    far_open = there;
+    to_near = λ s among. absurd (not_on_way s among);
+    to_far = λ s among. absurd (not_on_way s among);
+  };
+  sound = record { near = sound; far = sound_there };
+  within = omega arith;
+})
+
 pub fall_silent : (limit : ℕ) → 0 < limit → limit ≤ 2 ^ 30 → (p : Pairing) → Talks limit p → (v w : View) → p.own.connection ≡ Present v → p.other.connection ≡ Present w → IsOpen v → IsOpen w → IsSound v → IsSound w → (now : Moment) → FallsSilent now (still v w)
 fall_silent limit some small p talks v w own other here there sound sound_there now =
-    let l = still v w in
-    let n = most_acts (lacked l) (owed l) (on_way l) in
-    let first : Within limit l n = both_open (record {
-      together = record {
-        p = p;
-        talks = talks;
-        own = own;
-        other = other;
-        near_open = here;
-        far_open = there;
-        to_near = λ s among. absurd (not_on_way s among);
-        to_far = λ s among. absurd (not_on_way s among);
-      };
-      sound = record { near = sound; far = sound_there };
-      within = omega arith;
-    }) in
-    (n, λ m k run. no_more limit some small now m l k run n first)
+    (most_of v w, λ m k run. no_more limit some small now m (still v w) k run (most_of v w) (at_first limit p talks v w own other here there sound sound_there))

@@ -1,4 +1,4 @@
--- Two ends of one connection that are left to themselves, without a call and without a tick, and a network that brings each segment, in order.
+-- Two ends of one connection that are left to themselves, without a call and without a tick, and a network that brings what goes out in order, or loses it.
 use Rattle.std.specs.Prelude.{◌≡◌, ℕ, suc, ◌<◌, ◌≤◌, ◌^◌, List, [], ◌∷◌, ◌++◌, Some}
 use Rattle.clock.specs.declared.moment.Moment.{Moment}
 use Rattle.tcp_segment.specs.Segment.{Segment}
@@ -30,6 +30,10 @@ pub data Acts (now : Moment) : Link → Link → Type 0 where
   sends : (l : Link) (due : Due) → first_due l.near ≡ Some due → Acts now l (record l { near = after_emitted l.near due now; to_far = l.to_far ++ (segment_of l.near due ∷ []) })
   hears : (l : Link) (s : Segment) (rest : List Segment) → l.to_near ≡ s ∷ rest → Acts now l (record l { near = after_segment_at l.near s now; to_near = rest })
 
+-- the first that is on its way to the near end is lost
+pub data Loses : Link → Link → Type 0 where
+  loses : (l : Link) (s : Segment) (rest : List Segment) → l.to_near ≡ s ∷ rest → Loses l (record l { to_near = rest })
+
 -- one of the two ends does
 pub data Stir (now : Moment) : Link → Link → Type 0 where
   here_stirs : (l k : Link) → Acts now l k → Stir now l k
@@ -40,12 +44,14 @@ pub record AreSound (l : Link) : Type 0 where
   pub near : IsSound l.near
   pub far : IsSound l.far
 
--- so many times, one after the other
+-- so many times, one after the other, and in between some is lost
 pub data Stirs (now : Moment) : ℕ → Link → Link → Type 0 where
   ends : (l : Link) → Stirs now 0 l l
   goes_on : (n : ℕ) (l k j : Link) → Stir now l k → AreSound k → Stirs now n k j → Stirs now (suc n) l j
+  lost_here : (n : ℕ) (l k j : Link) → Loses l k → Stirs now n k j → Stirs now n l j
+  lost_there : (n : ℕ) (l k j : Link) → Loses (turned l) k → Stirs now n (turned k) j → Stirs now n l j
 
--- There is a number of segments that go out and come, past which no more do.
+-- There is a number of segments that go out and come, past which no more do, whatever of them is lost.
 abbrev pub FallsSilent : Moment → Link → Type 0
 FallsSilent now l = (most : ℕ) × ((n : ℕ) (k : Link) → Stirs now n l k → n ≤ most)
 

@@ -350,7 +350,7 @@ pub record Goes (v : View) (ack : ℕ) (w : View) : Type 0 where
   pub opened : is_opening w.state ≡ false
   pub una : ack < 2 ^ 32 → w.sending.una < 2 ^ 32
 
-beyond_opened : (t : State) → is_opening t ≡ false → is_opening (beyond_fin t) ≡ false
+pub beyond_opened : (t : State) → is_opening t ≡ false → is_opening (beyond_fin t) ≡ false
 beyond_opened SynSent e = cc
 beyond_opened SynReceived e = cc
 beyond_opened FinWait1 e = refl
@@ -358,7 +358,7 @@ beyond_opened Closing e = refl
 beyond_opened LastAck e = refl
 beyond_opened _ e = e
 
-ended_opened : (t : State) → is_opening t ≡ false → is_opening (beyond_end t) ≡ false
+pub ended_opened : (t : State) → is_opening t ≡ false → is_opening (beyond_end t) ≡ false
 ended_opened SynSent e = cc
 ended_opened SynReceived e = cc
 ended_opened Established e = refl

@@ -8,11 +8,12 @@ use Rattle.tcp_halves.specs.Stream.{is_new_ack}
 use Rattle.tcp_halves.specs.Windows.{window_in, updates_window}
 use Rattle.tcp_halves.proofs.Choices.{either, clash, and_left, and_right, not_true}
 use Rattle.tcp_state.specs.declared.state.State.{State}
-use Rattle.tcp_state.specs.declared.state.State.TheVariants.{SynSent, SynReceived, Established, FinWait1, FinWait2, Closing, LastAck}
+use Rattle.tcp_state.specs.declared.state.State.TheVariants.{SynReceived}
 use Rattle.tcp_state.specs.View.{View, IsSound, is_opening, is_syn_sent, is_syn_received, is_closed, after_reset}
-use Rattle.tcp_state.specs.Arrival.{owing_ack, is_receiving, beyond_fin, beyond_end, after_new_ack, is_of_fin, fin_acknowledged, is_off, after_establishment, after_ack, is_acceptable_to, reset_error, after_rst_in_syn_sent, after_rst, is_right_syn_ack, after_syn_ack, is_simultaneous_syn, after_simultaneous_syn, is_read, after_window, after_text, after_segment}
+use Rattle.tcp_state.specs.Arrival.{owing_ack, is_receiving, after_new_ack, is_of_fin, fin_acknowledged, is_off, after_establishment, after_ack, is_acceptable_to, reset_error, after_rst_in_syn_sent, after_rst, is_right_syn_ack, after_syn_ack, is_simultaneous_syn, after_simultaneous_syn, is_read, after_window, after_text, after_segment}
 use Rattle.tcp_state.proofs.Losses.{past_opening}
 use Rattle.tcp_state.proofs.Onward.{Advances, waits, advanced_text, advanced_fin}
+use Rattle.tcp_state.proofs.Recovering.{beyond_opened, ended_opened}
 use Rattle.tcp_state.proofs.Segments.{by_fin, by_ack, by_segment, opened_by_syn_ack, after_reading, ack_receives, reading_sends, read_tells}
 use Rattle.tcp_state.proofs.Sound.{sound_keeping}
 
@@ -39,22 +40,6 @@ pub record Hears (v : View) (g : Segment) (w : View) : Type 0 where
   pub unit : w.receiving.unit ≡ v.receiving.unit
   pub scales : w.scales ≡ v.scales
   pub sending : (Tells v.sending g w.sending) ⊎ (w.sending ≡ v.sending)
-
-beyond_opened : (t : State) → is_opening t ≡ false → is_opening (beyond_fin t) ≡ false
-beyond_opened SynSent e = cc
-beyond_opened SynReceived e = cc
-beyond_opened FinWait1 e = refl
-beyond_opened Closing e = refl
-beyond_opened LastAck e = refl
-beyond_opened _ e = e
-
-ended_opened : (t : State) → is_opening t ≡ false → is_opening (beyond_end t) ≡ false
-ended_opened SynSent e = cc
-ended_opened SynReceived e = cc
-ended_opened Established e = refl
-ended_opened FinWait1 e = refl
-ended_opened FinWait2 e = refl
-ended_opened _ e = e
 
 ack_opened : (v : View) (ack : ℕ) → is_opening v.state ≡ false → is_opening (after_ack v ack).state ≡ false
 ack_opened v ack opened = by_ack (λ w. is_opening w.state ≡ false) v ack (record {

@@ -9,3 +9,4 @@ pub mod Hearing
 pub mod Run
 pub mod Acknowledged
 pub mod Drawing
+pub mod Quiet

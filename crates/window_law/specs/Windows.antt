@@ -40,10 +40,10 @@ IsOpen v = (is_opening v.state || is_closed v.state) ≡ false
 abbrev pub IsAgreed : ℕ → Pairing → Type 0
 IsAgreed limit p = (v w : View) → p.own.connection ≡ Present v → p.other.connection ≡ Present w → IsOpen v → IsOpen w → Agree limit p v w
 
--- of both windows nothing changed: octets may have been written or read
+-- of both windows nothing changed: octets may have been written or read, by which places are free for others
 pub record KeepsWindows (v w : View) : Type 0 where
   pub sending : w.sending ≡ record v.sending { held = w.sending.held }
-  pub receiving : w.receiving ≡ record v.receiving { readable = w.receiving.readable }
+  pub receiving : w.receiving ≡ record v.receiving { readable = w.receiving.readable; kept = w.receiving.kept }
   pub read : length w.receiving.readable ≤ length v.receiving.readable
   pub scales : w.scales ≡ v.scales
   pub opening : is_opening w.state ≡ is_opening v.state
