@@ -39,3 +39,5 @@ pub mod Filled
 pub mod Within
 pub mod Moving
 pub mod Counted
+pub mod IsLacking
+pub mod ForSockets

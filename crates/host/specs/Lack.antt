@@ -1,7 +1,8 @@
 -- What a frame finds no room at, by what its octets are to the host.
-use Rattle.std.specs.Prelude.{Bool, ◌&&◌, is_none, if◌then◌else◌, ℕ, List, Option, Some, None, Result, Ok, Err}
+use Rattle.std.specs.Prelude.{◌≡◌, ◌⊎◌, ◌+◌, ◌^◌, ◌≤◌, Bool, ◌&&◌, is_none, false, if◌then◌else◌, ℕ, List, length, count_by, find, Option, Some, None, Result, Ok, Err}
 use Rattle.arp.specs.Cache.{is_request_for}
 use Rattle.ipv4.specs.declared.addr.Addr.{Addr}
+use Rattle.ipv4.specs.Datagram.{Datagram}
 use Rattle.frames.specs.declared.drop.DropCause.{DropCause}
 use Rattle.frames.specs.declared.meaning.Meaning.{Meaning}
 use Rattle.frames.specs.declared.meaning.Meaning.TheVariants.{Arp, Tcp, Icmp, Udp, Other, UdpFragment}
@@ -13,8 +14,11 @@ use Rattle.sockets.specs.declared.datagrams.Reception.{Reception}
 use Rattle.sockets.specs.declared.datagrams.Reception.TheVariants as socket
 use Rattle.sockets.specs.declared.needs.Need.{Need}
 use Rattle.sockets.specs.declared.needs.Need.TheVariants as need
+use Rattle.sockets.specs.declared.entry.Entry.{Entry}
 use Rattle.sockets.specs.Datagrams.{reception}
+use Rattle.sockets.specs.Entries.{is_listening_at, is_waiting_at, backlog_of}
 use Rattle.sockets.specs.Needs as needs
+use Rattle.udp.specs.Datagram.{UserDatagram}
 use Rattle.host.specs.declared.lack.Lack.{Lack}
 use Rattle.host.specs.declared.lack.Lack.TheVariants.{Backlog, Table, Memory, Replies, Queue, Reassembly, Route}
 use Rattle.host.specs.Arrival.{pool_for}
@@ -62,3 +66,14 @@ lack_of h (Err cause) = None
 
 abbrev pub lack : HostView → List ℕ → Option Lack
 lack h octets = lack_of h (heard_by h octets)
+
+-- What is told to be lacking is so: a listener has as many connections waiting as its backlog allows; the table has as many entries as it is for, or its last id is given; as many control replies wait as may; a socket or the pool
+-- of reassemblies has no room for some datagram; no route leads to some address. Memory may be refused at any time.
+abbrev pub IsLacking : HostView → Lack → Type 0
+IsLacking h Backlog = (port : ℕ) × (x : Entry) × (find (is_listening_at port) h.sockets.entries ≡ Some x) × (backlog_of x.role ≤ count_by (is_waiting_at x.id) h.sockets.entries)
+IsLacking h Table = (length h.sockets.entries ≡ h.sockets.sizes.entries) ⊎ (h.sockets.last_id + 1 ≡ 2 ^ 64)
+IsLacking h Replies = length h.interface.replies ≡ h.interface.most_replies
+IsLacking h Queue = (d : UserDatagram) × (reception h.sockets d ≡ socket.NoRoom)
+IsLacking h Reassembly = (d : Datagram) × (place_for d (pool_for h.sockets.manner.guards d h.pool) ≡ None)
+IsLacking h Route = (to : Addr) × (is_routed h.interface to ≡ false)
+IsLacking h Memory = Unit {0}

@@ -46,7 +46,8 @@ ghost use Rattle.sockets.specs.declared.role.Role.TheVariants.{Connected, Datagr
 ghost use Rattle.sockets.specs.Causes.{Follows, pending_error_in, TellsStill};
 ghost use Rattle.sockets.specs.Closing.{entry_of};
 ghost use Rattle.sockets.specs.Emission.{in_turn};
-ghost use Rattle.sockets.specs.Entries.{due_to, is_datagrams_at, sends};
+ghost use Rattle.sockets.specs.Arrival.{local_end, peer_end};
+ghost use Rattle.sockets.specs.Entries.{due_to, is_between, is_datagrams_at, is_listening_at, sends};
 ghost use Rattle.sockets.specs.GivenUp.{waiting_datagrams};
 ghost use Rattle.sockets.specs.Lost.{waiting_resets};
 ghost use Rattle.sockets.specs.Offered.{IsReached};
@@ -69,7 +70,8 @@ ghost use Rattle.host.specs.Emission.{Replies, Sends, Nothing, emission, emissio
 ghost use Rattle.host.specs.GivenUp.{gives_up};
 ghost use Rattle.host.specs.declared.lack.Lack.{Lack};
 ghost use Rattle.host.specs.declared.lack.Lack.TheVariants.{Memory};
-ghost use Rattle.host.specs.Lack.{lack};
+ghost use Rattle.host.specs.Concerned.{concerned};
+ghost use Rattle.host.specs.Lack.{IsLacking, lack};
 ghost use Rattle.host.specs.Limits.{IsWithinLimits};
 ghost use Rattle.host.specs.Messages.{errors_of};
 ghost use Rattle.host.specs.Met.{IsLearntInVain, IsMetBy, IsNoEntry, IsOpenedAtMost, IsQuotedBy, StaysUnless};
@@ -142,12 +144,13 @@ pub fn dropped_frames_change_the_cache_alone()
 {}
 
 /// A frame is dropped for want of room exactly where there is something that it finds none at, as `Host::lack` tells it, but for memory, which may be refused or not. It finds the same after
-/// that: so a program may ask once a frame was dropped, and then alone.
+/// that: so a program may ask once a frame was dropped, and then alone. What is named is lacking indeed.
 pub fn want_of_room_has_its_reason()
     ensures only { (h : HostView) (now : Moment) (isn : ℕ) (octets : List ℕ) (new : HostView) → IsDelivered h now isn octets (Err NoRoom) new → (what : Lack) × (lack h octets ≡ Some what) }
     ensures always { (h : HostView) (now : Moment) (isn : ℕ) (octets : List ℕ) (answer : Result (Unit {0}) DropCause) (new : HostView) (what : Lack) → IsDelivered h now isn octets answer new
         → lack h octets ≡ Some what → what ≢ Memory → answer ≡ Err NoRoom }
     ensures still { (h : HostView) (now : Moment) (isn : ℕ) (octets : List ℕ) (new : HostView) → IsDelivered h now isn octets (Err NoRoom) new → lack new octets ≡ lack h octets }
+    ensures named { (h : HostView) (octets : List ℕ) (what : Lack) → lack h octets ≡ Some what → IsLacking h what }
 {}
 
 /// Whatever octets come, they move one connection at most. A segment moves the one between its two ends alone (RFC 9293 section 3.10.7): every other entry of the table stays as it was, in order, that one
@@ -318,4 +321,15 @@ pub fn unusable_datagrams_are_reported()
         → find (is_datagrams_at u.datagram.destination) h.sockets.entries ≡ None → IsTrue (is_routed h.interface u.carrier.source) → IsDelivered h now isn octets (Ok tt) new
         → let reply = Error u.carrier.source PortUnreachable (header_octets u.carrier ++ take 8 u.carrier.payload) in
         new.interface.replies ≡ h.interface.replies ++ record { since = later_moment h.sockets now; reply = reply } ∷ [] }
+{}
+
+/// `Host::concerns` names the socket that a frame may change: that of the connection between the segment's two ends, or the listener at which that waits, or at which the segment opens one; or the socket at the port of a UDP datagram.
+pub fn frames_concern_their_socket()
+    ensures socket { (h : HostView) (octets : List ℕ) (r : ReceivedSegment) (x : Entry) (c : View) → heard_by h octets ≡ Ok (Tcp r) → find (is_between (local_end h.sockets r.segment) (peer_end r.source r.segment)) h.sockets.entries ≡ Some x
+        → x.role ≡ Connected c None → c.released ≡ false → concerned h octets ≡ Some x.id }
+    ensures waiting { (h : HostView) (octets : List ℕ) (r : ReceivedSegment) (x : Entry) (c : View) (listener : SocketId) → heard_by h octets ≡ Ok (Tcp r) → find (is_between (local_end h.sockets r.segment) (peer_end r.source r.segment)) h.sockets.entries ≡ Some x
+        → x.role ≡ Connected c (Some listener) → concerned h octets ≡ Some listener }
+    ensures opening { (h : HostView) (octets : List ℕ) (r : ReceivedSegment) (x : Entry) → heard_by h octets ≡ Ok (Tcp r) → find (is_between (local_end h.sockets r.segment) (peer_end r.source r.segment)) h.sockets.entries ≡ None
+        → r.segment.flags.syn ≡ true → r.segment.flags.rst ≡ false → r.segment.flags.ack ≡ false → find (is_listening_at r.segment.destination) h.sockets.entries ≡ Some x → concerned h octets ≡ Some x.id }
+    ensures datagram { (h : HostView) (octets : List ℕ) (r : ReceivedDatagram) (x : Entry) → heard_by h octets ≡ Ok (Udp r) → find (is_datagrams_at r.datagram.destination) h.sockets.entries ≡ Some x → concerned h octets ≡ Some x.id }
 {}

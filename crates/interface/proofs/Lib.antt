@@ -6,3 +6,4 @@ pub mod Heard
 pub mod Deadlines
 pub mod KnownMacs
 pub mod RunsOut
+pub mod NoHosts

@@ -1,2 +1,3 @@
 pub mod Timeouts
+pub mod Samples
 pub mod Soonest

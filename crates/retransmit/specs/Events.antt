@@ -1,5 +1,6 @@
 -- The retransmission timeout after a list of events (RFC 6298 sections 2, 3 and 5).
-use Rattle.std.specs.Prelude.{ℕ, List, fold}
+use Rattle.std.specs.Prelude.{ℕ, ◌≤◌, List, fold}
+use Rattle.std.specs.List.{AllByRecursion}
 use Rattle.retransmit.specs.Timeout.{Timeout, first_timeout, after_sample, after_expiry, after_lost_syn}
 
 -- what happens to the timeout of a connection
@@ -19,3 +20,7 @@ after_event t EstablishedAfterLostSyn = after_lost_syn t
 -- the timeout of a connection whose set-up asks for this least timeout, in milliseconds, and to which these events came, the first one first
 abbrev pub timeout_after : ℕ → List Event → Timeout
 timeout_after least events = fold after_event (first_timeout least) events
+
+-- each of these round-trip times lies between two bounds
+abbrev pub AreBetween : ℕ → ℕ → List ℕ → Type 0
+AreBetween a b samples = AllByRecursion (λ r. (a ≤ r) × (r ≤ b)) samples

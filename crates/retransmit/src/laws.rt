@@ -1,7 +1,7 @@
 //! Laws of the definitions that the contracts of this crate cite: each is the contract of a function
 //! that does nothing.
 
-ghost use Rattle.std.specs.Prelude.{◌≡◌, ◌≢◌, ◌||◌, ℕ, ◌*◌, ◌^◌, ◌≤◌, min, List, [], ◌∷◌, ◌++◌, replicate, Option, Some};
+ghost use Rattle.std.specs.Prelude.{◌≡◌, ◌≢◌, ◌||◌, ℕ, ◌+◌, ◌-◌, ◌*◌, ◌^◌, ◌≤◌, max, min, List, [], ◌∷◌, ◌++◌, map, replicate, Option, Some};
 ghost use Rattle.clock.specs.declared.moment.Moment.{Moment};
 ghost use Rattle.clock.specs.Moments.{has_come};
 ghost use Rattle.retransmit.specs.declared.timers.Timers.{Timers};
@@ -9,8 +9,8 @@ ghost use Rattle.retransmit.specs.declared.timers.TimerKind.{TimerKind};
 ghost use Rattle.retransmit.specs.declared.timers.TimerKind.TheVariants.{Retransmission, Probe, DelayedAck, Override};
 ghost use Rattle.retransmit.specs.Deadlines.{deadline_of, with_deadline, is_due, next_of};
 ghost use Rattle.retransmit.specs.Timeout.{least_of};
-ghost use Rattle.retransmit.specs.Events.{Event, after_event, timeout_after};
-ghost use Rattle.retransmit.specs.Events.Event.{Expiry};
+ghost use Rattle.retransmit.specs.Events.{Event, AreBetween, after_event, timeout_after};
+ghost use Rattle.retransmit.specs.Events.Event.{Sample, Expiry};
 
 /// What a call makes of the timeout is what one more event makes of it (RFC 6298 sections 2, 3 and 5).
 pub fn one_more_event()
@@ -24,6 +24,14 @@ pub fn timeout_in_range()
     ensures least { (least : ℕ) (events : List Event) → least_of least ≤ (timeout_after least events).rto }
     ensures most { (least : ℕ) (events : List Event) → (timeout_after least events).rto ≤ 60000 }
     ensures usual { (events : List Event) → 1000 ≤ (timeout_after 1000 events).rto }
+{}
+
+/// The timeout follows the round-trip times that were measured (RFC 6298 sections 2.2 and 2.3). The first one, R, leads to SRTT + 4 * RTTVAR = R + 4 * R / 2, three times as much. Of any that lie between two bounds
+/// it is the lesser one at least, and the greater one and four variations at most: of half the greater one, as the first has it, or of what lies between both.
+pub fn the_timeout_follows_the_samples()
+    ensures first { (least r : ℕ) → 1 ≤ r → r ≤ 20000 → (timeout_after least (Sample r ∷ [])).rto ≡ max (least_of least) (3 * r) }
+    ensures from { (least a b : ℕ) (samples : List ℕ) → samples ≢ [] → AreBetween a b samples → b ≤ 60000 → a ≤ (timeout_after least (map Sample samples)).rto }
+    ensures to { (least a b : ℕ) (samples : List ℕ) → samples ≢ [] → 1 ≤ a → AreBetween a b samples → b ≤ 60000 → (timeout_after least (map Sample samples)).rto ≤ max (least_of least) (b + max (2 * b) (4 * (b - a) + 3)) }
 {}
 
 /// Whatever happens to a connection, its least timeout is that of its set-up (RFC 6298 section 2.4).

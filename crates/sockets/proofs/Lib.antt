@@ -92,3 +92,4 @@ pub mod Counted
 pub mod InTurn
 pub mod TurnPlaces
 pub mod TurnsRound
+pub mod Grants

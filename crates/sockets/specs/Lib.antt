@@ -33,3 +33,4 @@ pub mod Closing
 pub mod Strays
 pub mod Moved
 pub mod Info
+pub mod Granted

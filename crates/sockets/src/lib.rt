@@ -13,6 +13,7 @@ mod entry;
 mod found;
 mod given_up;
 pub mod giving;
+pub mod granted;
 mod index;
 mod info;
 pub mod laws;

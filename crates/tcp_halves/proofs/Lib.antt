@@ -4,3 +4,4 @@ pub mod Gathered
 pub mod Reports
 pub mod Runs
 pub mod HeardBare
+pub mod LargestWindow

@@ -117,3 +117,5 @@ pub mod TailEnds
 pub mod Undoing
 pub mod PlainSegments
 pub mod PlainAcks
+pub mod Filled
+pub mod ToldOfIt

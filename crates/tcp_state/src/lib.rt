@@ -30,6 +30,7 @@ mod resend;
 mod selective;
 pub mod silence;
 mod state;
+pub mod status;
 mod tail;
 pub mod telling;
 mod timing;

@@ -9,7 +9,7 @@ ghost use Rattle.tcp_state.specs.declared.calls.Refusal.{Refusal};
 ghost use Rattle.tcp_state.specs.declared.state.State.{State};
 ghost use Rattle.tcp_state.specs.declared.emission.Due.{Due};
 ghost use Rattle.tcp_state.specs.declared.emission.Stretch.{Stretch};
-ghost use Rattle.tcp_state.specs.Selective.{repairs_gaps, pipe, allowance};
+ghost use Rattle.tcp_state.specs.Selective.{repairs_gaps, counts_pipe, pipe, allowance};
 ghost use Rattle.tcp_halves.specs.Stream.{outstanding};
 ghost use Rattle.tcp_state.specs.View.{View, IsSound, is_opening, awaits_fin_ack};
 ghost use Rattle.tcp_state.specs.Most.{most_due};
@@ -76,6 +76,12 @@ pub fn what_is_new_goes_out()
     ensures fin { (v : View) → IsSound v → v.resend.mark ≡ None → awaits_fin_ack v.state ≡ true → outstanding v.sending ≡ length v.sending.held → outstanding v.sending < v.sending.window
         → first_due v ≡ Some (Due.Text (record { offset = length v.sending.held; count = 0; fin = true })) }
     ensures probe { (v : View) → IsSound v → v.resend.mark ≡ None → v.resend.owes_probe ≡ true → v.sending.window ≡ 0 → (0 < length v.sending.held) ⊎ (awaits_fin_ack v.state ≡ true) → first_due v ≡ Some Due.Probe }
+{}
+
+/// The congestion window may be filled (RFC 5681 section 3.1, RFC 6675 section 5): as many numbers as it has may be outstanding by what is new, and where reports tell what left the network, as many more as did.
+pub fn the_congestion_window_may_be_filled()
+    ensures plain { (v : View) → counts_pipe v ≡ false → v.congestion.cwnd ≤ allowance v }
+    ensures counted { (v : View) → counts_pipe v ≡ true → v.congestion.cwnd + outstanding v.sending ≤ allowance v + pipe v }
 {}
 
 /// What was lost goes out again before anything new (RFC 6298 section 5.4, RFC 5681 sections 3.1 and 3.2): from the resend mark on, or from the next place that isn't reported, where that is at SND.UNA, or below both windows; and where reports rule
