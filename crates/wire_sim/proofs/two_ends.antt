@@ -4,3 +4,4 @@ pub mod UnderIds
 pub mod Travels
 pub mod Meets
 pub mod Calls
+pub mod Joined

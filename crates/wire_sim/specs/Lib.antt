@@ -24,3 +24,4 @@ pub mod Passage
 pub mod Neighbours
 pub mod Handshakes
 pub mod Duties
+pub mod TwoEnds

@@ -4,6 +4,7 @@
 pub mod duties;
 mod event;
 mod hosts;
+pub mod joined;
 pub mod laws;
 mod room;
 mod world;

@@ -27,7 +27,9 @@ use Rattle.sockets.specs.Arrival.{is_opening, room_for}
 use Rattle.sockets.specs.Entries.{is_between, is_of_pair, is_kept, role_after_segment, entries_after_step, new_waiting}
 use Rattle.sockets.specs.SocketsView.{SocketsView, later_moment, holder_id}
 use Rattle.wire_sim.specs.Openings.{epoch_of, held_anew, opened_by_frame}
-use Rattle.stream_law.specs.Pairing.{Presence, Present, Departed, End, Emission, Pairing, Move, IsTimely, Meets, accepts, hears, resets, rests, stops, leaves, here_moves, remains, nothing_yet}
+use Rattle.stream_law.specs.Pairing.{Presence, Present, Departed, End, Emission, Pairing, IsTimely, remains, nothing_yet}
+use Rattle.window_law.specs.Windows.{Talk, Talks, accepts, hears, here_talks}
+use Rattle.window_law.proofs.Quiet.{timed_keeps, resets, rests, stops, leaves}
 use Rattle.sockets.specs.Sound.{IsSoundConnection, IsSoundRole, IsSoundTable}
 use Rattle.wire_sim.specs.Tallies.{is_opening_of, is_opening_at}
 use Rattle.wire_sim.specs.Trace.{sent_on}
@@ -57,25 +59,25 @@ held-still openings side place pair None after same = ap (held_anew openings sid
 held-still openings side place pair (Some held) after same = refl
 
 -- A move of one id's end is a move of the pairing of its opening.
-meets-moved_at : (limit : ℕ) (hs ts : Side) (a b : Addr) (own other : SocketsView) (bag : Bag) (openings : List Opening) (trace : List Happening) (ys : List Entry) (id : SocketId) (o : Opening) (was now : Presence)
+talks-moved_at : (limit : ℕ) (hs ts : Side) (a b : Addr) (own other : SocketsView) (bag : Bag) (openings : List Opening) (trace : List Happening) (ys : List Entry) (id : SocketId) (o : Opening) (was now : Presence)
     → (h : Projects limit hs ts a b own other bag openings trace) → find (is_opening_at hs id) openings ≡ Some o → presence_in (role_at own.entries id.0) ≡ was → presence_in (role_at ys id.0) ≡ now
     → ((j : ℕ) → (id.0 == j) ≡ false → role_at ys j ≡ role_at own.entries j)
     → Goes limit (pairing (end_with was (told hs trace id)) (end_at ts openings other.entries (told ts trace) o.pair o.epoch) (bag.out o.pair o.epoch) (bag.arrived o.pair o.epoch))
     (pairing (end_with now (told hs trace id)) (end_at ts openings other.entries (told ts trace) o.pair o.epoch) (bag.out o.pair o.epoch) (bag.arrived o.pair o.epoch))
-    → (pair : Pair) (epoch : ℕ) → Meets limit (pairing (end_at hs openings ys (told hs trace) pair epoch) (end_at ts openings other.entries (told ts trace) pair epoch) (bag.out pair epoch) (bag.arrived pair epoch))
-meets-moved_at limit hs ts a b own other bag openings trace ys id o was now h at is_was is_now others move pair epoch = of (whose hs openings id pair epoch)
+    → (pair : Pair) (epoch : ℕ) → Talks limit (pairing (end_at hs openings ys (told hs trace) pair epoch) (end_at ts openings other.entries (told ts trace) pair epoch) (bag.out pair epoch) (bag.arrived pair epoch))
+talks-moved_at limit hs ts a b own other bag openings trace ys id o was now h at is_was is_now others move pair epoch = of (whose hs openings id pair epoch)
   where
-    of : Whose hs openings id pair epoch → Meets limit (pairing (end_at hs openings ys (told hs trace) pair epoch) (end_at ts openings other.entries (told ts trace) pair epoch) (bag.out pair epoch) (bag.arrived pair epoch))
+    of : Whose hs openings id pair epoch → Talks limit (pairing (end_at hs openings ys (told hs trace) pair epoch) (end_at ts openings other.entries (told ts trace) pair epoch) (bag.out pair epoch) (bag.arrived pair epoch))
     of (Another apart) =
-        subst (λ e. Meets limit (pairing e (end_at ts openings other.entries (told ts trace) pair epoch) (bag.out pair epoch) (bag.arrived pair epoch)))
-        (sym (end-another hs openings id pair epoch own.entries ys (told hs trace) (told hs trace) others (λ j same. refl) apart)) (h.meets pair epoch)
+        subst (λ e. Talks limit (pairing e (end_at ts openings other.entries (told ts trace) pair epoch) (bag.out pair epoch) (bag.arrived pair epoch)))
+        (sym (end-another hs openings id pair epoch own.entries ys (told hs trace) (told hs trace) others (λ j same. refl) apart)) (h.talks pair epoch)
     of (Its x found same) =
         let two = opening-only openings hs id o x pair epoch h.ledger at found same in
         let there = end_at ts openings other.entries (told ts trace) pair epoch in
-        subst (λ e. Meets limit (pairing e there (bag.out pair epoch) (bag.arrived pair epoch))) (sym (end-its hs openings id pair epoch ys (told hs trace) x found same ∙ ap (λ p. end_with p (told hs trace id)) is_now))
+        subst (λ e. Talks limit (pairing e there (bag.out pair epoch) (bag.arrived pair epoch))) (sym (end-its hs openings id pair epoch ys (told hs trace) x found same ∙ ap (λ p. end_with p (told hs trace id)) is_now))
         (subst (λ i. Goes limit (pairing (end_with was (told hs trace id)) (end_at ts openings other.entries (told ts trace) pair i) (bag.out pair i) (bag.arrived pair i)) (pairing (end_with now (told hs trace id)) (end_at ts openings other.entries (told ts trace) pair i) (bag.out pair i) (bag.arrived pair i))) two.1
         (subst (λ p. Goes limit (pairing (end_with was (told hs trace id)) (end_at ts openings other.entries (told ts trace) p o.epoch) (bag.out p o.epoch) (bag.arrived p o.epoch)) (pairing (end_with now (told hs trace id)) (end_at ts openings other.entries (told ts trace) p o.epoch) (bag.out p o.epoch) (bag.arrived p o.epoch))) two.0 move)
-        (subst (λ e. Meets limit (pairing e there (bag.out pair epoch) (bag.arrived pair epoch))) (end-its hs openings id pair epoch own.entries (told hs trace) x found same ∙ ap (λ p. end_with p (told hs trace id)) is_was) (h.meets pair epoch)))
+        (subst (λ e. Talks limit (pairing e there (bag.out pair epoch) (bag.arrived pair epoch))) (end-its hs openings id pair epoch own.entries (told hs trace) x found same ∙ ap (λ p. end_with p (told hs trace id)) is_was) (h.talks pair epoch)))
 
 -- A segment that the other end of a pair sent in the pair's present epoch, and that came in time.
 pub record Comes (limit : ℕ) (hs ts : Side) (own other : SocketsView) (bag : Bag) (openings : List Opening) (trace : List Happening) (pair : Pair) (s : Segment) : Type 0 where
@@ -102,7 +104,7 @@ unheard : (limit : ℕ) (c : View) (l : Option SocketId) (t : Account) (there : 
     → Goes limit (pairing (end_with (Present c) t) there out arrivals) (pairing (end_with (presence_in (settle x (λ r. Connected c l) (Connected c l))) t) there out arrivals)
 unheard limit c l t there out arrivals Removed met =
     let was = pairing (end_with (Present c) t) there out arrivals in
-    moved limit was (pairing (end_with Departed t) there out arrivals) (leaves was c t.closed refl (λ e. e)) met
+    moved limit was (pairing (end_with Departed t) there out arrivals) (leaves limit was c t.closed refl (λ e. e)) met
 unheard limit c l t there out arrivals Stays met = met
 unheard limit c l t there out arrivals Rejected met = met
 
@@ -111,19 +113,19 @@ abbrev timed : View → Segment → Moment → View → View
 timed c s now w = timed_by (before c s) w now
 
 -- where no octets are lost, the segment is heard, and then the clock acts
-not-lost : (limit : ℕ) (c : View) (s : Segment) (now : Moment) (t : Account) (there : End) (out arrivals : List Emission) → (x : Fate) → Meets limit (pairing (end_with (remains x (after_segment c s)) t) there out arrivals)
-    → (l : Option SocketId) → Meets limit (pairing (end_with (presence_in (settle x (λ r. Connected (timed c s now (after_segment c s)) l) (Connected c l))) t) there out arrivals)
+not-lost : (limit : ℕ) (c : View) (s : Segment) (now : Moment) (t : Account) (there : End) (out arrivals : List Emission) → (x : Fate) → Talks limit (pairing (end_with (remains x (after_segment c s)) t) there out arrivals)
+    → (l : Option SocketId) → Talks limit (pairing (end_with (presence_in (settle x (λ r. Connected (timed c s now (after_segment c s)) l) (Connected c l))) t) there out arrivals)
 not-lost limit c s now t there out arrivals Removed met l = met
 not-lost limit c s now t there out arrivals Stays met l =
     let was = pairing (end_with (Present (after_segment c s)) t) there out arrivals in
-    moved limit was (pairing (end_with (Present (timed c s now (after_segment c s))) t) there out arrivals) (rests was (after_segment c s) (timed c s now (after_segment c s)) refl (same-timed c (after_segment c s) s now)) met
+    moved limit was (pairing (end_with (Present (timed c s now (after_segment c s))) t) there out arrivals) (rests limit was (after_segment c s) (timed c s now (after_segment c s)) refl (same-timed c (after_segment c s) s now) (timed_keeps c (after_segment c s) s now)) met
 not-lost limit c s now t there out arrivals Rejected met l =
     let was = pairing (end_with (Present (after_segment c s)) t) there out arrivals in
-    moved limit was (pairing (end_with (Present (timed c s now (after_segment c s))) t) there out arrivals) (rests was (after_segment c s) (timed c s now (after_segment c s)) refl (same-timed c (after_segment c s) s now)) met
+    moved limit was (pairing (end_with (Present (timed c s now (after_segment c s))) t) there out arrivals) (rests limit was (after_segment c s) (timed c s now (after_segment c s)) refl (same-timed c (after_segment c s) s now) (timed_keeps c (after_segment c s) s now)) met
 
 -- a segment that is rejected changes nothing, one whose octets are lost aborts the connection, and any other is heard
 arriving : (limit : ℕ) (c : View) (l : Option SocketId) (s : Segment) (now : Moment) (t : Account) (there : End) (out arrivals : List Emission) → is_closed c.state ≡ false
-    → Move limit (pairing (end_with (Present c) t) there out arrivals) (pairing (end_with (remains (fate c s) (after_segment c s)) t) there out arrivals)
+    → Talk limit (pairing (end_with (Present c) t) there out arrivals) (pairing (end_with (remains (fate c s) (after_segment c s)) t) there out arrivals)
     → Goes limit (pairing (end_with (Present c) t) there out arrivals) (pairing (end_with (presence_in (settle (fate c s) (role_after_segment now s) (Connected c l))) t) there out arrivals)
 arriving limit c l s now t there out arrivals lives move met = by_rejected (is_rejected c s) refl
   where
@@ -135,20 +137,20 @@ arriving limit c l s now t there out arrivals lives move met = by_rejected (is_r
     left unheard = Connected (if unheard then c else timed c s now (after_heard c s)) l
 
     Shown : Role → Type 0
-    Shown r = Meets limit (pairing (end_with (presence_in (settle (fate c s) (λ _. r) (Connected c l))) t) there out arrivals)
+    Shown r = Talks limit (pairing (end_with (presence_in (settle (fate c s) (λ _. r) (Connected c l))) t) there out arrivals)
 
     by_lost : (b : Bool) → is_lost c s ≡ b → Shown (Connected (timed c s now (after_heard c s)) l)
     by_lost true lost =
         let w : View = timed c s now (after_lost c s) in
         let stays : fate c s ≡ Stays = rw (lives, lost) in
         let becomes : Connected (timed c s now (after_heard c s)) l ≡ Connected w l = ap (λ b. Connected (timed c s now (if b then after_lost c s else after_segment c s)) l) lost in
-        subst (λ x. Meets limit (pairing (end_with (presence_in (settle x (λ _. Connected (timed c s now (after_heard c s)) l) (Connected c l))) t) there out arrivals)) (sym stays)
-        (subst (λ r. Meets limit (pairing (end_with (presence_in (Some r)) t) there out arrivals)) (sym becomes)
-        (moved limit was (pairing (end_with (Present w) t) there out arrivals) (stops was c w t.closed refl (stops-left c w refl refl) (λ e. e)) met))
+        subst (λ x. Talks limit (pairing (end_with (presence_in (settle x (λ _. Connected (timed c s now (after_heard c s)) l) (Connected c l))) t) there out arrivals)) (sym stays)
+        (subst (λ r. Talks limit (pairing (end_with (presence_in (Some r)) t) there out arrivals)) (sym becomes)
+        (moved limit was (pairing (end_with (Present w) t) there out arrivals) (stops limit was c w t.closed refl (stops-left c w refl refl) (λ e. e)) met))
     by_lost false kept =
         let becomes : Connected (timed c s now (after_heard c s)) l ≡ Connected (timed c s now (after_segment c s)) l = ap (λ b. Connected (timed c s now (if b then after_lost c s else after_segment c s)) l) kept in
         subst Shown (sym becomes)
-        (not-lost limit c s now t there out arrivals (fate c s) (here_moves was (pairing (end_with (remains (fate c s) (after_segment c s)) t) there out arrivals) met move) l)
+        (not-lost limit c s now t there out arrivals (fate c s) (here_talks was (pairing (end_with (remains (fate c s) (after_segment c s)) t) there out arrivals) met move) l)
 
     by_rejected : (b : Bool) → is_rejected c s ≡ b → Shown (role_after_segment now s (Connected c l))
     by_rejected true rejected = subst Shown (sym (ap left (ap (λ b. b || is_rejected c s) lives ∙ rejected))) (unheard limit c l t there out arrivals (fate c s) met)
@@ -190,16 +192,16 @@ projects-heard limit hs ts a b own own' other bag openings trace now place local
     let at_found : find (is_opening_of hs o.pair o.epoch) openings ≡ Some o = opening-found openings hs id o h.ledger noted.at in
     let own_end : end_at hs openings own.entries (told hs trace) o.pair o.epoch ≡ end_with (Present c) account =
     end-its hs openings id o.pair o.epoch own.entries (told hs trace) o at_found (opening-at_parts hs id o (find-passes (is_opening_at hs id) openings o noted.at)).1 ∙ ap (λ r. end_with (presence_in r) account) before in
-    let move : Move limit was (pairing (end_with (remains (fate c s) (after_segment c s)) account) there (bag.out o.pair o.epoch) (bag.arrived o.pair o.epoch)) =
+    let move : Talk limit was (pairing (end_with (remains (fate c s) (after_segment c s)) account) there (bag.out o.pair o.epoch) (bag.arrived o.pair o.epoch)) =
     elim may [
-      | inl reset ↦ resets was c s refl reset
+      | inl reset ↦ resets limit was c s refl reset
       | inr y ↦
           let among : IsAmong y.emission (bag.arrived o.pair o.epoch) = subst (λ p. IsAmong y.emission (bag.arrived p o.epoch)) (sym pair) (subst (λ i. IsAmong y.emission (bag.arrived its_pair i)) (sym epoch) y.among) in
           let recent : IsTimely limit was y.emission =
           subst (λ e. IsTimely limit (pairing e there (bag.out o.pair o.epoch) (bag.arrived o.pair o.epoch)) y.emission) own_end
           (subst (λ p. IsTimely limit (pairing (end_at hs openings own.entries (told hs trace) p o.epoch) (end_at ts openings other.entries (told ts trace) p o.epoch) (bag.out p o.epoch) (bag.arrived p o.epoch)) y.emission) (sym pair)
           (subst (λ i. IsTimely limit (pairing (end_at hs openings own.entries (told hs trace) its_pair i) (end_at ts openings other.entries (told ts trace) its_pair i) (bag.out its_pair i) (bag.arrived its_pair i)) y.emission) (sym epoch) y.timely)) in
-          subst (λ x. Move limit was (pairing (end_with (remains (fate c x) (after_segment c x)) account) there (bag.out o.pair o.epoch) (bag.arrived o.pair o.epoch))) y.segment (hears was c y.emission refl solid.sound among recent)
+          subst (λ x. Talk limit was (pairing (end_with (remains (fate c x) (after_segment c x)) account) there (bag.out o.pair o.epoch) (bag.arrived o.pair o.epoch))) y.segment (hears was c y.emission refl solid.sound among recent)
     ] in
     let turned : Projects limit hs ts a b next other bag openings trace =
     projects-turned limit hs ts a b own next other bag openings trace trace h (record {
@@ -208,7 +210,7 @@ projects-heard limit hs ts a b own own' other bag openings trace now place local
           (λ role is. (subst (λ q. IsNoted hs a openings id q) (kept-role (fate c s) (role_after_segment now s (Connected c l)) role is) (opened-kept hs a openings id c (after_segment_at c s now) (keeps-event c (edge.Hears s now)) noted), h.own_table.bound id (Connected c l) before))
           (λ i apart. refl) (λ none may. h.own_table.silent id none (inr (Connected c l, before))) h.own_table;
       other_told = λ i. refl;
-      meets = meets-moved_at limit hs ts a b own other bag openings trace ys id o (Present c) (presence_in (settle (fate c s) (role_after_segment now s) (Connected c l))) h noted.at (ap presence_in before) (ap presence_in z.here) z.others
+      talks = talks-moved_at limit hs ts a b own other bag openings trace ys id o (Present c) (presence_in (settle (fate c s) (role_after_segment now s) (Connected c l))) h noted.at (ap presence_in before) (ap presence_in z.here) z.others
           (arriving limit c l s now account there (bag.out o.pair o.epoch) (bag.arrived o.pair o.epoch) parts.0 move);
     }) in
     OpensNone (held-already openings hs place its_pair own (holder_id own' its_pair) c l id parts.0 before of_pair)
@@ -255,12 +257,12 @@ projects-began limit hs ts a b own own' other bag openings trace isn place local
     let there = end_at ts openings other.entries (told ts trace) pair epoch in
     let was = pairing nothing_yet there (bag.out pair epoch) (bag.arrived pair epoch) in
     let own_end : end_at hs openings own.entries (told hs trace) pair epoch ≡ nothing_yet = end-unmade hs openings o own.entries (told hs trace) refl m.next in
-    let move : Move limit was (pairing (end_with (Present c) untold) there (bag.out pair epoch) (bag.arrived pair epoch)) =
+    let move : Talk limit was (pairing (end_with (Present c) untold) there (bag.out pair epoch) (bag.arrived pair epoch)) =
     elim may [
       | inl reset ↦ let bad : true ≡ false = sym reset ∙ flags.1 in cc
       | inr y ↦
           let recent : IsTimely limit was y.emission = subst (λ e. IsTimely limit (pairing e there (bag.out pair epoch) (bag.arrived pair epoch)) y.emission) own_end y.timely in
-          subst (λ x. Move limit was (pairing (end_with (Present (opened_passively (room_for own s) local peer isn x now)) untold) there (bag.out pair epoch) (bag.arrived pair epoch))) y.segment
+          subst (λ x. Talk limit was (pairing (end_with (Present (opened_passively (room_for own s) local peer isn x now)) untold) there (bag.out pair epoch) (bag.arrived pair epoch))) y.segment
           (accepts was (room_for own s) local peer isn y.emission now refl small_isn y.among recent (ap (λ (x : Segment). x.flags.syn) y.segment ∙ flags.0))
     ] in
     let was_free : holder_id own pair ≡ None = ap (option_map (λ (e : Entry). e.id)) free in

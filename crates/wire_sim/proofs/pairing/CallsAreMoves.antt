@@ -28,13 +28,15 @@ use Rattle.sockets.specs.Datagrams.{after_recvfrom}
 use Rattle.sockets.specs.Entries.{is_socket, role_after_bind, role_after_accept, role_after_send, role_after_recv as received_role, role_after_shutdown, with_role}
 use Rattle.sockets.specs.SocketsView.{SocketsView, with_socket}
 use Rattle.sockets.specs.Lists.{change_first}
-use Rattle.stream_law.specs.Pairing.{Present, Meets, takes, closes, gives, ends}
+use Rattle.stream_law.specs.Pairing.{Present}
+use Rattle.window_law.specs.Windows.{Talks}
+use Rattle.window_law.proofs.Quiet.{takes, closes, gives, ends}
 use Rattle.sockets.specs.Sound.{IsSoundConnection, IsSoundRole, IsSoundTable}
 use Rattle.sides.specs.Sides.{other_side}
 use Rattle.wire_sim.specs.Steps.{MeetsSocket, MeetsReceived, MeetsReceivedFrom}
 use Rattle.wire_sim.specs.Tallies.{is_opening_at}
 use Rattle.wire_sim.proofs.tables.CallsOnTable.{sends-on, reads-on, octets_told, end_told, received-connected, readable_on-connected, socket-kept, shuts-on}
-use Rattle.wire_sim.proofs.tables.EntryChanges.{SameBut, SameTold, table-becomes, table-told, end-told, meets-moved, opened-kept}
+use Rattle.wire_sim.proofs.tables.EntryChanges.{SameBut, SameTold, table-becomes, table-told, end-told, talks-moved, opened-kept}
 use Rattle.wire_sim.proofs.pairing.EndMoves.{pairing, EndGoes, moved, end-stays}
 use Rattle.wire_sim.proofs.lists.FoundAfterChange.{All-find, change-none}
 use Rattle.sockets.proofs.KeptEnds.{KeepsEnds, keeps-nothing, keeps-shutdown, keeps-event}
@@ -55,9 +57,9 @@ projects-silent limit hs ts a b own other bag openings trace e quiet h = project
   addr = refl;
   table = table-told hs a own.last_id own.entries openings (told hs trace) (told hs (trace ++ e ∷ [])) same h.own_table;
   other_told = λ i. told-quiet ts trace e i (quiet ts i);
-  meets = λ pair epoch.
-      subst (λ v. Meets limit (pairing v (end_at ts openings other.entries (told ts trace) pair epoch) (bag.out pair epoch) (bag.arrived pair epoch)))
-      (sym (end-told hs openings own.entries (told hs trace) (told hs (trace ++ e ∷ [])) pair epoch same)) (h.meets pair epoch);
+  talks = λ pair epoch.
+      subst (λ v. Talks limit (pairing v (end_at ts openings other.entries (told ts trace) pair epoch) (bag.out pair epoch) (bag.arrived pair epoch)))
+      (sym (end-told hs openings own.entries (told hs trace) (told hs (trace ++ e ∷ [])) pair epoch same)) (h.talks pair epoch);
 })
   where
     same : SameTold (told hs trace) (told hs (trace ++ e ∷ []))
@@ -75,8 +77,8 @@ projects-moved limit hs ts a b own own' other bag openings trace trace' id r add
       table = subst (λ n. IsTable hs a n own'.entries openings (told hs trace')) (sym last)
           (table-becomes hs a own.last_id own.entries own'.entries openings (told hs trace) (told hs trace') id r becomes new same quiet h.own_table);
       other_told = theirs;
-      meets = meets-moved limit hs openings id own.entries own'.entries (told hs trace) (told hs trace') (λ pair epoch. end_at ts openings other.entries (told ts trace) pair epoch) bag.out bag.arrived becomes.others same
-          (subst (λ x. EndGoes limit (end_with (presence_in (role_at own.entries id.0)) (told hs trace id)) (end_with (presence_in x) (told hs trace' id))) (sym becomes.here) goes) h.meets;
+      talks = talks-moved limit hs openings id own.entries own'.entries (told hs trace) (told hs trace') (λ pair epoch. end_at ts openings other.entries (told ts trace) pair epoch) bag.out bag.arrived becomes.others same
+          (subst (λ x. EndGoes limit (end_with (presence_in (role_at own.entries id.0)) (told hs trace id)) (end_with (presence_in x) (told hs trace' id))) (sym becomes.here) goes) h.talks;
     })
 
 -- a table that shows the same
@@ -86,8 +88,8 @@ projects-alike limit hs ts a b own own' other bag openings trace addr last entri
   addr = addr;
   table = subst (λ xs. IsTable hs a own'.last_id xs openings (told hs trace)) (sym entries) (subst (λ n. IsTable hs a n own.entries openings (told hs trace)) (sym last) h.own_table);
   other_told = λ i. refl;
-  meets = λ pair epoch.
-      subst (λ xs. Meets limit (pairing (end_at hs openings xs (told hs trace) pair epoch) (end_at ts openings other.entries (told ts trace) pair epoch) (bag.out pair epoch) (bag.arrived pair epoch))) (sym entries) (h.meets pair epoch);
+  talks = λ pair epoch.
+      subst (λ xs. Talks limit (pairing (end_at hs openings xs (told hs trace) pair epoch) (end_at ts openings other.entries (told ts trace) pair epoch) (bag.out pair epoch) (bag.arrived pair epoch))) (sym entries) (h.talks pair epoch);
 })
 
 -- one entry changed to what shows the same
@@ -356,7 +358,7 @@ call-sends limit hs ts a b own other bag openings trace id octets count sound op
     t.0 ∙ ap (λ i. let x : Account = record one { gave = one.gave ++ take i octets.items } in x) k.takes in
     (projects-socket limit hs ts a b own other bag openings trace (call.Send id octets) (reply.Sent count) id k.c (connection_calls.after_send k.c octets.items own.kept) k.l k.l (role_after_send own.kept octets.items) opposite k.found refl (keeps-event k.c (edge.Sends octets.items own.kept)) t.1
     (subst (λ x. EndGoes limit (end_with (Present k.c) one) (end_with (Present (connection_calls.after_send k.c octets.items own.kept)) x)) (sym same)
-    (λ there out arrived. moved limit (pairing (end_with (Present k.c) one) there out arrived) (pairing (end_with (Present (connection_calls.after_send k.c octets.items own.kept)) more) there out arrived) (takes (pairing (end_with (Present k.c) one) there out arrived) k.c octets.items own.kept refl solid.sound k.untold k.opened k.unclosed))) h)
+    (λ there out arrived. moved limit (pairing (end_with (Present k.c) one) there out arrived) (pairing (end_with (Present (connection_calls.after_send k.c octets.items own.kept)) more) there out arrived) (takes limit (pairing (end_with (Present k.c) one) there out arrived) k.c octets.items own.kept refl solid.sound k.untold k.opened k.unclosed))) h)
 
 pub call-receives : (limit : ℕ) (hs ts : Side) (a b : Addr) (own other : SocketsView) (bag : Bag) (openings : List Opening) (trace : List Happening) (id : SocketId) (len : ℕ) (octets : Vec ℕ) (m : ℕ) (c : View) (l : Option SocketId) → IsSoundTable own → ts ≡ other_side hs
     → find (is_socket id) own.entries ≡ Some (record { id = id; role = Connected c l }) → is_some c.pending_error ≡ false → is_opening c.state ≡ false → (m == 0) ≡ false → octets.items ≡ take (connection_calls.recv_count c m) c.receiving.readable
@@ -370,7 +372,7 @@ call-receives limit hs ts a b own other bag openings trace id len octets m c l s
     t.0 ∙ ap (λ i. let x : Account = record one { got = one.got ++ i } in x) are_first in
     (projects-socket limit hs ts a b own other bag openings trace (call.Recv id len) (reply.Octets octets) id c (connection_calls.after_recv c m) l l (received_role m) opposite found (received-connected c l m some) (keeps-event c (edge.Receives m)) t.1
     (subst (λ x. EndGoes limit (end_with (Present c) one) (end_with (Present (connection_calls.after_recv c m)) x)) (sym same)
-    (λ there out arrived. moved limit (pairing (end_with (Present c) one) there out arrived) (pairing (end_with (Present (connection_calls.after_recv c m)) more) there out arrived) (gives (pairing (end_with (Present c) one) there out arrived) c m refl solid.sound untold_yet (socket-kept own.entries id c l found) opened))) h)
+    (λ there out arrived. moved limit (pairing (end_with (Present c) one) there out arrived) (pairing (end_with (Present (connection_calls.after_recv c m)) more) there out arrived) (gives limit (pairing (end_with (Present c) one) there out arrived) c m refl solid.sound untold_yet (socket-kept own.entries id c l found) opened))) h)
 
 pub call-ends : (limit : ℕ) (hs ts : Side) (a b : Addr) (own other : SocketsView) (bag : Bag) (openings : List Opening) (trace : List Happening) (id : SocketId) (len m : ℕ) (c : View) (l : Option SocketId) → ts ≡ other_side hs
     → find (is_socket id) own.entries ≡ Some (record { id = id; role = Connected c l }) → (m == 0) ≡ false → connection_calls.recv_answer c m ≡ Ok received.EndOfStream
@@ -381,7 +383,7 @@ call-ends limit hs ts a b own other bag openings trace id len m c l opposite fou
     let still : connection_calls.after_recv c m ≡ c = end_told c m ended in
     (projects-socket limit hs ts a b own other bag openings trace (call.Recv id len) reply.EndOfStream id c c l l (received_role m) opposite found (received-connected c l m some ∙ ap (λ v. Connected v l) still) (keeps-nothing c) t.1
     (subst (λ x. EndGoes limit (end_with (Present c) one) (end_with (Present c) x)) (sym t.0)
-    (λ there out arrived. moved limit (pairing (end_with (Present c) one) there out arrived) (pairing (end_with (Present c) (record one { ended = true })) there out arrived) (ends (pairing (end_with (Present c) one) there out arrived) c m refl (socket-kept own.entries id c l found) ended))) h)
+    (λ there out arrived. moved limit (pairing (end_with (Present c) one) there out arrived) (pairing (end_with (Present c) (record one { ended = true })) there out arrived) (ends limit (pairing (end_with (Present c) one) there out arrived) c m refl (socket-kept own.entries id c l found) ended))) h)
 
 pub call-closes : (limit : ℕ) (hs ts : Side) (a b : Addr) (own other : SocketsView) (bag : Bag) (openings : List Opening) (trace : List Happening) (id : SocketId) → IsSoundTable own → ts ≡ other_side hs → shutdown_refusal own id ≡ None
     → Projects limit hs ts a b own other bag openings trace → Projects limit hs ts a b (after_shutdown own id) other bag openings (trace ++ answered hs (call.Shutdown id) reply.Done ∷ [])
@@ -392,4 +394,4 @@ call-closes limit hs ts a b own other bag openings trace id sound opposite accep
     let one = told hs trace id in
     (projects-socket limit hs ts a b own other bag openings trace (call.Shutdown id) reply.Done id k.c (connection_calls.after_shutdown k.c own.kept) k.l k.l (role_after_shutdown own.kept) opposite k.found (k.shuts own.kept) (keeps-shutdown k.c own.kept) t.1
     (subst (λ x. EndGoes limit (end_with (Present k.c) one) (end_with (Present (connection_calls.after_shutdown k.c own.kept)) x)) (sym t.0)
-    (λ there out arrived. moved limit (pairing (end_with (Present k.c) one) there out arrived) (pairing (end_with (Present (connection_calls.after_shutdown k.c own.kept)) (record one { closed = true })) there out arrived) (closes (pairing (end_with (Present k.c) one) there out arrived) k.c own.kept refl solid.sound k.opened))) h)
+    (λ there out arrived. moved limit (pairing (end_with (Present k.c) one) there out arrived) (pairing (end_with (Present (connection_calls.after_shutdown k.c own.kept)) (record one { closed = true })) there out arrived) (closes limit (pairing (end_with (Present k.c) one) there out arrived) k.c own.kept refl solid.sound k.opened))) h)

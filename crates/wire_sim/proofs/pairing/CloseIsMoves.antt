@@ -27,7 +27,9 @@ use Rattle.sockets.specs.SocketsView.{SocketsView}
 use Rattle.sockets.specs.GiveWay.{gives_way, after_giving_way}
 use Rattle.sockets.specs.Sound.{IsSoundTable}
 use Rattle.stream_law.specs.ChannelViews.{SameStream}
-use Rattle.stream_law.specs.Pairing.{Pairing, Present, Departed, Meets, closes, rests, stops, leaves}
+use Rattle.stream_law.specs.Pairing.{Pairing, Present, Departed}
+use Rattle.window_law.specs.Windows.{Talks}
+use Rattle.window_law.proofs.Quiet.{release_keeps, closes, rests, stops, leaves}
 use Rattle.stream_law.proofs.PairingEndings.{stops-left}
 use Rattle.sides.specs.Sides.{other_side}
 use Rattle.wire_sim.specs.Tallies.{is_opening_of, is_opening_at}
@@ -57,9 +59,9 @@ projects-unopened limit hs ts a b own own' other bag openings trace trace' id ad
       table = subst (λ n. IsTable hs a n own'.entries openings (told hs trace')) (sym last)
           (table-becomes hs a own.last_id own.entries own'.entries openings (told hs trace) (told hs trace') id None becomes (λ role is. let bad : None ≡ Some role = is in cc) same (λ unopened may. absurd (gone may)) h.own_table);
       other_told = theirs;
-      meets = λ pair epoch.
-          subst (λ e. Meets limit (pairing e (end_at ts openings other.entries (told ts trace) pair epoch) (bag.out pair epoch) (bag.arrived pair epoch)))
-          (sym (end-another hs openings id pair epoch own.entries own'.entries (told hs trace) (told hs trace') becomes.others same (elsewhere pair epoch))) (h.meets pair epoch);
+      talks = λ pair epoch.
+          subst (λ e. Talks limit (pairing e (end_at ts openings other.entries (told ts trace) pair epoch) (bag.out pair epoch) (bag.arrived pair epoch)))
+          (sym (end-another hs openings id pair epoch own.entries own'.entries (told hs trace) (told hs trace') becomes.others same (elsewhere pair epoch))) (h.talks pair epoch);
     })
   where
     gone : MayOpen own.last_id own'.entries id → ⊥
@@ -105,17 +107,17 @@ closing limit c l now t sound there out arrived = first (connection_calls.is_rem
     not_first true b e = cc
     not_first false b e = refl
 
-    second : connection_calls.is_removed_by_close c ≡ false → (b : Bool) → connection_calls.is_aborted_by_close c ≡ b → Meets limit was
-        → Meets limit (pairing (end_with (Present (if b then connection_calls.aborted_at c now else connection_calls.after_release c now)) t') there out arrived)
-    second stays true is met = moved limit was (pairing (end_with (Present (connection_calls.aborted_at c now)) t') there out arrived) (stops was c (connection_calls.aborted_at c now) true refl (stops-left c (connection_calls.aborted_at c now) refl refl) (λ e. refl)) met
+    second : connection_calls.is_removed_by_close c ≡ false → (b : Bool) → connection_calls.is_aborted_by_close c ≡ b → Talks limit was
+        → Talks limit (pairing (end_with (Present (if b then connection_calls.aborted_at c now else connection_calls.after_release c now)) t') there out arrived)
+    second stays true is met = moved limit was (pairing (end_with (Present (connection_calls.aborted_at c now)) t') there out arrived) (stops limit was c (connection_calls.aborted_at c now) true refl (stops-left c (connection_calls.aborted_at c now) refl refl) (λ e. refl)) met
     second stays false is met =
         let shut = pairing (end_with (Present (connection_calls.after_shutdown c now)) t') there out arrived in
-        moved limit shut (pairing (end_with (Present (connection_calls.after_release c now)) t') there out arrived) (rests shut (connection_calls.after_shutdown c now) (connection_calls.after_release c now) refl (same-released c now))
-        (moved limit was shut (closes was c now refl sound (opened c.state stays (not_first (is_syn_received c.state) (not (length c.receiving.readable == 0)) is))) met)
+        moved limit shut (pairing (end_with (Present (connection_calls.after_release c now)) t') there out arrived) (rests limit shut (connection_calls.after_shutdown c now) (connection_calls.after_release c now) refl (same-released c now) (release_keeps c now))
+        (moved limit was shut (closes limit was c now refl sound (opened c.state stays (not_first (is_syn_received c.state) (not (length c.receiving.readable == 0)) is))) met)
 
-    first : (b : Bool) → connection_calls.is_removed_by_close c ≡ b → Meets limit was
-        → Meets limit (pairing (end_with (presence_in (cond (is_kept (if b then Removed else Stays)) (Some (Connected (if b then c else (if connection_calls.is_aborted_by_close c then connection_calls.aborted_at c now else connection_calls.after_release c now)) l)) None)) t') there out arrived)
-    first true is met = moved limit was (pairing (end_with Departed t') there out arrived) (leaves was c true refl (λ e. refl)) met
+    first : (b : Bool) → connection_calls.is_removed_by_close c ≡ b → Talks limit was
+        → Talks limit (pairing (end_with (presence_in (cond (is_kept (if b then Removed else Stays)) (Some (Connected (if b then c else (if connection_calls.is_aborted_by_close c then connection_calls.aborted_at c now else connection_calls.after_release c now)) l)) None)) t') there out arrived)
+    first true is met = moved limit was (pairing (end_with Departed t') there out arrived) (leaves limit was c true refl (λ e. refl)) met
     first false is met = second is (connection_calls.is_aborted_by_close c) refl met
 
 -- What aborting makes of it.
@@ -125,9 +127,9 @@ aborting limit c l now t there out arrived met = by_state (is_closed c.state) me
     was : Pairing
     was = pairing (end_with (Present c) t) there out arrived
 
-    by_state : (b : Bool) → Meets limit was → Meets limit (pairing (end_with (presence_in (cond (is_kept (if b then Removed else Stays)) (Some (Connected (if b then c else connection_calls.aborted_at c now) l)) None)) t) there out arrived)
-    by_state true met = moved limit was (pairing (end_with Departed t) there out arrived) (leaves was c t.closed refl (λ e. e)) met
-    by_state false met = moved limit was (pairing (end_with (Present (connection_calls.aborted_at c now)) t) there out arrived) (stops was c (connection_calls.aborted_at c now) t.closed refl (stops-left c (connection_calls.aborted_at c now) refl refl) (λ e. e)) met
+    by_state : (b : Bool) → Talks limit was → Talks limit (pairing (end_with (presence_in (cond (is_kept (if b then Removed else Stays)) (Some (Connected (if b then c else connection_calls.aborted_at c now) l)) None)) t) there out arrived)
+    by_state true met = moved limit was (pairing (end_with Departed t) there out arrived) (leaves limit was c t.closed refl (λ e. e)) met
+    by_state false met = moved limit was (pairing (end_with (Present (connection_calls.aborted_at c now)) t) there out arrived) (stops limit was c (connection_calls.aborted_at c now) t.closed refl (stops-left c (connection_calls.aborted_at c now) refl refl) (λ e. e)) met
 
 -- What its caller's leaving makes of it.
 leaving : (limit : ℕ) (how : Leave) (c : View) (l : Option SocketId) (now : Moment) (t : Account) → IsSound c
@@ -143,20 +145,20 @@ leaving limit Abort c l now t sound =
     unsent sent there out arrived met =
         let was = pairing (end_with (Present c) t) there out arrived in
         let removed : connection_calls.is_removed_by_close c ≡ true = or_right (is_closed c.state) (is_syn_sent c.state) sent in
-        rw removed (moved limit was (pairing (end_with Departed t) there out arrived) (leaves was c t.closed refl (λ e. e)) met)
+        rw removed (moved limit was (pairing (end_with Departed t) there out arrived) (leaves limit was c t.closed refl (λ e. e)) met)
 
 -- What is made of a connection that waits at a listener which is left.
 forsaking : (limit : ℕ) (now : Moment) (id : SocketId) (t : Account) (r : Role) → EndGoes limit (end_with (presence_in (Some r)) t) (end_with (presence_in (settle (listener_close_fate_of id r) (role_after_listener_close now id) r)) t)
 forsaking limit now id t r there out arrived = waiting (waits_at id r)
   where
-    abort_of : (r : Role) → Meets limit (pairing (end_with (presence_in (Some r)) t) there out arrived) → Meets limit (pairing (end_with (presence_in (settle (abort_fate_of r) (role_after_abort now) r)) t) there out arrived)
+    abort_of : (r : Role) → Talks limit (pairing (end_with (presence_in (Some r)) t) there out arrived) → Talks limit (pairing (end_with (presence_in (settle (abort_fate_of r) (role_after_abort now) r)) t) there out arrived)
     abort_of (Connected c l) met = aborting limit c l now t there out arrived met
     abort_of (Listener b n) met = met
     abort_of (Idle b n) met = met
     abort_of (Datagrams b s) met = met
 
-    waiting : (b : Bool) → Meets limit (pairing (end_with (presence_in (Some r)) t) there out arrived)
-        → Meets limit (pairing (end_with (presence_in (settle (if b then abort_fate_of r else Stays) (λ q. if b then role_after_abort now q else q) r)) t) there out arrived)
+    waiting : (b : Bool) → Talks limit (pairing (end_with (presence_in (Some r)) t) there out arrived)
+        → Talks limit (pairing (end_with (presence_in (settle (if b then abort_fate_of r else Stays) (λ q. if b then role_after_abort now q else q) r)) t) there out arrived)
     waiting true met = abort_of r met
     waiting false met = met
 
@@ -242,7 +244,7 @@ call-leaves limit hs ts a b own other bag openings trace how id sound opposite a
 -- What gives way, if anything does, leaves its pairing.
 
 gone-connection : (limit : ℕ) (t : Account) (r : Role) → EndGoes limit (end_with (presence_in (Some r)) t) (end_with Departed t)
-gone-connection limit t (Connected c l) there out arrived = let was = pairing (end_with (Present c) t) there out arrived in moved limit was (pairing (end_with Departed t) there out arrived) (leaves was c t.closed refl (λ e. e))
+gone-connection limit t (Connected c l) there out arrived = let was = pairing (end_with (Present c) t) there out arrived in moved limit was (pairing (end_with Departed t) there out arrived) (leaves limit was c t.closed refl (λ e. e))
 gone-connection limit t (Listener local backlog) there out arrived = end-stays limit (end_with Departed t) (end_with Departed t) refl there out arrived
 gone-connection limit t (Idle buffers bound) there out arrived = end-stays limit (end_with Departed t) (end_with Departed t) refl there out arrived
 gone-connection limit t (Datagrams bound socket) there out arrived = end-stays limit (end_with Departed t) (end_with Departed t) refl there out arrived

@@ -24,11 +24,12 @@ use Rattle.sockets.specs.Lists.{change_first}
 use Rattle.wire_sim.specs.Fairness.{second_in}
 use Rattle.wire_sim.specs.Openings.{epoch_of, epoch_connected, opened_as, opened_by_connect}
 use Rattle.sockets.specs.Pairs.{socket_pair}
-use Rattle.stream_law.specs.Pairing.{Departed, Meets, connects, nothing_yet}
+use Rattle.stream_law.specs.Pairing.{Departed, nothing_yet}
+use Rattle.window_law.specs.Windows.{Talks, connects}
 use Rattle.wire_sim.specs.Tallies.{is_opening_at}
 use Rattle.wire_sim.specs.Trace.{sent_on}
 use Rattle.wire_sim.proofs.tables.CallsOnTable.{connects-on, socket_pair-connected, found-connecting}
-use Rattle.wire_sim.proofs.tables.EntryChanges.{meets-moved}
+use Rattle.wire_sim.proofs.tables.EntryChanges.{talks-moved}
 use Rattle.wire_sim.proofs.pairing.EndMoves.{pairing, end-stays}
 use Rattle.wire_sim.proofs.tables.EntryIsMade.{Makes, table-socket, free-later}
 use Rattle.wire_sim.proofs.openings.OpeningIsFound.{MayRise}
@@ -138,10 +139,10 @@ projects-joined limit hs ts a b own next other bag openings trace r addr last en
       table = subst (λ n. IsTable hs a n next.entries openings (told hs trace)) (sym last)
           (subst (λ xs. IsTable hs a (own.last_id + 1) xs openings (told hs trace)) (sym entries) (table-socket hs a own.last_id openings own.entries (told hs trace) id r refl (unseen id) h.own_table));
       other_told = λ i. refl;
-      meets = subst (λ xs. (pair : Pair) (epoch : ℕ) → Meets limit (pairing (end_at hs openings xs (told hs trace) pair epoch) (end_at ts openings other.entries (told ts trace) pair epoch) (bag.out pair epoch) (bag.arrived pair epoch))) (sym entries)
-          (meets-moved limit hs openings id own.entries ys (told hs trace) (told hs trace) (λ pair epoch. end_at ts openings other.entries (told ts trace) pair epoch) bag.out bag.arrived becomes.others (λ i apart. refl)
+      talks = subst (λ xs. (pair : Pair) (epoch : ℕ) → Talks limit (pairing (end_at hs openings xs (told hs trace) pair epoch) (end_at ts openings other.entries (told ts trace) pair epoch) (bag.out pair epoch) (bag.arrived pair epoch))) (sym entries)
+          (talks-moved limit hs openings id own.entries ys (told hs trace) (told hs trace) (λ pair epoch. end_at ts openings other.entries (told ts trace) pair epoch) bag.out bag.arrived becomes.others (λ i apart. refl)
           (end-stays limit (end_with (presence_in (role_at own.entries id.0)) (told hs trace id)) (end_with (presence_in (role_at ys id.0)) (told hs trace id))
-          (ap (λ r. end_with (presence_in r) (told hs trace id)) becomes.here ∙ (ap (λ p. end_with p (told hs trace id)) absent ∙ sym (ap (λ r. end_with (presence_in r) (told hs trace id)) was)))) h.meets);
+          (ap (λ r. end_with (presence_in r) (told hs trace id)) becomes.here ∙ (ap (λ p. end_with p (told hs trace id)) absent ∙ sym (ap (λ r. end_with (presence_in r) (told hs trace id)) was)))) h.talks);
     })
 
 -- a new socket of either kind joins the table

@@ -28,7 +28,9 @@ use Rattle.sockets.specs.Lists.{change_first, remove_first}
 use Rattle.sockets.specs.Sound.{IsSoundConnection, IsSoundRole, IsSoundTable}
 use Rattle.sockets.proofs.KeptEnds.{keeps-first}
 use Rattle.stream_law.specs.Channel.{IsAmong, here, there}
-use Rattle.stream_law.specs.Pairing.{End, Emission, Present, Departed, emits, leaves, Meets, here_moves}
+use Rattle.stream_law.specs.Pairing.{End, Emission, Present, Departed}
+use Rattle.window_law.specs.Windows.{sends, Talks, here_talks}
+use Rattle.window_law.proofs.Quiet.{leaves}
 use Rattle.stream_law.proofs.PairingEmission.{unclosed_goes}
 use Rattle.wire_sim.specs.Openings.{epoch_of}
 use Rattle.wire_sim.specs.Tallies.{is_opening_of, is_opening_at, same_pair}
@@ -126,13 +128,13 @@ projects-sent limit hs ts a b own other bag openings trace now what goes e c l d
     let own_told : length (written trace openings hs pair epoch) ≡ length account.gave = ap length (written-end hs trace openings own.entries pair epoch) ∙ ap (λ (v : End). length v.written) own_end in
     let other_told : length (written trace openings ts pair epoch) ≡ length there_end.written = ap length (written-end ts trace openings other.entries pair epoch) in
     let now_end : end_at hs openings ys (told hs trace) pair epoch ≡ end_with (Present w) account = end-its hs openings e.id pair epoch ys (told hs trace) o at its ∙ ap (λ r. end_with (presence_in r) account) becomes.here in
-    let first_meets : Meets limit (pairing (end_at hs openings ys (told hs trace) pair epoch) there_end (new ∷ bag.out pair epoch) (bag.arrived pair epoch)) =
-    subst (λ v. Meets limit (pairing v there_end (new ∷ bag.out pair epoch) (bag.arrived pair epoch))) (sym now_end)
-    (subst (λ x. Meets limit (pairing (end_with (Present w) account) there_end (x ∷ bag.out pair epoch) (bag.arrived pair epoch))) (sym (same_emission new.segment (length (written trace openings hs pair epoch)) (length account.gave) (length (written trace openings ts pair epoch)) (length there_end.written) own_told other_told))
-    (here_moves (pairing (end_with (Present c) account) there_end (bag.out pair epoch) (bag.arrived pair epoch))
+    let first_meets : Talks limit (pairing (end_at hs openings ys (told hs trace) pair epoch) there_end (new ∷ bag.out pair epoch) (bag.arrived pair epoch)) =
+    subst (λ v. Talks limit (pairing v there_end (new ∷ bag.out pair epoch) (bag.arrived pair epoch))) (sym now_end)
+    (subst (λ x. Talks limit (pairing (end_with (Present w) account) there_end (x ∷ bag.out pair epoch) (bag.arrived pair epoch))) (sym (same_emission new.segment (length (written trace openings hs pair epoch)) (length account.gave) (length (written trace openings ts pair epoch)) (length there_end.written) own_told other_told))
+    (here_talks (pairing (end_with (Present c) account) there_end (bag.out pair epoch) (bag.arrived pair epoch))
     (pairing (end_with (Present w) account) there_end (record { segment = new.segment; own_written = length account.gave; other_written = length there_end.written } ∷ bag.out pair epoch) (bag.arrived pair epoch))
-    (subst (λ v. Meets limit (pairing v there_end (bag.out pair epoch) (bag.arrived pair epoch))) own_end (h.meets pair epoch))
-    (emits (pairing (end_with (Present c) account) there_end (bag.out pair epoch) (bag.arrived pair epoch)) c due now refl solid.sound may unreset (due-width c due solid may)))) in
+    (subst (λ v. Talks limit (pairing v there_end (bag.out pair epoch) (bag.arrived pair epoch))) own_end (h.talks pair epoch))
+    (sends (pairing (end_with (Present c) account) there_end (bag.out pair epoch) (bag.arrived pair epoch)) c due now refl solid.sound m.first unreset (due-width c due solid may)))) in
     record {
       opposite = h.opposite;
       back = h.back;
@@ -146,16 +148,16 @@ projects-sent limit hs ts a b own other bag openings trace now what goes e c l d
           (λ role is. let same : Connected w l ≡ role = cc in (subst (λ r. IsNoted hs a openings e.id r) same (opened-kept hs a openings e.id c w (keeps-first c (Some due) now) k), h.own_table.bound e.id (Connected c l) before))
           (λ i apart. refl) (λ none may. h.own_table.silent e.id none (inr (Connected c l, before))) h.own_table;
       other_table = h.other_table;
-      meets = λ p i. by_test (is_at pair epoch p i)
+      talks = λ p i. by_test (is_at pair epoch p i)
           (λ is.
           let two = at-true pair epoch p i is in
-          subst (λ l. Meets limit (pairing (end_at hs openings ys (told hs trace) p i) (end_at ts openings other.entries (told ts trace) p i) l (bag.arrived p i))) (sym (ap (λ b. if b then new ∷ bag.out p i else bag.out p i) is))
-          (subst (λ j. Meets limit (pairing (end_at hs openings ys (told hs trace) p j) (end_at ts openings other.entries (told ts trace) p j) (new ∷ bag.out p j) (bag.arrived p j))) two.1
-          (subst (λ q. Meets limit (pairing (end_at hs openings ys (told hs trace) q epoch) (end_at ts openings other.entries (told ts trace) q epoch) (new ∷ bag.out q epoch) (bag.arrived q epoch))) two.0 first_meets)))
+          subst (λ l. Talks limit (pairing (end_at hs openings ys (told hs trace) p i) (end_at ts openings other.entries (told ts trace) p i) l (bag.arrived p i))) (sym (ap (λ b. if b then new ∷ bag.out p i else bag.out p i) is))
+          (subst (λ j. Talks limit (pairing (end_at hs openings ys (told hs trace) p j) (end_at ts openings other.entries (told ts trace) p j) (new ∷ bag.out p j) (bag.arrived p j))) two.1
+          (subst (λ q. Talks limit (pairing (end_at hs openings ys (told hs trace) q epoch) (end_at ts openings other.entries (told ts trace) q epoch) (new ∷ bag.out q epoch) (bag.arrived q epoch))) two.0 first_meets)))
           (λ is.
-          subst (λ l. Meets limit (pairing (end_at hs openings ys (told hs trace) p i) (end_at ts openings other.entries (told ts trace) p i) l (bag.arrived p i))) (sym (ap (λ b. if b then new ∷ bag.out p i else bag.out p i) is))
-          (subst (λ v. Meets limit (pairing v (end_at ts openings other.entries (told ts trace) p i) (bag.out p i) (bag.arrived p i)))
-          (sym (end-another hs openings e.id p i own.entries ys (told hs trace) (told hs trace) becomes.others (λ j apart. refl) (elsewhere o pair epoch p i e.id k.at k.pair one is))) (h.meets p i)));
+          subst (λ l. Talks limit (pairing (end_at hs openings ys (told hs trace) p i) (end_at ts openings other.entries (told ts trace) p i) l (bag.arrived p i))) (sym (ap (λ b. if b then new ∷ bag.out p i else bag.out p i) is))
+          (subst (λ v. Talks limit (pairing v (end_at ts openings other.entries (told ts trace) p i) (bag.out p i) (bag.arrived p i)))
+          (sym (end-another hs openings e.id p i own.entries ys (told hs trace) (told hs trace) becomes.others (λ j apart. refl) (elsewhere o pair epoch p i e.id k.at k.pair one is))) (h.talks p i)));
     }
   where
     same_emission : (s : Segment) (m m' n n' : ℕ) → m ≡ m' → n ≡ n' → ◌≡◌ {A = Emission} (record { segment = s; own_written = m; other_written = n }) (record { segment = s; own_written = m'; other_written = n' })
@@ -186,7 +188,7 @@ projects-reset limit hs ts a b own other bag openings trace goes e c l m h =
     projects-moved limit hs ts a b own next other bag openings trace trace e.id None refl refl (becomes-removed goes own.entries entry h.own_table.sole found)
     (λ role is. let bad : None ≡ Some role = is in cc) (λ i apart. refl) (λ none may. h.own_table.silent e.id none (inr (Connected c l, before))) (λ i. refl)
     (subst (λ r. EndGoes limit (end_with (presence_in r) account) (end_with Departed account)) (sym before)
-    (λ there out arrived. moved limit (pairing (end_with (Present c) account) there out arrived) (pairing (end_with Departed account) there out arrived) (leaves (pairing (end_with (Present c) account) there out arrived) c account.closed refl (λ e. e)))) h
+    (λ there out arrived. moved limit (pairing (end_with (Present c) account) there out arrived) (pairing (end_with Departed account) there out arrived) (leaves limit (pairing (end_with (Present c) account) there out arrived) c account.closed refl (λ e. e)))) h
 
 -- what is owed a reset is over once it went out
 over : (c : View) → IsSound c → c.owes_reset ≡ true → is_over (record c { owes_reset = false }) ≡ true

@@ -15,7 +15,9 @@ use Rattle.sockets.specs.Entries.{is_between, is_live_between, is_kept, role_aft
 use Rattle.sockets.specs.SocketsView.{SocketsView}
 use Rattle.sockets.specs.Unreachable as table_errors
 use Rattle.sockets.proofs.KeptEnds.{keeps-event}
-use Rattle.stream_law.specs.Pairing.{Pairing, Present, Departed, Meets, stops, leaves}
+use Rattle.stream_law.specs.Pairing.{Pairing, Present, Departed}
+use Rattle.window_law.specs.Windows.{Talks}
+use Rattle.window_law.proofs.Quiet.{stops, leaves}
 use Rattle.stream_law.proofs.PairingEndings.{stops-unreachable}
 use Rattle.sides.specs.declared.side.Side.{Side}
 use Rattle.wire_sim.specs.declared.event.Opening.{Opening}
@@ -34,12 +36,12 @@ errs limit number c l t there out arrived = by_fate (is_over (after_unreachable 
     was : Pairing
     was = pairing (end_with (Present c) t) there out arrived
 
-    by_number : (b : Bool) → is_unreachable c number ≡ b → Meets limit was → Meets limit (pairing (end_with (Present (after_unreachable c number)) t) there out arrived)
-    by_number true hit met = moved limit was (pairing (end_with (Present (after_unreachable c number)) t) there out arrived) (stops was c (after_unreachable c number) t.closed refl (stops-unreachable c number hit) (λ e. e)) met
-    by_number false miss met = let same : after_unreachable c number ≡ c = rw miss in subst (λ w. Meets limit (pairing (end_with (Present w) t) there out arrived)) (sym same) met
+    by_number : (b : Bool) → is_unreachable c number ≡ b → Talks limit was → Talks limit (pairing (end_with (Present (after_unreachable c number)) t) there out arrived)
+    by_number true hit met = moved limit was (pairing (end_with (Present (after_unreachable c number)) t) there out arrived) (stops limit was c (after_unreachable c number) t.closed refl (stops-unreachable c number hit) (λ e. e)) met
+    by_number false miss met = let same : after_unreachable c number ≡ c = rw miss in subst (λ w. Talks limit (pairing (end_with (Present w) t) there out arrived)) (sym same) met
 
-    by_fate : (b : Bool) → Meets limit was → Meets limit (pairing (end_with (presence_in (cond (is_kept (if b then Removed else Stays)) (Some (Connected (after_unreachable c number) l)) None)) t) there out arrived)
-    by_fate true met = moved limit was (pairing (end_with Departed t) there out arrived) (leaves was c t.closed refl (λ e. e)) met
+    by_fate : (b : Bool) → Talks limit was → Talks limit (pairing (end_with (presence_in (cond (is_kept (if b then Removed else Stays)) (Some (Connected (after_unreachable c number) l)) None)) t) there out arrived)
+    by_fate true met = moved limit was (pairing (end_with Departed t) there out arrived) (leaves limit was c t.closed refl (λ e. e)) met
     by_fate false met = by_number (is_unreachable c number) refl met
 
 -- Whatever the two ends and the number are that an error tells of.

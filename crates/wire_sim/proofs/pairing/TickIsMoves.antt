@@ -24,7 +24,9 @@ use Rattle.sockets.specs.Ticks as table_ticks
 use Rattle.sockets.specs.Lost.{is_given_up, is_hopless, loses_hop, give_up_fate_of, role_after_giving_up, after_giving_up}
 use Rattle.sockets.specs.SocketsView.{SocketsView, later_moment}
 use Rattle.stream_law.specs.ChannelViews.{Stops}
-use Rattle.stream_law.specs.Pairing.{Pairing, Present, Departed, Meets, rests, stops, leaves}
+use Rattle.stream_law.specs.Pairing.{Pairing, Present, Departed}
+use Rattle.window_law.specs.Windows.{Talks}
+use Rattle.window_law.proofs.Quiet.{tick_keeps, rests, stops, leaves}
 use Rattle.stream_law.proofs.Clock.{same-acted}
 use Rattle.stream_law.proofs.PairingEndings.{stops-at_end, stops-told}
 use Rattle.wire_sim.specs.Tallies.{is_opening_of}
@@ -59,7 +61,7 @@ projects-settled limit hs ts a b own own' other bag openings trace fate g addr l
         silent = λ id none may. h.own_table.silent id none (earlier id may);
       }));
       other_told = λ i. refl;
-      meets = λ pair epoch. by_found pair epoch (find (is_opening_of hs pair epoch) openings) refl;
+      talks = λ pair epoch. by_found pair epoch (find (is_opening_of hs pair epoch) openings) refl;
     })
   where
     before : (id : SocketId) (r : Role) → role_at (entries_after_steps fate g own.entries) id.0 ≡ Some r → (q : Role) × (role_at own.entries id.0 ≡ Some q) × (is_kept (fate q) ≡ true) × (g q ≡ r)
@@ -74,22 +76,22 @@ projects-settled limit hs ts a b own own' other bag openings trace fate g addr l
     each t (Some q) = goes t q
 
     by_found : (pair : Pair) (epoch : ℕ) (o : Option Opening) → find (is_opening_of hs pair epoch) openings ≡ o
-        → Meets limit (pairing (end_at hs openings own'.entries (told hs trace) pair epoch) (end_at ts openings other.entries (told ts trace) pair epoch) (bag.out pair epoch) (bag.arrived pair epoch))
+        → Talks limit (pairing (end_at hs openings own'.entries (told hs trace) pair epoch) (end_at ts openings other.entries (told ts trace) pair epoch) (bag.out pair epoch) (bag.arrived pair epoch))
     by_found pair epoch None at =
-        subst (λ e. Meets limit (pairing e (end_at ts openings other.entries (told ts trace) pair epoch) (bag.out pair epoch) (bag.arrived pair epoch)))
-        (ap (end_of own.entries (told hs trace)) at ∙ sym (ap (end_of own'.entries (told hs trace)) at)) (h.meets pair epoch)
+        subst (λ e. Talks limit (pairing e (end_at ts openings other.entries (told ts trace) pair epoch) (bag.out pair epoch) (bag.arrived pair epoch)))
+        (ap (end_of own.entries (told hs trace)) at ∙ sym (ap (end_of own'.entries (told hs trace)) at)) (h.talks pair epoch)
     by_found pair epoch (Some o) at =
         let there = end_at ts openings other.entries (told ts trace) pair epoch in
         let now : role_at own'.entries o.id.0 ≡ settle_each fate g (role_at own.entries o.id.0) = ap (λ xs. role_at xs o.id.0) becomes ∙ role_at-settled fate g own.entries o.id.0 (h.own_table.sole o.id.0) in
-        subst (λ e. Meets limit (pairing e there (bag.out pair epoch) (bag.arrived pair epoch))) (sym (ap (end_of own'.entries (told hs trace)) at ∙ ap (λ r. end_with (presence_in r) (told hs trace o.id)) now))
+        subst (λ e. Talks limit (pairing e there (bag.out pair epoch) (bag.arrived pair epoch))) (sym (ap (end_of own'.entries (told hs trace)) at ∙ ap (λ r. end_with (presence_in r) (told hs trace o.id)) now))
         (each (told hs trace o.id) (role_at own.entries o.id.0) there (bag.out pair epoch) (bag.arrived pair epoch)
-        (subst (λ e. Meets limit (pairing e there (bag.out pair epoch) (bag.arrived pair epoch))) (ap (end_of own.entries (told hs trace)) at) (h.meets pair epoch)))
+        (subst (λ e. Talks limit (pairing e there (bag.out pair epoch) (bag.arrived pair epoch))) (ap (end_of own.entries (told hs trace)) at) (h.talks pair epoch)))
 
 -- what is over is taken out or stays
 over_goes : (limit : ℕ) (t : Account) (c w : View) (l : Option SocketId) → Stops c w → (out_of_table : Bool)
     → EndGoes limit (end_with (Present c) t) (end_with (presence_in (cond (is_kept (if out_of_table then Removed else Stays)) (Some (Connected w l)) None)) t)
-over_goes limit t c w l over true there out arrived = let was = pairing (end_with (Present c) t) there out arrived in moved limit was (pairing (end_with Departed t) there out arrived) (leaves was c t.closed refl (λ e. e))
-over_goes limit t c w l over false there out arrived = let was = pairing (end_with (Present c) t) there out arrived in moved limit was (pairing (end_with (Present w) t) there out arrived) (stops was c w t.closed refl over (λ e. e))
+over_goes limit t c w l over true there out arrived = let was = pairing (end_with (Present c) t) there out arrived in moved limit was (pairing (end_with Departed t) there out arrived) (leaves limit was c t.closed refl (λ e. e))
+over_goes limit t c w l over false there out arrived = let was = pairing (end_with (Present c) t) there out arrived in moved limit was (pairing (end_with (Present w) t) there out arrived) (stops limit was c w t.closed refl over (λ e. e))
 
 -- what a tick makes of one end
 role_goes : (limit : ℕ) (now : Moment) (t : Account) (r : Role) → EndGoes limit (end_with (presence_in (Some r)) t) (end_with (presence_in (settle (tick_fate_of now r) (role_after_tick now) r)) t)
@@ -98,8 +100,8 @@ role_goes limit now t (Connected c l) there out arrived = by_end (is_at_end c no
     was : Pairing
     was = pairing (end_with (Present c) t) there out arrived
 
-    ending : (w : View) → Stops c w → (out_of_table : Bool) → Meets limit was
-        → Meets limit (pairing (end_with (presence_in (cond (is_kept (if out_of_table then Removed else Stays)) (Some (Connected w l)) None)) t) there out arrived)
+    ending : (w : View) → Stops c w → (out_of_table : Bool) → Talks limit was
+        → Talks limit (pairing (end_with (presence_in (cond (is_kept (if out_of_table then Removed else Stays)) (Some (Connected w l)) None)) t) there out arrived)
     ending w over gone = over_goes limit t c w l over gone there out arrived
 
     given_up : View
@@ -109,13 +111,13 @@ role_goes limit now t (Connected c l) there out arrived = by_end (is_at_end c no
     waiting : (come : Bool) → View
     waiting come = if come then clocked false (after_timers (after_silence c now) now) now else after_silence c now
 
-    by_expiry : (gone come : Bool) → Meets limit was
-        → Meets limit (pairing (end_with (presence_in (cond (is_kept (if gone then (if c.released || (c.passive && is_syn_received c.state) then Removed else Stays) else Stays)) (Some (Connected (if gone then given_up else waiting come) l)) None)) t) there out arrived)
+    by_expiry : (gone come : Bool) → Talks limit was
+        → Talks limit (pairing (end_with (presence_in (cond (is_kept (if gone then (if c.released || (c.passive && is_syn_received c.state) then Removed else Stays) else Stays)) (Some (Connected (if gone then given_up else waiting come) l)) None)) t) there out arrived)
     by_expiry true come = ending given_up (stops-told c given_up refl refl) (c.released || (c.passive && is_syn_received c.state))
-    by_expiry false come = moved limit was (pairing (end_with (Present (waiting come)) t) there out arrived) (rests was c (waiting come) refl (same-acted c come now))
+    by_expiry false come = moved limit was (pairing (end_with (Present (waiting come)) t) there out arrived) (rests limit was c (waiting come) refl (same-acted c come now) (tick_keeps c come now))
 
-    by_end : (over come : Bool) → is_at_end c now ≡ over → Meets limit was
-        → Meets limit (pairing (end_with (presence_in (cond
+    by_end : (over come : Bool) → is_at_end c now ≡ over → Talks limit was
+        → Talks limit (pairing (end_with (presence_in (cond
         (is_kept (if over then (if c.released then Removed else Stays) else if gives_up c now then (if c.released || (c.passive && is_syn_received c.state) then Removed else Stays) else Stays))
         (Some (Connected (if over then after_stop c else if gives_up c now then given_up else waiting come) l)) None)) t) there out arrived)
     by_end true come is = ending (after_stop c) (stops-at_end c now is) c.released
@@ -141,7 +143,7 @@ projects-ticked limit hs ts a b own other bag openings trace moment h =
 -- a connection that is gone, or none
 leaves_end : (limit : ℕ) (t : Account) (r : Role) → EndGoes limit (end_with (presence_in (Some r)) t) (end_with Departed t)
 leaves_end limit t (Connected c l) there out arrived =
-    moved limit (pairing (end_with (Present c) t) there out arrived) (pairing (end_with Departed t) there out arrived) (leaves (pairing (end_with (Present c) t) there out arrived) c t.closed refl (λ e. e))
+    moved limit (pairing (end_with (Present c) t) there out arrived) (pairing (end_with Departed t) there out arrived) (leaves limit (pairing (end_with (Present c) t) there out arrived) c t.closed refl (λ e. e))
 leaves_end limit t (Listener b n) there out arrived = end-stays limit (end_with Departed t) (end_with Departed t) refl there out arrived
 leaves_end limit t (Idle b n) there out arrived = end-stays limit (end_with Departed t) (end_with Departed t) refl there out arrived
 leaves_end limit t (Datagrams b n) there out arrived = end-stays limit (end_with Departed t) (end_with Departed t) refl there out arrived

@@ -15,7 +15,9 @@ use Rattle.sockets.specs.Entries.{is_socket, on_connection, with_role}
 use Rattle.sockets.specs.SocketsView.{SocketsView, with_socket}
 use Rattle.sockets.proofs.KeptEnds.{KeepsEnds, keeps-event}
 use Rattle.stream_law.specs.ChannelViews.{SameStream}
-use Rattle.stream_law.specs.Pairing.{Present, rests}
+use Rattle.stream_law.specs.Pairing.{Present}
+use Rattle.window_law.specs.Windows.{KeepsWindows}
+use Rattle.window_law.proofs.Quiet.{unmoved, rests}
 use Rattle.stream_law.proofs.Clock.{same-clocked}
 use Rattle.sides.specs.declared.side.Side.{Side}
 use Rattle.wire_sim.specs.declared.event.Opening.{Opening}
@@ -27,15 +29,16 @@ use Rattle.wire_sim.proofs.pairing.CallsAreMoves.{projects-moved, projects-quiet
 use Rattle.wire_sim.proofs.pairing.EndMoves.{pairing, EndGoes, moved}
 use Rattle.wire_sim.proofs.pairing.WorldAsPairings.{told, Bag, Projects}
 
--- The streams don't know of a wish, and the ends stay.
+-- The streams and the windows don't know of a wish, and the ends stay.
 record IsWish (wish : View → View) : Type 0 where
   same : (c : View) → SameStream c (wish c)
+  windows : (c : View) → KeepsWindows c (wish c)
   ends : (c : View) → KeepsEnds c (wish c)
 
 wishes : (limit : ℕ) (wish : View → View) → IsWish wish → (c : View) (t : Account) → EndGoes limit (end_with (Present c) t) (end_with (Present (wish c)) t)
 wishes limit wish is c t there out arrived =
     let was = pairing (end_with (Present c) t) there out arrived in
-    moved limit was (pairing (end_with (Present (wish c)) t) there out arrived) (rests was c (wish c) refl (is.same c))
+    moved limit was (pairing (end_with (Present (wish c)) t) there out arrived) (rests limit was c (wish c) refl (is.same c) (is.windows c))
 
 projects-wished : (limit : ℕ) (hs ts : Side) (a b : Addr) (own other : SocketsView) (bag : Bag) (openings : List Opening) (trace : List Happening) (id : SocketId) (wish : View → View) → IsWish wish
     → Projects limit hs ts a b own other bag openings trace → Projects limit hs ts a b (with_socket own id (on_connection wish)) other bag openings trace
@@ -80,6 +83,7 @@ pub projects-delayed : (limit : ℕ) (hs ts : Side) (a b : Addr) (own other : So
     → Projects limit hs ts a b own other bag openings trace → Projects limit hs ts a b (after_nodelay own id on) other bag openings trace
 projects-delayed limit hs ts a b own other bag openings trace id on h = projects-wished limit hs ts a b own other bag openings trace id (λ c. after_set_nodelay c on own.kept) (record {
   same = λ c. same-clocked c (told_nodelay c on) false own.kept (record { state = refl; held = refl; una = refl; nxt = refl; readable = refl; kept = refl; rnext = refl; pending_error = refl; released = λ e. e });
+  windows = λ c. unmoved c (after_set_nodelay c on own.kept) refl refl refl refl;
   ends = λ c. keeps-event c (edge.SetsNoDelay on own.kept);
 }) h
 
@@ -87,5 +91,6 @@ pub projects-asked : (limit : ℕ) (hs ts : Side) (a b : Addr) (own other : Sock
     → Projects limit hs ts a b own other bag openings trace → Projects limit hs ts a b (after_keepalive own id every) other bag openings trace
 projects-asked limit hs ts a b own other bag openings trace id every h = projects-wished limit hs ts a b own other bag openings trace id (λ c. after_set_keepalive c every own.kept) (record {
   same = λ c. record { state = refl; held = refl; una = refl; nxt = refl; readable = refl; kept = refl; rnext = refl; pending_error = refl; released = λ e. e };
+  windows = λ c. unmoved c (after_set_keepalive c every own.kept) refl refl refl refl;
   ends = λ c. keeps-event c (edge.SetsKeepAlive every own.kept);
 }) h

@@ -8,7 +8,8 @@ use Rattle.wire_sim.specs.declared.event.Opening.{Opening}
 use Rattle.wire_sim.specs.declared.event.Happening.{Happening}
 use Rattle.ipv4.specs.Addresses.{same_addr}
 use Rattle.sockets.specs.SocketsView.{SocketsView}
-use Rattle.stream_law.specs.Pairing.{Emission, Pairing, Meets, begins, here_moves, there_moves, from_other}
+use Rattle.stream_law.specs.Pairing.{Emission, Pairing, from_other}
+use Rattle.window_law.specs.Windows.{Talks, begins, here_talks, there_talks}
 use Rattle.sides.specs.Sides.{other_side}
 use Rattle.wire_sim.specs.Trace.{sent_on, closed_on, read_on, ended_on}
 use Rattle.wire_sim.proofs.tables.EntryChanges.{SameTold, table-told, end-told}
@@ -44,14 +45,14 @@ pub record Projects (limit : ℕ) (here there : Side) (a b : Addr) (own other : 
   pub ledger : IsLedger openings
   pub own_table : IsTable here a own.last_id own.entries openings (told here trace)
   pub other_table : IsTable there b other.last_id other.entries openings (told there trace)
-  pub meets : (pair : Pair) (epoch : ℕ)
-      → Meets limit (pairing (end_at here openings own.entries (told here trace) pair epoch) (end_at there openings other.entries (told there trace) pair epoch) (bag.out pair epoch) (bag.arrived pair epoch))
+  pub talks : (pair : Pair) (epoch : ℕ)
+      → Talks limit (pairing (end_at here openings own.entries (told here trace) pair epoch) (end_at there openings other.entries (told there trace) pair epoch) (bag.out pair epoch) (bag.arrived pair epoch))
 
 -- a run as the other end sees it
-pub meets-swapped : (limit : ℕ) (p : Pairing) → Meets limit p → Meets limit (from_other p)
-meets-swapped limit _ begins = begins
-meets-swapped limit _ (here_moves p q met move) = there_moves (from_other p) q (meets-swapped limit p met) move
-meets-swapped limit _ (there_moves p q met move) = here_moves (from_other p) q (meets-swapped limit p met) move
+pub talks-swapped : (limit : ℕ) (p : Pairing) → Talks limit p → Talks limit (from_other p)
+talks-swapped limit _ begins = begins
+talks-swapped limit _ (here_talks p q met move) = there_talks (from_other p) q (talks-swapped limit p met) move
+talks-swapped limit _ (there_talks p q met move) = here_talks (from_other p) q (talks-swapped limit p met) move
 
 pub projects-swapped : (limit : ℕ) (here there : Side) (a b : Addr) (own other : SocketsView) (bag : Bag) (openings : List Opening) (trace : List Happening)
     → Projects limit here there a b own other bag openings trace → Projects limit there here b a other own (turned bag) openings trace
@@ -66,8 +67,8 @@ projects-swapped limit here there a b own other bag openings trace h = record {
   ledger = h.ledger;
   own_table = h.other_table;
   other_table = h.own_table;
-  meets = λ pair epoch.
-      meets-swapped limit (pairing (end_at here openings own.entries (told here trace) pair epoch) (end_at there openings other.entries (told there trace) pair epoch) (bag.out pair epoch) (bag.arrived pair epoch)) (h.meets pair epoch);
+  talks = λ pair epoch.
+      talks-swapped limit (pairing (end_at here openings own.entries (told here trace) pair epoch) (end_at there openings other.entries (told there trace) pair epoch) (bag.out pair epoch) (bag.arrived pair epoch)) (h.talks pair epoch);
 }
 
 -- What a step of our table must show, where it opens no pair and nothing goes out.
@@ -75,8 +76,8 @@ pub record Turns (limit : ℕ) (here there : Side) (a b : Addr) (own own' other 
   pub addr : own'.addr ≡ own.addr
   pub table : IsTable here a own'.last_id own'.entries openings (told here trace')
   pub other_told : SameTold (told there trace) (told there trace')
-  pub meets : (pair : Pair) (epoch : ℕ)
-      → Meets limit (pairing (end_at here openings own'.entries (told here trace') pair epoch) (end_at there openings other.entries (told there trace) pair epoch) (bag.out pair epoch) (bag.arrived pair epoch))
+  pub talks : (pair : Pair) (epoch : ℕ)
+      → Talks limit (pairing (end_at here openings own'.entries (told here trace') pair epoch) (end_at there openings other.entries (told there trace) pair epoch) (bag.out pair epoch) (bag.arrived pair epoch))
 
 pub projects-turned : (limit : ℕ) (here there : Side) (a b : Addr) (own own' other : SocketsView) (bag : Bag) (openings : List Opening) (trace trace' : List Happening)
     → Projects limit here there a b own other bag openings trace → Turns limit here there a b own own' other bag openings trace trace'
@@ -92,9 +93,9 @@ projects-turned limit here there a b own own' other bag openings trace trace' h 
   ledger = h.ledger;
   own_table = t.table;
   other_table = table-told there b other.last_id other.entries openings (told there trace) (told there trace') t.other_told h.other_table;
-  meets = λ pair epoch.
-      subst (λ e. Meets limit (pairing (end_at here openings own'.entries (told here trace') pair epoch) e (bag.out pair epoch) (bag.arrived pair epoch)))
-      (sym (end-told there openings other.entries (told there trace) (told there trace') pair epoch t.other_told)) (t.meets pair epoch);
+  talks = λ pair epoch.
+      subst (λ e. Talks limit (pairing (end_at here openings own'.entries (told here trace') pair epoch) e (bag.out pair epoch) (bag.arrived pair epoch)))
+      (sym (end-told there openings other.entries (told there trace) (told there trace') pair epoch t.other_told)) (t.talks pair epoch);
 }
 
 -- What a step of our table must show that opens one pair.
@@ -103,8 +104,8 @@ pub record OpensPair (limit : ℕ) (here there : Side) (a b : Addr) (own own' ot
   pub ledger : IsLedger (openings ++ o ∷ [])
   pub table : IsTable here a own'.last_id own'.entries (openings ++ o ∷ []) (told here trace)
   pub other_table : IsTable there b other.last_id other.entries (openings ++ o ∷ []) (told there trace)
-  pub meets : (pair : Pair) (epoch : ℕ)
-      → Meets limit (pairing (end_at here (openings ++ o ∷ []) own'.entries (told here trace) pair epoch) (end_at there (openings ++ o ∷ []) other.entries (told there trace) pair epoch) (bag.out pair epoch) (bag.arrived pair epoch))
+  pub talks : (pair : Pair) (epoch : ℕ)
+      → Talks limit (pairing (end_at here (openings ++ o ∷ []) own'.entries (told here trace) pair epoch) (end_at there (openings ++ o ∷ []) other.entries (told there trace) pair epoch) (bag.out pair epoch) (bag.arrived pair epoch))
 
 pub projects-opened : (limit : ℕ) (here there : Side) (a b : Addr) (own own' other : SocketsView) (bag : Bag) (openings : List Opening) (o : Opening) (trace : List Happening)
     → Projects limit here there a b own other bag openings trace → OpensPair limit here there a b own own' other bag openings o trace
@@ -120,5 +121,5 @@ projects-opened limit here there a b own own' other bag openings o trace h t = r
   ledger = t.ledger;
   own_table = t.table;
   other_table = t.other_table;
-  meets = t.meets;
+  talks = t.talks;
 }

@@ -19,7 +19,9 @@ use Rattle.sockets.specs.Entries.{is_socket}
 use Rattle.sockets.specs.SocketsView.{role_of}
 use Rattle.stream_law.specs.Channel.{Channel, Sending, Receiving, Waiting, Synchronised, number_of}
 use Rattle.stream_law.specs.ChannelViews.{SendsInto, sender_of, receiver_of}
-use Rattle.stream_law.specs.Pairing.{Emission, Meets, Present}
+use Rattle.stream_law.specs.Pairing.{Emission, Present}
+use Rattle.window_law.specs.Windows.{Talks}
+use Rattle.window_law.proofs.Run.{meets as talks_meet}
 use Rattle.stream_law.proofs.ChannelLaw.{holds}
 use Rattle.stream_law.proofs.Invariant.{Holds, SenderFits, SendingFits, ReceiverFits, ReceivingFits}
 use Rattle.stream_law.proofs.PairingInvariant.{Connected as Attached, Shown, open_tells}
@@ -50,10 +52,10 @@ socket-entry : (xs : List Entry) (id : SocketId) (r : Role) (o : Option Entry) �
 socket-entry xs id r None at is = cc
 socket-entry xs id r (Some e) at is = let role : e.role ≡ r = cc in found_socket xs id e r at role
 
--- of the pair of its ends, in the pair's present epoch, it is the end at its side
-stands : (limit : ℕ) (hs ts : Side) (n : NetworkView) (trace : List Happening) → IsOrderly limit hs ts n trace → (id : SocketId) (c : View) → role_of (table_of n hs) id ≡ Some (Connected c None) → is_closed c.state ≡ false
-    → (pair : Pair) → pair_of c.local c.peer ≡ pair → (let h = table_of n hs in end_at hs n.openings h.entries (told hs trace) pair (epoch_of n.openings pair)) ≡ end_with (Present c) (told hs trace id)
-stands limit hs ts n trace w id c named lives pair ends =
+-- of the pair of its ends, in the pair's present epoch, a connection is the end at its side
+pub stands_at : (limit : ℕ) (hs ts : Side) (n : NetworkView) (trace : List Happening) → IsOrderly limit hs ts n trace → (id : SocketId) (c : View) (l : Option SocketId) → (let h = table_of n hs in role_at h.entries id.0) ≡ Some (Connected c l)
+    → is_closed c.state ≡ false → (pair : Pair) → pair_of c.local c.peer ≡ pair → (let h = table_of n hs in end_at hs n.openings h.entries (told hs trace) pair (epoch_of n.openings pair)) ≡ end_with (Present c) (told hs trace id)
+stands_at limit hs ts n trace w id c l here lives pair ends =
     ap (end_of xs (told hs trace)) (ap (λ (p : Pair). find (is_opening_of hs p (epoch_of os p)) os) (sym same) ∙ ap (λ (e : ℕ). find (is_opening_of hs o.pair e) os) (sym (opened.present lives)) ∙ both-ways hs os id o w.projects.ledger opened.at)
     ∙ (ap (λ (i : SocketId). end_with (presence_in (role_at xs i.0)) (told hs trace i)) its ∙ ap (λ (r : Option Role). end_with (presence_in r) (told hs trace id)) here)
   where
@@ -63,11 +65,8 @@ stands limit hs ts n trace w id c named lives pair ends =
     os : List Opening
     os = n.openings
 
-    here : role_at xs id.0 ≡ Some (Connected c None)
-    here = found-role (is_socket id) xs (record { id = id; role = Connected c None }) w.projects.own_table.sole (socket-entry xs id (Connected c None) (find (is_socket id) xs) refl named)
-
     opened : IsOpened hs w.a os id c
-    opened = w.projects.own_table.noted id (Connected c None) here
+    opened = w.projects.own_table.noted id (Connected c l) here
 
     o : Opening
     o = opened.opening
@@ -77,6 +76,12 @@ stands limit hs ts n trace w id c named lives pair ends =
 
     its : o.id ≡ id
     its = same_id o.id id (and_parts (same_side o.side hs) (o.id.0 == id.0) (find-passes (is_opening_at hs id) os o opened.at)).1
+
+stands : (limit : ℕ) (hs ts : Side) (n : NetworkView) (trace : List Happening) → IsOrderly limit hs ts n trace → (id : SocketId) (c : View) → role_of (table_of n hs) id ≡ Some (Connected c None) → is_closed c.state ≡ false
+    → (pair : Pair) → pair_of c.local c.peer ≡ pair → (let h = table_of n hs in end_at hs n.openings h.entries (told hs trace) pair (epoch_of n.openings pair)) ≡ end_with (Present c) (told hs trace id)
+stands limit hs ts n trace w id c named lives pair ends =
+    let xs : List Entry = (let h = table_of n hs in h.entries) in
+    stands_at limit hs ts n trace w id c None (found-role (is_socket id) xs (record { id = id; role = Connected c None }) w.projects.own_table.sole (socket-entry xs id (Connected c None) (find (is_socket id) xs) refl named)) lives pair ends
 
 -- its own address is that of its host's table
 pub own-end : (limit : ℕ) (hs ts : Side) (n : NetworkView) (trace : List Happening) → IsOrderly limit hs ts n trace → (id : SocketId) (c : View) → role_of (table_of n hs) id ≡ Some (Connected c None) → c.local.addr ≡ (let h = table_of n hs in h.addr)
@@ -220,14 +225,14 @@ module _ (limit : ℕ) (v d : View) (sends : Sends v.state) (receives : Receives
       arrived : List Emission
       arrived = w.bag.arrived pair epoch
 
-      met : Meets limit (pairing (end_with (Present v) (told hs trace writer_id)) (end_with (Present d) (told ts trace reader_id)) out arrived)
+      met : Talks limit (pairing (end_with (Present v) (told hs trace writer_id)) (end_with (Present d) (told ts trace reader_id)) out arrived)
       met =
-          subst (λ e. Meets limit (pairing e (end_with (Present d) (told ts trace reader_id)) out arrived)) (stands limit hs ts n trace w writer_id v writer lives_v pair refl)
-          (subst (λ e. Meets limit (pairing (let t = table_of n hs in end_at hs n.openings t.entries (told hs trace) pair epoch) e out arrived)) (stands limit ts hs n trace back reader_id d reader lives_d pair ends)
-          (w.projects.meets pair epoch))
+          subst (λ e. Talks limit (pairing e (end_with (Present d) (told ts trace reader_id)) out arrived)) (stands limit hs ts n trace w writer_id v writer lives_v pair refl)
+          (subst (λ e. Talks limit (pairing (let t = table_of n hs in end_at hs n.openings t.entries (told hs trace) pair epoch) e out arrived)) (stands limit ts hs n trace back reader_id d reader lives_d pair ends)
+          (w.projects.talks pair epoch))
 
       h : Shown most_held limit (pairing (end_with (Present v) (told hs trace writer_id)) (end_with (Present d) (told ts trace reader_id)) out arrived)
-      h = shown limit _ met
+      h = shown limit _ (talks_meet limit _ met)
 
       own : Attached v h.into h.from
       own = h.own.connection

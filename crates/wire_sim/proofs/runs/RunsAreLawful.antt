@@ -33,7 +33,9 @@ use Rattle.host.specs.ConfigView.{ConfigView}
 use Rattle.host.specs.HostView.{HostView}
 use Rattle.host.specs.Ticks as host_ticks
 use Rattle.host.specs.Emission as host_emission
-use Rattle.stream_law.specs.Pairing.{IsStream, begins}
+use Rattle.stream_law.specs.Pairing.{IsStream}
+use Rattle.window_law.specs.Windows.{begins}
+use Rattle.window_law.proofs.Run.{meets}
 use Rattle.wire_sim.specs.Runs.{IsNumbered, IsStep, IsReached}
 use Rattle.host.specs.Sound.{IsSoundHost}
 use Rattle.wire_sim.specs.Runs as runs
@@ -333,7 +335,7 @@ orderly-fresh limit a b apart small = record {
     ledger = record { by_id = λ side id. tt; by_epoch = λ side pair epoch. tt; past = λ side pair epoch later. refl };
     own_table = record { sole = λ i. tt; bound = λ id r at. absurd (nothing r at); noted = λ id r at. absurd (nothing r at); later = λ id above. refl; silent = λ id none may. refl };
     other_table = record { sole = λ i. tt; bound = λ id r at. absurd (nothing r at); noted = λ id r at. absurd (nothing r at); later = λ id above. refl; silent = λ id none may. refl };
-    meets = λ pair epoch. begins;
+    talks = λ pair epoch. begins;
   };
   carried = tt;
 }
@@ -397,7 +399,7 @@ run_lawful limit w reached = of_writer
         × IsStream (end_at B w.network.openings w.network.b.host.sockets.entries (told B w.trace) pair epoch) (end_at A w.network.openings w.network.a.host.sockets.entries (told A w.trace) pair epoch)
     both pair epoch =
         let p = o.projects in
-        pairing_lawful limit p.small (pairing (end_at A w.network.openings w.network.a.host.sockets.entries (told A w.trace) pair epoch) (end_at B w.network.openings w.network.b.host.sockets.entries (told B w.trace) pair epoch) (o.bag.out pair epoch) (o.bag.arrived pair epoch)) (p.meets pair epoch)
+        pairing_lawful limit p.small (pairing (end_at A w.network.openings w.network.a.host.sockets.entries (told A w.trace) pair epoch) (end_at B w.network.openings w.network.b.host.sockets.entries (told B w.trace) pair epoch) (o.bag.out pair epoch) (o.bag.arrived pair epoch)) (meets limit _ (p.talks pair epoch))
 
     of_writer : StreamLaw w.trace w.network.openings
     of_writer A pair epoch = let k = keeps B A w.trace w.network.openings w.network.b.host.sockets.entries w.network.a.host.sockets.entries pair epoch (both pair epoch).1 in record { begins = k.begins; end = k.end }

@@ -9,7 +9,8 @@ use Rattle.tcp_state.specs.View.{View}
 use Rattle.sockets.specs.declared.entry.SocketId.{SocketId}
 use Rattle.sockets.specs.declared.entry.Entry.{Entry}
 use Rattle.sockets.specs.declared.role.Role.{Role}
-use Rattle.stream_law.specs.Pairing.{End, Emission, Meets}
+use Rattle.stream_law.specs.Pairing.{End, Emission}
+use Rattle.window_law.specs.Windows.{Talks}
 use Rattle.sides.specs.declared.side.Side.{Side}
 use Rattle.wire_sim.specs.declared.event.Opening.{Opening}
 use Rattle.wire_sim.specs.Tallies.{is_opening_of, is_opening_at}
@@ -64,19 +65,19 @@ end-another side os id pair epoch xs ys told told' others same apart = by_found 
         ap (λ r. end_with (presence_in r) (told' o.id)) (others o.id.0 (apart o at)) ∙ ap (end_with (presence_in (role_at xs o.id.0))) (same o.id (apart o at))
 
 -- A move of one end is a move of the one pairing that it belongs to, or of none.
-pub meets-moved : (limit : ℕ) (side : Side) (os : List Opening) (id : SocketId) (xs ys : List Entry) (told told' : Told) (other : Pair → ℕ → End) (out arrived : Pair → ℕ → List Emission) → OthersStay id xs ys → SameBut id told told'
+pub talks-moved : (limit : ℕ) (side : Side) (os : List Opening) (id : SocketId) (xs ys : List Entry) (told told' : Told) (other : Pair → ℕ → End) (out arrived : Pair → ℕ → List Emission) → OthersStay id xs ys → SameBut id told told'
     → EndGoes limit (end_with (presence_in (role_at xs id.0)) (told id)) (end_with (presence_in (role_at ys id.0)) (told' id))
-    → ((pair : Pair) (epoch : ℕ) → Meets limit (pairing (end_at side os xs told pair epoch) (other pair epoch) (out pair epoch) (arrived pair epoch)))
-    → (pair : Pair) (epoch : ℕ) → Meets limit (pairing (end_at side os ys told' pair epoch) (other pair epoch) (out pair epoch) (arrived pair epoch))
-meets-moved limit side os id xs ys told told' other out arrived others same goes met pair epoch = of (whose side os id pair epoch)
+    → ((pair : Pair) (epoch : ℕ) → Talks limit (pairing (end_at side os xs told pair epoch) (other pair epoch) (out pair epoch) (arrived pair epoch)))
+    → (pair : Pair) (epoch : ℕ) → Talks limit (pairing (end_at side os ys told' pair epoch) (other pair epoch) (out pair epoch) (arrived pair epoch))
+talks-moved limit side os id xs ys told told' other out arrived others same goes met pair epoch = of (whose side os id pair epoch)
   where
-    of : Whose side os id pair epoch → Meets limit (pairing (end_at side os ys told' pair epoch) (other pair epoch) (out pair epoch) (arrived pair epoch))
+    of : Whose side os id pair epoch → Talks limit (pairing (end_at side os ys told' pair epoch) (other pair epoch) (out pair epoch) (arrived pair epoch))
     of (Its o found is) =
-        subst (λ e. Meets limit (pairing e (other pair epoch) (out pair epoch) (arrived pair epoch))) (sym (end-its side os id pair epoch ys told' o found is))
+        subst (λ e. Talks limit (pairing e (other pair epoch) (out pair epoch) (arrived pair epoch))) (sym (end-its side os id pair epoch ys told' o found is))
         (goes (other pair epoch) (out pair epoch) (arrived pair epoch)
-        (subst (λ e. Meets limit (pairing e (other pair epoch) (out pair epoch) (arrived pair epoch))) (end-its side os id pair epoch xs told o found is) (met pair epoch)))
+        (subst (λ e. Talks limit (pairing e (other pair epoch) (out pair epoch) (arrived pair epoch))) (end-its side os id pair epoch xs told o found is) (met pair epoch)))
     of (Another apart) =
-        subst (λ e. Meets limit (pairing e (other pair epoch) (out pair epoch) (arrived pair epoch))) (sym (end-another side os id pair epoch xs ys told told' others same apart)) (met pair epoch)
+        subst (λ e. Talks limit (pairing e (other pair epoch) (out pair epoch) (arrived pair epoch))) (sym (end-another side os id pair epoch xs ys told told' others same apart)) (met pair epoch)
 
 -- The table and the openings.
 

@@ -137,7 +137,7 @@ shutdown_ends limit side id before after ours theirs c w v answer reached step h
     let ends = shut_by before after ours theirs c h.kept sound rests shuts in
     let left : c.released ≡ false = unleft before after c.state c.released shuts rests.in_state sound.release in
     let named : is_socket id (connected id c None) ≡ true = ap (λ b. b && not c.released) (eqb-same id.0) ∙ ap not left in
-    let found : find (is_socket id) h.entries ≡ Some (connected id c None) = found_once (is_socket id) id h.entries (connected id c None) has named (socket_once h id ordered) in
+    let found : find (is_socket id) h.entries ≡ Some (connected id c None) = found_once (is_socket id) (has_id id) h.entries (connected id c None) has named (socket_once h id ordered) in
     let taken : table.shutdown_refusal h id ≡ None = rw found (rw ends.0 refl) in
     let met : (answer ≡ reply.Done) × (table_of v.network side ≡ table.after_shutdown h id) = done (table.shutdown_refusal h id) taken (let m : HostMeetsCall (clock_of w.network side) (call.Shutdown id) (host_of w.network side) answer (host_of v.network side) = step.network.0 in m.table) in
     let there : entry_of (after_event h (ShutsSocket id)) id ≡ Some (connected id (edge.after_event c (edge.Shuts h.kept)) None) =

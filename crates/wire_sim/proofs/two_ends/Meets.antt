@@ -190,7 +190,7 @@ refusal_told limit side id ours c d head w0 w1 w2 w3 answer isn reset t there as
     tells : (h : SocketsView) (e : View) → IsOrdered h → entry_of h id ≡ Some (connected id e None) → e.released ≡ false → IsClosedBy error.ECONNREFUSED e → TellsRefused h id
     tells h e ordered found left closed =
         let passes : is_socket id (connected id e None) ≡ true = ap (λ b. b && not e.released) (eqb-same id.0) ∙ ap not left in
-        let named : find (is_socket id) h.entries ≡ Some (connected id e None) = found_once (is_socket id) id h.entries (connected id e None) found passes (socket_once h id ordered) in
+        let named : find (is_socket id) h.entries ≡ Some (connected id e None) = found_once (is_socket id) (has_id id) h.entries (connected id e None) found passes (socket_once h id ordered) in
         record {
           send = λ octets. rw named (rw (closed.send octets) refl);
           recv = λ len some. rw named (rw some (rw (closed.recv len) refl));

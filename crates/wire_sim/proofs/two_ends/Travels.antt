@@ -87,12 +87,12 @@ abbrev pub answer_of : Result (Unit {0}) DropCause → Answer
 answer_of (Ok done) = reply.Taken
 answer_of (Err cause) = reply.Dropped cause
 
-delivered : (h : HostView) (now : Moment) (isn : ℕ) (octets : List ℕ) (answer : Answer) (new : HostView) → MeetsFrame h now isn octets answer new → (r : Result (Unit {0}) DropCause) × (answer ≡ answer_of r) × IsDelivered h now isn octets r new
+pub delivered : (h : HostView) (now : Moment) (isn : ℕ) (octets : List ℕ) (answer : Answer) (new : HostView) → MeetsFrame h now isn octets answer new → (r : Result (Unit {0}) DropCause) × (answer ≡ answer_of r) × IsDelivered h now isn octets r new
 delivered h now isn octets reply.Taken new met = (Ok tt, refl, met)
 delivered h now isn octets (reply.Dropped cause) new met = (Err cause, refl, met)
 delivered h now isn octets _ new met = absurd met
 
-frame-comes : (n m : NetworkView) (side : Side) (isn place : ℕ) (answer : Answer) (f : Frame) (o : Option Frame) → o ≡ Some f → DeliversFrame side isn place answer n m o → MeetsFrame (host_of n side) (clock_of n side) isn f.octets.items answer (host_of m side)
+pub frame-comes : (n m : NetworkView) (side : Side) (isn place : ℕ) (answer : Answer) (f : Frame) (o : Option Frame) → o ≡ Some f → DeliversFrame side isn place answer n m o → MeetsFrame (host_of n side) (clock_of n side) isn f.octets.items answer (host_of m side)
 frame-comes n m side isn place answer f None there d = cc
 frame-comes n m side isn place answer f (Some g) there d =
     let same : g ≡ f = cc in
@@ -166,19 +166,19 @@ travelled limit side s w0 w1 w2 w3 answer isn t = record {
 pub under : (P : Entry → Type 0) (h : SocketsView) (id : SocketId) (x : Entry) → AllByRecursion P h.entries → entry_of h id ≡ Some x → P x
 under P h id x all found = All-find P (has_id id) h.entries x all found
 
--- one that passes a test by which one alone passes is what that finds
-pub found_once : (test : Entry → Bool) (id : SocketId) (xs : List Entry) (x : Entry) → find (has_id id) xs ≡ Some x → test x ≡ true → count_by test xs ≤ 1 → find test xs ≡ Some x
-found_once test id [] x found passes few = cc
-found_once test id (y ∷ ys) x found passes few =
-    by_test (has_id id y)
+-- one that passes a test by which one alone passes is what that finds, by whatever it was found
+pub found_once : (test by : Entry → Bool) (xs : List Entry) (x : Entry) → find by xs ≡ Some x → test x ≡ true → count_by test xs ≤ 1 → find test xs ≡ Some x
+found_once test by [] x found passes few = cc
+found_once test by (y ∷ ys) x found passes few =
+    by_test (by y)
     (λ yes.
-    let same : y ≡ x = (let one : Some y ≡ Some x = ap (λ b. cond b (Some y) (find (has_id id) ys)) (sym yes) ∙ found in cc) in
+    let same : y ≡ x = (let one : Some y ≡ Some x = ap (λ b. cond b (Some y) (find by ys)) (sym yes) ∙ found in cc) in
     ap (λ b. cond b (Some y) (find test ys)) (ap test same ∙ passes) ∙ ap (λ (e : Entry). Some e) same)
     (λ no.
-    let later : find (has_id id) ys ≡ Some x = ap (λ b. cond b (Some y) (find (has_id id) ys)) (sym no) ∙ found in
+    let later : find by ys ≡ Some x = ap (λ b. cond b (Some y) (find by ys)) (sym no) ∙ found in
     by_test (test y)
-    (λ too. absurd (omega (arith, count-cons test y ys, one-true (test y) too, few, count-found (has_id id) test ys x later passes)))
-    (λ other. ap (λ b. cond b (Some y) (find test ys)) other ∙ found_once test id ys x later passes (omega (arith, count-cons test y ys, few))))
+    (λ too. absurd (omega (arith, count-cons test y ys, one-true (test y) too, few, count-found by test ys x later passes)))
+    (λ other. ap (λ b. cond b (Some y) (find test ys)) other ∙ found_once test by ys x later passes (omega (arith, count-cons test y ys, few))))
 
 -- a connection between the two ends of the segment, in any state but CLOSED
 pub record Awaits (side : Side) (s : Segment) (w0 w2 : WorldView) (id : SocketId) (l : Option SocketId) (v : View) : Type 0 where
@@ -212,7 +212,7 @@ heard side s w0 w2 w3 answer isn id l v a w = by_fate (fate v s) refl
         (ap (λ e. same_end v.local e) (sym w.local) ∙ same_end-same v.local) (ap (λ e. same_end v.peer e) (sym w.peer) ∙ same_end-same v.peer)
 
     found : find (is_between (local_end h.sockets s) (peer_end source s)) h.sockets.entries ≡ Some (connected id v l)
-    found = found_once (is_between (local_end h.sockets s) (peer_end source s)) id h.sockets.entries (connected id v l) w.has between (a.kept_there.ordered.ends (local_end h.sockets s) (peer_end source s))
+    found = found_once (is_between (local_end h.sockets s) (peer_end source s)) (has_id id) h.sockets.entries (connected id v l) w.has between (a.kept_there.ordered.ends (local_end h.sockets s) (peer_end source s))
 
     becomes : (next : SocketsView) → arrival h.sockets a.moment isn.0 source s ≡ Becomes next → Heard side s w0 w2 w3 answer isn id l v
     becomes next is =

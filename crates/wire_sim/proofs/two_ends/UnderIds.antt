@@ -120,6 +120,13 @@ segment_left h now isn source s id c l o found between =
     kept true = refl
     kept false = refl
 
+-- .. and one of other ends none
+pub segment_apart : (h : SocketsView) (now : Moment) (isn : ℕ) (source : Addr) (s : Segment) (id : SocketId) (c : View) (l : Option SocketId) → IsOrdered h → entry_of h id ≡ Some (connected id c l)
+    → is_between (local_end h s) (peer_end source s) (connected id c l) ≡ false → entry_of (after_event h (Hears now isn source s)) id ≡ Some (connected id c l)
+segment_apart h now isn source s id c l o found apart =
+    connection_then h (Hears now isn source s) id c l o found (segment_adds h now isn source s id (found_within id 0 h.last_id h.entries (connected id c l) o.ids found))
+    ∙ ap (λ b. option_map (λ d. connected id d l) (view_left c (if b then Some (edge.Hears s (later_moment h now)) else None))) apart
+
 -- Who is ready.
 
 none_ready : (id : SocketId) (xs : List Entry) → find (has_id id) xs ≡ None → list_any (is_ready_as id) xs ≡ false
