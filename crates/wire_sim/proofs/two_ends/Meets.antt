@@ -66,10 +66,10 @@ use Rattle.wire_sim.proofs.two_ends.UnderIds.{none_past, ready_under}
 pub sound_under : (h : HostView) (id : SocketId) (c : View) (l : Option SocketId) → IsSoundHost h → entry_of h.sockets id ≡ Some (connected id c l) → IsSound c
 sound_under h id c l sound found = let solid : IsSoundConnection c = under (λ (e : Entry). IsSoundRole e.role) h.sockets id (connected id c l) sound.table.entries found in solid.sound
 
-lies_under : (h : SocketsView) (id : SocketId) (c : View) (l : Option SocketId) → IsOrdered h → entry_of h id ≡ Some (connected id c l) → c.local.addr ≡ h.addr
+pub lies_under : (h : SocketsView) (id : SocketId) (c : View) (l : Option SocketId) → IsOrdered h → entry_of h id ≡ Some (connected id c l) → c.local.addr ≡ h.addr
 lies_under h id c l ordered found = (under (λ (e : Entry). LiesAt h.addr e.role) h id (connected id c l) ordered.own found).0
 
-at_addr : (e : Endpoint) (a : Addr) → e.addr ≡ a → ◌≡◌ {A = Endpoint} e (record { addr = a; port = e.port })
+pub at_addr : (e : Endpoint) (a : Addr) → e.addr ≡ a → ◌≡◌ {A = Endpoint} e (record { addr = a; port = e.port })
 at_addr e a is = ap (λ (x : Addr). let y : Endpoint = record { addr = x; port = e.port } in y) is
 
 -- The segment of one end is between the ends of the other.
