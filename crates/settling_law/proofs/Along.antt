@@ -13,7 +13,6 @@ use Rattle.tcp_state.specs.Said.{segment_of}
 use Rattle.tcp_state.specs.View.{View, IsSound, is_opening, is_closed}
 use Rattle.sockets.specs.declared.entry.SocketId.{SocketId}
 use Rattle.sockets.specs.Closing.{entry_of}
-use Rattle.sockets.specs.Steps.{connected}
 use Rattle.sockets.proofs.KeptEnds.{keeps-first, keeps-event}
 use Rattle.window_law.specs.Windows.{IsOpen}
 use Rattle.silence_law.specs.Silence.{Link, here_stirs, loses, sends as act_sends, hears as act_hears}

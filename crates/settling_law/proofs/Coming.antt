@@ -1,5 +1,5 @@
 -- What a frame that comes to a side's host makes of a connection there: it hears the segment that is for it, or nothing happens to it.
-use Rattle.std.proofs.Common.{◌≡◌, ◌≢◌, ◌⊎◌, inl, inr, ℕ, ◌<◌, ◌^◌, ◌&&◌, ◌||◌, not, Bool, true, false, cond, if◌then◌else◌, List, length, Option, Some, None, option_map, Result, Ok, Err, refl, sym, ◌∙◌, ap, subst}
+use Rattle.std.proofs.Common.{◌≡◌, ◌⊎◌, inl, inr, ℕ, ◌&&◌, ◌||◌, not, Bool, true, false, if◌then◌else◌, List, length, Option, Some, None, option_map, Result, Ok, Err, refl, sym, ◌∙◌, ap, subst}
 use Rattle.std.specs.List.{find, slice_get}
 use Rattle.std.proofs.lemmas.Bool.{and_parts, and_from}
 use Rattle.ether.specs.declared.mac.Mac.{Mac}
@@ -12,10 +12,9 @@ use Rattle.ipv4.proofs.Pairs.{pair_of-swapped}
 use Rattle.clock.specs.declared.moment.Moment.{Moment}
 use Rattle.tcp_segment.specs.declared.seq.Seq.{Seq}
 use Rattle.tcp_segment.specs.Segment.{Segment}
-use Rattle.tcp_halves.proofs.Choices.{either}
 use Rattle.tcp_state.specs.Arrival.{after_segment_at, fate}
 use Rattle.tcp_state.specs.Edges as edge
-use Rattle.tcp_state.specs.Unreachable.{is_unreachable, after_unreachable, unreachable_fate}
+use Rattle.tcp_state.specs.Unreachable.{after_unreachable, unreachable_fate}
 use Rattle.tcp_state.specs.View.{View, is_opening, is_closed}
 use Rattle.tcp_state.proofs.Losses.{past_opening}
 use Rattle.udp.specs.declared.fault.UdpFault.{UdpFault}
@@ -39,7 +38,7 @@ use Rattle.sockets.specs.declared.datagrams.Reception.TheVariants as socket
 use Rattle.sockets.specs.declared.entry.Entry.{Entry}
 use Rattle.sockets.specs.declared.entry.SocketId.{SocketId}
 use Rattle.sockets.specs.Arrival.{Arrival, Becomes, Opens, NoRoom, Answers, local_end, peer_end, arrival}
-use Rattle.sockets.specs.Causes.{Event, Hears, HearsDatagram, Unreachable, after_arrival, after_event}
+use Rattle.sockets.specs.Causes.{Hears, HearsDatagram, Unreachable, after_arrival, after_event}
 use Rattle.sockets.specs.Closing.{entry_of}
 use Rattle.sockets.specs.Datagrams.{reception}
 use Rattle.sockets.specs.Entries.{is_between, is_kept}
@@ -64,7 +63,7 @@ use Rattle.wire_sim.specs.Duties.{Has}
 use Rattle.wire_sim.specs.HostRuns.{IsKept}
 use Rattle.wire_sim.specs.Runs.{IsReached, IsStep}
 use Rattle.wire_sim.specs.Sent.{heard_as, segment_from}
-use Rattle.wire_sim.specs.WorldView.{WorldView, host_of, table_of, clock_of}
+use Rattle.wire_sim.specs.WorldView.{WorldView, host_of, clock_of}
 use Rattle.wire_sim.proofs.HostsRun.{sound-at, tables-kept}
 use Rattle.wire_sim.proofs.two_ends.Meets.{at_addr, lies_under}
 use Rattle.wire_sim.proofs.two_ends.Travels.{frame-comes, delivered}

@@ -1,12 +1,12 @@
 -- What goes out of a side's host: a segment of one of two ends, or nothing of either.
-use Rattle.std.proofs.Common.{◌≡◌, ◌≢◌, inl, inr, ℕ, ◌==◌, ◌&&◌, not, Bool, true, false, if◌then◌else◌, List, [], ◌∷◌, ◌++◌, length, Option, Some, None, option_map, option_and_then, refl, sym, ◌∙◌, ap, subst}
-use Rattle.std.specs.List.{find, slice_get, AllByRecursion}
+use Rattle.std.proofs.Common.{◌≡◌, ◌≢◌, inl, inr, ℕ, ◌==◌, ◌&&◌, not, Bool, true, false, if◌then◌else◌, List, [], ◌∷◌, ◌++◌, Option, Some, None, option_map, option_and_then, refl, sym, ◌∙◌, ap, subst}
+use Rattle.std.specs.List.{find, slice_get}
 use Rattle.std.proofs.lemmas.Bool.{and_from}
 use Rattle.ether.specs.declared.mac.Mac.{Mac}
 use Rattle.ipv4.specs.declared.addr.Addr.{Addr}
 use Rattle.ipv4.specs.declared.addr.Endpoint.{Endpoint}
 use Rattle.ipv4.specs.declared.addr.Pair.{Pair}
-use Rattle.ipv4.specs.Addresses.{pair_of, same_addr, same_end}
+use Rattle.ipv4.specs.Addresses.{pair_of, same_end}
 use Rattle.ipv4.proofs.Pairs.{same_ends}
 use Rattle.clock.specs.declared.moment.Moment.{Moment}
 use Rattle.tcp_segment.specs.Segment.{Segment}
@@ -28,7 +28,6 @@ use Rattle.interface.specs.declared.way.Way.{Way}
 use Rattle.interface.specs.declared.way.Way.TheVariants.{To, Ask, Waits}
 use Rattle.interface.specs.Replies.{way_of}
 use Rattle.interface.specs.Sound.{IsSoundReply}
-use Rattle.sockets.specs.declared.emission.Outgoing.{Outgoing}
 use Rattle.sockets.specs.declared.entry.Entry.{Entry}
 use Rattle.sockets.specs.declared.entry.SocketId.{SocketId}
 use Rattle.sockets.specs.declared.role.Role.{Role}
@@ -64,7 +63,7 @@ use Rattle.wire_sim.specs.Steps.{EmitsFrame, with_host}
 use Rattle.wire_sim.specs.Tallies.{same_pair}
 use Rattle.wire_sim.specs.WorldView.{WorldView, NetworkView, host_of, table_of, clock_of}
 use Rattle.wire_sim.proofs.HostsRun.{sound-at, tables-kept}
-use Rattle.wire_sim.proofs.carried.TableSends.{IsNext, IsDatagramDue, OfConnection, OfSocket, sends-for}
+use Rattle.wire_sim.proofs.carried.TableSends.{OfConnection, OfSocket, sends-for}
 use Rattle.wire_sim.proofs.fairness.NotesAreTraced.{got-last}
 use Rattle.wire_sim.proofs.lists.FoundAfterChange.{All-find, All-at, found-sole}
 use Rattle.wire_sim.proofs.passage.SegmentsCarried.{IsCarried, carried-sent}

@@ -1,12 +1,11 @@
 -- Two open ends of a world that is left to itself fall silent.
-use Rattle.std.proofs.Common.{◌≡◌, ℕ, ◌+◌, ◌<◌, ◌≤◌, ◌^◌, [], arith, refl, sym, ◌∙◌, ap, subst}
+use Rattle.std.proofs.Common.{◌≡◌, ℕ, ◌<◌, ◌≤◌, ◌^◌, [], arith, refl, ◌∙◌}
 use Rattle.ipv4.specs.declared.addr.Endpoint.{Endpoint}
 use Rattle.ipv4.specs.declared.addr.Pair.{Pair}
 use Rattle.ipv4.specs.Addresses.{pair_of}
 use Rattle.ipv4.proofs.Pairs.{pair_of-swapped}
 use Rattle.tcp_state.specs.View.{View}
 use Rattle.sockets.specs.declared.entry.SocketId.{SocketId}
-use Rattle.silence_law.specs.Silence as silence
 use Rattle.silence_law.proofs.Silent.{within_turned, most_of, at_first}
 use Rattle.sides.specs.declared.side.Side.{Side}
 use Rattle.sides.specs.declared.side.Side.TheVariants.{A, B}
@@ -14,7 +13,7 @@ use Rattle.sides.specs.Sides.{other_side}
 use Rattle.wire_sim.specs.Runs.{IsReached}
 use Rattle.wire_sim.specs.TwoEnds.{AreJoined}
 use Rattle.wire_sim.specs.WorldView.{WorldView, host_of}
-use Rattle.wire_sim.proofs.two_ends.Joined.{Talked, talked}
+use Rattle.wire_sim.proofs.two_ends.Joined.{talked}
 use Rattle.wire_sim.proofs.two_ends.Meets.{sound_under}
 use Rattle.settling_law.specs.Settling.{Course, turned, still, Happens, here, there, AreSound, Runs, ends, goes_on, FallsSilent}
 use Rattle.settling_law.proofs.Along.{Two, Stands, Leaves, happens_there}

@@ -11,8 +11,8 @@ use Rattle.tcp_halves.specs.declared.buffers.Manner.{Manner}
 use Rattle.tcp_halves.proofs.Choices.{and_left, and_right}
 use Rattle.tcp_state.specs.Calls.{after_set_nodelay}
 use Rattle.tcp_state.specs.View.{View, is_syn_received, is_time_wait}
-use Rattle.tcp_state.specs.declared.state.State.{State}
-use Rattle.tcp_state.specs.declared.state.State.TheVariants.{SynReceived, TimeWait}
+use Rattle.tcp_state.specs.declared.state.State.TheVariants.{TimeWait}
+use Rattle.tcp_state.proofs.ToldOfIt.{received, waits}
 use Rattle.clock.specs.declared.moment.Moment.{Moment}
 use Rattle.sockets.specs.declared.entry.Entry.{Entry}
 use Rattle.sockets.specs.declared.entry.SocketId.{SocketId}
@@ -188,14 +188,6 @@ pub plain_room : (buffer : ℕ) (manner : Manner) → manner.scales ≡ false �
 plain_room buffer manner plain few = rw plain (omega (arith, few))
 
 -- What gives way.
-
-received : (t : State) → is_syn_received t ≡ true → t ≡ SynReceived
-received SynReceived is = refl
-received _ is = cc
-
-waits : (t : State) → is_time_wait t ≡ true → t ≡ TimeWait
-waits TimeWait is = refl
-waits _ is = cc
 
 pub given_way : (x : Entry) → may_give_way x ≡ true → MayBeGiven x.role
 given_way x may = by_role x.role refl may

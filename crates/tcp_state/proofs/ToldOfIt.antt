@@ -21,11 +21,11 @@ error_told v octets error is = rw is refl
 pub window_told : (v : View) (s : Segment) → updates_window v.sending s.number s.acknowledgement ≡ true → (info_of (after_window v s)).peer_window ≡ window_in v.sending s.window
 window_told v s newer = rw newer refl
 
-received : (t : State) → is_syn_received t ≡ true → t ≡ SynReceived
+pub received : (t : State) → is_syn_received t ≡ true → t ≡ SynReceived
 received SynReceived is = refl
 received _ is = cc
 
-waits : (t : State) → is_time_wait t ≡ true → t ≡ TimeWait
+pub waits : (t : State) → is_time_wait t ≡ true → t ≡ TimeWait
 waits TimeWait is = refl
 waits _ is = cc
 
