@@ -98,10 +98,12 @@ pub record Given : Type 0 where
   pub room : ℕ
   pub octets : List ℕ
 
+-- one where a datagram is answered, and none where the call is refused
 abbrev pub datagram_given : ℕ → Result (ℕ × Endpoint) Refusal → List ℕ → List Given
 datagram_given room (Ok answer) buffer = record { endpoint = answer.1; room = room; octets = take answer.0 buffer } ∷ []
 datagram_given room (Err refusal) buffer = []
 
+-- what an event gives the caller of this socket so
 abbrev pub given_at : SocketId → HostView → Event → List Given
 given_at id h (Calls (table.ReceivesFrom named len)) = if named.0 == id.0 then datagram_given len (recvfrom_answer h.sockets named len) (recvfrom_front h.sockets named (replicate len 0)) else []
 given_at id h _ = []

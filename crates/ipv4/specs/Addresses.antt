@@ -22,6 +22,7 @@ is_unicast addr = let first = slice_index addr.0 0 in nat_le 1 first && nat_le f
 abbrev pub same_addr : Addr → Addr → Bool
 same_addr a b = pointwise nat_eq a.0 b.0
 
+-- one address, and one port there
 abbrev pub same_end : Endpoint → Endpoint → Bool
 same_end a b = same_addr a.addr b.addr && (a.port == b.port)
 

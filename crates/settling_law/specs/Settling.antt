@@ -38,6 +38,7 @@ abbrev pub is_theirs : Pair → WorldView → Side → Option Carried → Bool
 is_theirs pair w side None = false
 is_theirs pair w side (Some c) = same_pair (pair_between (addr_at w.network side) c.to c.segment) pair
 
+-- at the moment that its clock shows
 abbrev pub speaks : Pair → WorldView → Side → Bool
 speaks pair w side = is_theirs pair w side (carried (host_of w.network side) (clock_of w.network side))
 
@@ -46,6 +47,7 @@ abbrev pub is_reset : Option Carried → Bool
 is_reset None = false
 is_reset (Some c) = c.segment.flags.rst
 
+-- what goes out of it at that moment does
 abbrev pub resets : WorldView → Side → Bool
 resets w side = is_reset (carried (host_of w.network side) (clock_of w.network side))
 

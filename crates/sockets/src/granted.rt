@@ -1,6 +1,6 @@
 //! Laws of what a socket's call comes to where nothing stands against it, in the words of POSIX.
 
-ghost use Rattle.std.specs.Prelude.{◌≡◌, ◌≢◌, ◌≤◌, ◌↔◌, ℕ, Bool, true, false, Option, None, Some, Ok};
+ghost use Rattle.std.specs.Prelude.{◌≡◌, ◌≢◌, ◌≤◌, ◌↔◌, ℕ, Bool, true, false, List, length, Option, None, Some, Ok};
 ghost use Rattle.ipv4.specs.declared.addr.Endpoint.{Endpoint};
 ghost use Rattle.tcp_halves.specs.declared.buffers.Manner.{Manner};
 ghost use Rattle.tcp_state.specs.View.{View};
@@ -9,9 +9,10 @@ ghost use Rattle.sockets.specs.declared.entry.Entry.{Entry};
 ghost use Rattle.sockets.specs.declared.entry.SocketId.{SocketId};
 ghost use Rattle.sockets.specs.declared.refusal.Refusal.TheVariants.{EAGAIN, ECONNREFUSED, ECONNRESET, ENOTCONN, EPIPE, ETIMEDOUT};
 ghost use Rattle.sockets.specs.declared.role.Role.TheVariants.{Connected};
-ghost use Rattle.sockets.specs.Calls.{after_bind, after_nodelay, bind_refusal, connect_refusal, refusal_of, sockname_answer};
+ghost use Rattle.sockets.specs.Calls.{after_bind, after_nodelay, bind_refusal, connect_refusal, listen_refusal, refusal_of, sockname_answer};
+ghost use Rattle.sockets.specs.Datagrams.{sendto_answer};
 ghost use Rattle.sockets.specs.GiveWay.{may_give_way};
-ghost use Rattle.sockets.specs.Granted.{MayBeGiven, MayConnect};
+ghost use Rattle.sockets.specs.Granted.{MayBeGiven, MayBind, MayConnect, MayListen, MaySendTo};
 ghost use Rattle.sockets.specs.Order.{IsOrdered};
 ghost use Rattle.sockets.specs.SocketsView.{SocketsView, role_of, room_of};
 
@@ -19,6 +20,21 @@ ghost use Rattle.sockets.specs.SocketsView.{SocketsView, role_of, room_of};
 /// from the port that the socket is bound to, where no connection goes from it to the peer, or else from any dynamic port that is free.
 pub fn connects_are_granted()
     ensures { (h : SocketsView) (id : SocketId) (peer : Endpoint) (routed : Bool) → IsOrdered h → (connect_refusal h id peer routed ≡ None) ↔ MayConnect h id peer routed }
+{}
+
+/// A `bind` is taken exactly where a socket that isn't bound may be at that address and port (`MayBind`; POSIX bind).
+pub fn binds_are_granted()
+    ensures { (h : SocketsView) (id : SocketId) (local : Endpoint) → IsOrdered h → (bind_refusal h id local ≡ None) ↔ MayBind h id local }
+{}
+
+/// A `listen` is taken exactly of an idle TCP socket that is bound, with a backlog of 1 to 8 (POSIX listen).
+pub fn listens_are_granted()
+    ensures { (h : SocketsView) (id : SocketId) (backlog : ℕ) → (listen_refusal h id backlog ≡ None) ↔ MayListen h id backlog }
+{}
+
+/// A `sendto` takes all its octets exactly where they can be sent (`MaySendTo`; POSIX sendto).
+pub fn datagrams_are_granted()
+    ensures { (h : SocketsView) (id : SocketId) (peer : Endpoint) (octets : List ℕ) (routed : Bool) → IsOrdered h → (sendto_answer h id peer octets routed ≡ Ok (length octets)) ↔ MaySendTo h id peer octets routed }
 {}
 
 /// After a `bind` that is taken the socket is bound to the address that was asked for, and to the port, or to one in place of port 0: `getsockname` tells so (POSIX bind).

@@ -50,6 +50,7 @@ pub record Pairing : Type 0 where
 abbrev pub nothing_yet : End
 nothing_yet = record { connection = Absent; written = []; closed = false; read = []; ended = false }
 
+-- two such ends, between which nothing went out
 abbrev pub apart : Pairing
 apart = record { own = nothing_yet; other = nothing_yet; sent = []; received = [] }
 
@@ -62,6 +63,7 @@ pub record IsTimely (limit : ℕ) (p : Pairing) (e : Emission) : Type 0 where
   pub own : length p.own.written < e.other_written + limit
   pub other : length p.other.written < e.own_written + limit
 
+-- its own end has this connection now, and nothing else changed
 abbrev pub with_connection : Pairing → View → Pairing
 with_connection p v = record p { own = record p.own { connection = Present v } }
 

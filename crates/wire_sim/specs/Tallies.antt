@@ -7,6 +7,7 @@ use Rattle.sockets.specs.declared.entry.SocketId.{SocketId}
 use Rattle.ipv4.specs.Addresses.{same_end}
 use Rattle.sides.specs.Sides.{same_side}
 
+-- two pairs have the same two ends: each pair names the lesser one first
 abbrev pub same_pair : Pair → Pair → Bool
 same_pair a b = same_end a.first b.first && same_end a.second b.second
 

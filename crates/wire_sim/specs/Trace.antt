@@ -68,6 +68,7 @@ of_opening nothing said (Some o) = said o
 abbrev pub written : List Happening → List Opening → Side → Pair → ℕ → List ℕ
 written trace openings side pair epoch = of_opening [] (λ o. sent_on side o.id trace) (find (is_opening_of side pair epoch) openings)
 
+-- whether its caller closed that side of the pair's connection
 abbrev pub closed : List Happening → List Opening → Side → Pair → ℕ → Bool
 closed trace openings side pair epoch = of_opening false (λ o. closed_on side o.id trace) (find (is_opening_of side pair epoch) openings)
 
@@ -75,6 +76,7 @@ closed trace openings side pair epoch = of_opening false (λ o. closed_on side o
 abbrev pub read : List Happening → List Opening → Side → Pair → ℕ → List ℕ
 read trace openings side pair epoch = of_opening [] (λ o. read_on side o.id trace) (find (is_opening_of side pair epoch) openings)
 
+-- whether its reader was told there that the stream has ended
 abbrev pub ended : List Happening → List Opening → Side → Pair → ℕ → Bool
 ended trace openings side pair epoch = of_opening false (λ o. ended_on side o.id trace) (find (is_opening_of side pair epoch) openings)
 
