@@ -108,7 +108,7 @@ module _ (limit : ℕ) (some : 0 < limit) (small : limit ≤ 2 ^ 30) (hs ts : Si
   }
 
   -- Nothing happens to either.
-  nothing_happens : (c k : Course) (v d x y : View) (left : ℕ) (st : Stood c v d left) → IsReached limit k.world → Two k.world hs ts id other x y → x ≡ v → y ≡ d
+  pub nothing_happens : (c k : Course) (v d x y : View) (left : ℕ) (st : Stood c v d left) → IsReached limit k.world → Two k.world hs ts id other x y → x ≡ v → y ≡ d
       → (back : List Segment) → OnWay k.world pair local peer k.out st.to_far → OnWay k.world pair peer local k.back back → Within limit (record { near = v; far = d; to_far = st.to_far; to_near = back }) left → Left k x y 0 left
   nothing_happens c k v d x y left st reached two same there back out behind within = record {
     after = left;

@@ -1,5 +1,5 @@
 -- Two open ends of a world that is left to itself fall silent.
-use Rattle.std.proofs.Common.{◌≡◌, ℕ, ◌<◌, ◌≤◌, ◌^◌, [], arith, refl, ◌∙◌}
+use Rattle.std.proofs.Common.{◌≡◌, ℕ, ◌<◌, ◌≤◌, ◌^◌, [], length, arith, refl, sym, ◌∙◌}
 use Rattle.ipv4.specs.declared.addr.Endpoint.{Endpoint}
 use Rattle.ipv4.specs.declared.addr.Pair.{Pair}
 use Rattle.ipv4.specs.Addresses.{pair_of}
@@ -10,14 +10,15 @@ use Rattle.silence_law.proofs.Silent.{within_turned, most_of, at_first}
 use Rattle.sides.specs.declared.side.Side.{Side}
 use Rattle.sides.specs.declared.side.Side.TheVariants.{A, B}
 use Rattle.sides.specs.Sides.{other_side}
-use Rattle.wire_sim.specs.Runs.{IsReached}
+use Rattle.wire_sim.specs.Runs.{IsReached, goes_on as reached_on}
 use Rattle.wire_sim.specs.TwoEnds.{AreJoined}
 use Rattle.wire_sim.specs.WorldView.{WorldView, host_of}
+use Rattle.wire_sim.proofs.HostsRun.{frames-stay}
 use Rattle.wire_sim.proofs.two_ends.Joined.{talked}
 use Rattle.wire_sim.proofs.two_ends.Meets.{sound_under}
-use Rattle.settling_law.specs.Settling.{Course, turned, still, Happens, here, there, AreSound, Runs, ends, goes_on, FallsSilent}
-use Rattle.settling_law.proofs.Along.{Two, Stands, Leaves, happens_there}
-use Rattle.settling_law.proofs.Frames.{nothing}
+use Rattle.settling_law.specs.Settling.{Course, turned, still, Happens, here, there, elsewhere, AreSound, Runs, ends, goes_on, FallsSilent}
+use Rattle.settling_law.proofs.Along.{Two, Stands, Leaves, nothing_happens, happens_there}
+use Rattle.settling_law.proofs.Frames.{nothing, same_entry, on_way_still}
 
 joined_two : (w : WorldView) (side : Side) (id other : SocketId) (v d : View) → AreJoined w side id other v d → Two w side (other_side side) id other v d
 joined_two w side id other v d j = record { listener = j.listener; other_listener = j.other_listener; here = j.here; there = j.there; opened = j.opened; other_opened = j.other_opened }
@@ -49,13 +50,22 @@ module _ (limit : ℕ) (some : 0 < limit) (small : limit ≤ 2 ^ 30) (side : Sid
   abbrev ts : Side
   ts = other_side side
 
-  happens_on : (count : ℕ) (c k : Course) → Happens side pair count c k → (v d x y : View) (left : ℕ) → Stands limit side ts id other pair local peer c v d left → Two k.world side ts id other x y → AreSound k.world side
+  happens_on : (count : ℕ) (c k : Course) → Happens side id other pair count c k → (v d x y : View) (left : ℕ) → Stands limit side ts id other pair local peer c v d left → Two k.world side ts id other x y → AreSound k.world side
       → Leaves limit side ts id other pair local peer k x y count left
   happens_on _ _ _ (here count c k does) v d x y left st two sound = happens_there limit some small side ts refl id other pair local peer is_pair count c k does v d x y left st two sound.near sound.far
   happens_on _ _ _ (there count c k does) v d x y left st two sound =
       let l = happens_there limit some small ts side (back side) other id pair peer local (pair_of-swapped peer local ∙ is_pair) count (turned c) k does d v y x left
       (stands_turned limit side ts id other pair local peer c v d left st) (two_turned k.world side ts id other x y two) sound.far sound.near in
       record { after = l.after; fewer = l.fewer; stands = stands_turned limit ts side other id pair peer local k y x l.after l.stands }
+  happens_on _ _ _ (elsewhere c happens w leaves) v d x y left st two sound =
+      let step = leaves.step in
+      let keeps = frames-stay happens (length c.world.trace) leaves.answer c.world.network w.network step.network in
+      let was = leaves.before in
+      let then_so = leaves.after in
+      let near : x ≡ v = same_entry id two.listener then_so.listener x leaves.v (sym two.here ∙ then_so.here) ∙ same_entry id was.listener st.two.listener leaves.v v (sym was.here ∙ st.two.here) in
+      let far : y ≡ d = same_entry other two.other_listener then_so.other_listener y leaves.d (sym two.there ∙ then_so.there) ∙ same_entry other was.other_listener st.two.other_listener leaves.d d (sym was.there ∙ st.two.there) in
+      nothing_happens limit some small side ts refl id other pair local peer is_pair c (record c { world = w }) v d x y left st (reached_on c.world w happens leaves.answer st.reached step) two near far st.to_near
+      (on_way_still c.world w pair local peer keeps c.out st.to_far st.out) (on_way_still c.world w pair peer local keeps c.back st.to_near st.back) st.within
 
   no_more : (count : ℕ) (c e : Course) → Runs side id other pair count c e → (v d : View) (left : ℕ) → Stands limit side ts id other pair local peer c v d left → count ≤ left
   no_more _ _ _ (ends c) v d left st = omega arith

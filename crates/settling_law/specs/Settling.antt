@@ -1,4 +1,4 @@
--- A world that is left to itself, without a call and without a tick: what goes out of a host comes to the other in the order in which it went out, or is lost.
+-- A world in which two connections are left to themselves, without a call of theirs and without a tick that does anything to them: what goes out of a host comes to the other in the order in which it went out, or is lost.
 use Rattle.std.specs.Prelude.{◌≡◌, ℕ, ◌+◌, ◌<◌, ◌≤◌, Bool, true, false, if◌then◌else◌, List, [], ◌∷◌, ◌++◌, Option, Some, None}
 use Rattle.ipv4.specs.declared.addr.Pair.{Pair}
 use Rattle.ipv4.specs.Addresses.{pair_of}
@@ -12,9 +12,11 @@ use Rattle.sides.specs.declared.side.Side.{Side}
 use Rattle.sides.specs.Sides.{other_side}
 use Rattle.wire_sim.specs.declared.event.Answer.{Answer}
 use Rattle.wire_sim.specs.declared.event.Answer.TheVariants as reply
+use Rattle.wire_sim.specs.declared.event.Event.{Event}
 use Rattle.wire_sim.specs.declared.event.Event.TheVariants as event
 use Rattle.wire_sim.specs.Passage.{addr_at}
 use Rattle.wire_sim.specs.Runs.{IsReached, IsStep}
+use Rattle.wire_sim.specs.Steps.{is_emission}
 use Rattle.wire_sim.specs.Tallies.{same_pair}
 use Rattle.wire_sim.specs.TwoEnds.{AreJoined}
 use Rattle.wire_sim.specs.WorldView.{WorldView, host_of, clock_of}
@@ -59,10 +61,21 @@ pub data Does (side : Side) (pair : Pair) : ℕ → Course → Course → Type 0
   hears : (c : Course) (index : ℕ) (rest : List ℕ) (isn : Seq) (answer : Answer) (w : WorldView) → c.back ≡ index ∷ rest → IsStep (event.Deliver side index isn) answer c.world w → Does side pair 0 c (record { world = w; out = c.out; back = rest })
   loses : (c : Course) (index : ℕ) (rest : List ℕ) → c.back ≡ index ∷ rest → Does side pair 0 c (record c { back = rest })
 
--- it happens at this side or at the other one
-pub data Happens (side : Side) (pair : Pair) : ℕ → Course → Course → Type 0 where
-  here : (count : ℕ) (c k : Course) → Does side pair count c k → Happens side pair count c k
-  there : (count : ℕ) (c k : Course) → Does (other_side side) pair count (turned c) k → Happens side pair count c (turned k)
+-- what is no emission leaves both connections as they are: a call of another socket, a tick at which nothing of theirs is due, any frame of others
+pub record Leaves (side : Side) (id other : SocketId) (happens : Event) (old new : WorldView) : Type 0 where
+  pub answer : Answer
+  pub step : IsStep happens answer old new
+  pub kind : is_emission happens ≡ false
+  pub v : View
+  pub d : View
+  pub before : AreJoined old side id other v d
+  pub after : AreJoined new side id other v d
+
+-- it happens at this side or at the other one, or something else does
+pub data Happens (side : Side) (id other : SocketId) (pair : Pair) : ℕ → Course → Course → Type 0 where
+  here : (count : ℕ) (c k : Course) → Does side pair count c k → Happens side id other pair count c k
+  there : (count : ℕ) (c k : Course) → Does (other_side side) pair count (turned c) k → Happens side id other pair count c (turned k)
+  elsewhere : (c : Course) (happens : Event) (w : WorldView) → Leaves side id other happens c.world w → Happens side id other pair 0 c (record c { world = w })
 
 -- both hosts are sound, as each one is by `Host::sound`
 pub record AreSound (w : WorldView) (side : Side) : Type 0 where
@@ -72,7 +85,7 @@ pub record AreSound (w : WorldView) (side : Side) : Type 0 where
 -- One after the other, in any order, while both ends stay open: so many of their frames go out.
 pub data Runs (side : Side) (id other : SocketId) (pair : Pair) : ℕ → Course → Course → Type 0 where
   ends : (c : Course) → Runs side id other pair 0 c c
-  goes_on : (count more : ℕ) (c k e : Course) (v d : View) → Happens side pair count c k → AreJoined k.world side id other v d → AreSound k.world side → Runs side id other pair more k e → Runs side id other pair (count + more) c e
+  goes_on : (count more : ℕ) (c k e : Course) (v d : View) → Happens side id other pair count c k → AreJoined k.world side id other v d → AreSound k.world side → Runs side id other pair more k e → Runs side id other pair (count + more) c e
 
 -- There is a number of frames between two ends past which no more go out, whatever is lost of them and whatever else the hosts send.
 abbrev pub FallsSilent : WorldView → Side → SocketId → SocketId → Pair → Type 0

@@ -1,4 +1,4 @@
-//! Laws of a world that is left to itself, over definitions alone: without a call and without a tick, what goes out of its two hosts comes to an end.
+//! Laws of two connections of a world that are left to themselves, over definitions alone: what goes out of them comes to an end.
 #![tactic(auto)]
 
 pub mod laws;
