@@ -83,7 +83,7 @@ sum-same : {X : Type 0} (f g : X → ℕ) → ((x : X) → f x ≡ g x) → (xs 
 sum-same f g same [] = refl
 sum-same f g same (x ∷ xs) = omega (arith, sum_by-cons f x xs, sum_by-cons g x xs, same x, sum-same f g same xs)
 
-all-found : {X : Type 0} (P : X → Type 0) (test : X → Bool) (xs : List X) (x : X) → AllByRecursion P xs → find test xs ≡ Some x → P x
+pub all-found : {X : Type 0} (P : X → Type 0) (test : X → Bool) (xs : List X) (x : X) → AllByRecursion P xs → find test xs ≡ Some x → P x
 all-found P test [] x all e = absurd cc
 all-found {X} P test (y ∷ ys) x all e = by_test (test y) (λ found. all-found P test ys x all.1 found) e
   where
@@ -162,7 +162,7 @@ slice-front (y ∷ front) back x = slice-front front back x
 
 -- An entry of which something has gone out.
 
-role-less : (known goes : Addr → Bool) → ((to : Addr) → known to ≡ true → goes to ≡ true) → (now : Moment) (role : Role) (due : Endpoint × What) → IsSoundRole role
+pub role-less : (known goes : Addr → Bool) → ((to : Addr) → known to ≡ true → goes to ≡ true) → (now : Moment) (role : Role) (due : Endpoint × What) → IsSoundRole role
     → due_to goes role ≡ Some due → known due.0.addr ≡ true → most_of known (role_after_emission now due.1 role) < most_of known role
 role-less known goes may now (Idle buffers bound) due sound is knows = cc
 role-less known goes may now (Listener local backlog) due sound is knows = cc
@@ -245,7 +245,7 @@ known-goes i now to knows = by_hop (next_hop i.routes to) knows
 
 -- The first reply for which a frame can go out doesn't wait.
 
-reply-goes : (i : InterfaceView) (now : Moment) (place : ℕ) → position (is_reply_due i now) i.replies ≡ Some place → way_at i now place ≢ Waits
+pub reply-goes : (i : InterfaceView) (now : Moment) (place : ℕ) → position (is_reply_due i now) i.replies ≡ Some place → way_at i now place ≢ Waits
 reply-goes i now place at waits =
     let long : 60 ≤ len_at i now place = (first_goes i now place at).1 in
     let short : len_at i now place ≡ 0 = by_one (slice_get i.replies place) waits in

@@ -1,5 +1,5 @@
 -- What goes out of a side's host: a segment of one of two ends, or nothing of either.
-use Rattle.std.proofs.Common.{◌≡◌, ◌≢◌, inl, inr, ℕ, ◌==◌, ◌&&◌, not, Bool, true, false, if◌then◌else◌, List, [], ◌∷◌, ◌++◌, Option, Some, None, option_map, option_and_then, refl, sym, ◌∙◌, ap, subst}
+use Rattle.std.proofs.Common.{◌≡◌, ◌≢◌, inl, inr, ℕ, ◌==◌, ◌&&◌, not, Bool, true, false, if◌then◌else◌, List, [], ◌∷◌, ◌++◌, Option, Some, None, option_map, refl, sym, ◌∙◌, ap, subst}
 use Rattle.std.specs.List.{find, slice_get}
 use Rattle.std.proofs.lemmas.Bool.{and_from}
 use Rattle.ether.specs.declared.mac.Mac.{Mac}
@@ -12,7 +12,7 @@ use Rattle.clock.specs.declared.moment.Moment.{Moment}
 use Rattle.tcp_segment.specs.Segment.{Segment}
 use Rattle.tcp_segment.specs.Sent.{sent_segment}
 use Rattle.tcp_state.specs.declared.emission.Due.{Due}
-use Rattle.tcp_state.specs.Due.{first_due, head_of, octets_of, flags_of, after_emitted}
+use Rattle.tcp_state.specs.Due.{first_due, flags_of, after_emitted}
 use Rattle.tcp_state.specs.Edges as edge
 use Rattle.tcp_state.specs.Said.{segment_of}
 use Rattle.tcp_state.specs.View.{View, is_closed}
@@ -43,7 +43,7 @@ use Rattle.sockets.specs.SocketsView.{SocketsView, later_moment}
 use Rattle.sockets.specs.Steps.{connected, view_left}
 use Rattle.sockets.proofs.Ends.{same_addr-same, same_end-same}
 use Rattle.sockets.proofs.Followed.{by_test}
-use Rattle.host.specs.Carried.{Carried, carried, carried_by, carried_for, carried_reply, due_segment}
+use Rattle.host.specs.Carried.{Carried, carried, carried_by, carried_for, carried_reply}
 use Rattle.host.specs.Emission as host_emission
 use Rattle.host.specs.Emission.{Emission, Replies, Sends, Asks, Nothing, emission, emission_octets, after_emission, goes_out_from}
 use Rattle.host.specs.HostView.{HostView}
@@ -74,6 +74,7 @@ use Rattle.wire_sim.proofs.two_ends.Travels.{found_once}
 use Rattle.wire_sim.proofs.two_ends.UnderIds.{sole_id, connection_then}
 use Rattle.settling_law.specs.Settling.{is_theirs, speaks, is_reset, resets}
 use Rattle.settling_law.proofs.Frames.{Says, IsForeign, same_entry}
+use Rattle.settling_law.proofs.Speaking.{between, carries as entry_carries, carries_segment, from, lies}
 
 -- A segment of the connection goes out, or none of it does.
 pub data GoesOut (w u : WorldView) (side : Side) (index : ℕ) (v next : View) : Type 0 where
@@ -81,7 +82,7 @@ pub data GoesOut (w u : WorldView) (side : Side) (index : ℕ) (v next : View) :
   silent : speaks (pair_of v.local v.peer) w side ≡ false → next ≡ v → IsForeign u index (pair_of v.local v.peer) → GoesOut w u side index v next
 
 -- the host that is put into a network stands there
-put : (n : NetworkView) (side : Side) (h : HostView) (frames : List Frame) → host_of (let m = with_host n side h in record m { frames = frames }) side ≡ h
+pub put : (n : NetworkView) (side : Side) (h : HostView) (frames : List Frame) → host_of (let m = with_host n side h in record m { frames = frames }) side ≡ h
 put n A h frames = refl
 put n B h frames = refl
 
@@ -168,11 +169,6 @@ module _ (limit : ℕ) (w u : WorldView) (side : Side) (index len : ℕ) (id : S
     is_next : is_next_out h.sockets goes (connected id v l) ≡ (e.id.0 == id.0)
     is_next = rw found refl
 
-    carries : (role : Role) → e.role ≡ role → carried h now ≡ option_map (λ segment. record { mac = mac; to = to; segment = segment }) (due_segment role)
-    carries role at =
-        let made : Segment → Carried = λ s. record { mac = mac; to = to; segment = s } in
-        ap (carried_by h moment) is ∙ (ap (λ (o : Option Entry). option_map made (option_and_then (λ (x : Entry). due_segment x.role) o)) found ∙ ap (λ (r : Role). option_map made (due_segment r)) at)
-
     -- what is left of the connection
     table : (let k = after_emission h now in k.sockets) ≡ after_event h.sockets (Emits goes moment)
     table = ap (λ (x : Emission). let k = host_emission.left_by h moment x in k.sockets) is
@@ -210,32 +206,27 @@ module _ (limit : ℕ) (w u : WorldView) (side : Side) (index len : ℕ) (id : S
       abbrev sent : Carried
       sent = record { mac = mac; to = to; segment = segment }
 
-      carries_segment : carried h now ≡ Some sent
-      carries_segment =
-          let made : Segment → Carried = λ s. record { mac = mac; to = to; segment = s } in
-          carries (Connected c listener) role ∙ ap (λ (d : Option Due). option_map made (option_map (λ (x : Due). sent_segment (head_of c x) (octets_of c x)) d)) due_first
+      carries : carried h now ≡ Some sent
+      carries = carries_segment w side mac to is e found c listener due role due_first
 
       solid : IsSoundConnection c
       solid = let t = sound.table in subst IsSoundRole role (All-find (λ (x : Entry). IsSoundRole x.role) (in_turn h.sockets (sends goes)) h.sockets.entries e t.entries found)
 
-      lies : LiesAt h.sockets.addr (Connected c listener)
-      lies = subst (LiesAt h.sockets.addr) role (All-find (λ (x : Entry). LiesAt h.sockets.addr x.role) (in_turn h.sockets (sends goes)) h.sockets.entries e ordered.own found)
+      own_end : h.interface.addr ≡ c.local.addr
+      own_end = from w side mac to is e found c listener due role due_first sound ordered is_to
 
-      from : h.interface.addr ≡ c.local.addr
-      from = sound.own ∙ sym lies.0
-
-      between : pair_between h.interface.addr to segment ≡ pair_of c.local c.peer
-      between = ap (λ y. pair_between h.interface.addr y segment) is_to ∙ ap (λ x. pair_between x c.peer.addr segment) from
+      its_ends : pair_between h.interface.addr to segment ≡ pair_of c.local c.peer
+      its_ends = between w side mac to is e found c listener due role due_first sound ordered is_to
 
       says_own : Says u index c.local c.peer segment
       says_own =
-          let s : IsCarried h.interface.addr (emission_octets h now) _ sent = carried-sent h now sent sound ordered carries_segment in
+          let s : IsCarried h.interface.addr (emission_octets h now) _ sent = carried-sent h now sent sound ordered carries in
           record {
             f = emits.frame;
             there = first;
             c = sent;
             is = refl;
-            said = λ mac ours. ap (heard mac ours) emits.octets ∙ (s.said mac ours ∙ ap (λ (a : Addr). heard_as (segment_from a sent) mac ours) from);
+            said = λ mac ours. ap (heard mac ours) emits.octets ∙ (s.said mac ours ∙ ap (λ (a : Addr). heard_as (segment_from a sent) mac ours) own_end);
             source = refl;
             destination = refl;
           }
@@ -256,10 +247,10 @@ module _ (limit : ℕ) (w u : WorldView) (side : Side) (index len : ℕ) (id : S
         where
           clashes : speaks pair w side ≡ true → ⊥
           clashes spoken =
-              let its : same_pair (pair_between h.interface.addr to segment) pair ≡ true = sym (ap (is_theirs pair w side) carries_segment) ∙ spoken in
-              elim (same_ends c.local c.peer v.local v.peer (sym between ∙ same_pair-true (pair_between h.interface.addr to segment) pair its)) [
+              let its : same_pair (pair_between h.interface.addr to segment) pair ≡ true = sym (ap (is_theirs pair w side) carries) ∙ spoken in
+              elim (same_ends c.local c.peer v.local v.peer (sym its_ends ∙ same_pair-true (pair_between h.interface.addr to segment) pair its)) [
                 | inl same ↦
-                    let plain : (let f = flags_of c due in f.rst) ≡ false = sym (ap is_reset carries_segment) ∙ unreset spoken in
+                    let plain : (let f = flags_of c due in f.rst) ≡ false = sym (ap is_reset carries) ∙ unreset spoken in
                     let alive = unclosed_goes c due solid.sound (due-may c due solid.sound due_first) plain in
                     let both : is_between v.local v.peer e ≡ true =
                     ap (λ (r : Role). is_live_between v.local v.peer r) role
@@ -276,7 +267,7 @@ module _ (limit : ℕ) (w u : WorldView) (side : Side) (index len : ℕ) (id : S
                     cc
                 | inr crossed ↦
                     let far = (All-find (λ (x : Entry). LiesAt h.sockets.addr x.role) (has_id id) h.sockets.entries (connected id v l) ordered.own has).1 in
-                    let same : v.peer.addr ≡ h.sockets.addr = ap (λ (x : Endpoint). x.addr) (sym crossed.0) ∙ lies.0 in
+                    let same : v.peer.addr ≡ h.sockets.addr = ap (λ (x : Endpoint). x.addr) (sym crossed.0) ∙ (lies w side mac to is e found c listener due role due_first sound ordered is_to).0 in
                     let bad : true ≡ false = sym (same_addr-same v.peer.addr h.sockets.addr same) ∙ far in
                     cc
               ]
@@ -289,7 +280,7 @@ module _ (limit : ℕ) (w u : WorldView) (side : Side) (index len : ℕ) (id : S
     of_socket bound socket role =
         by_test (e.id.0 == id.0)
         (λ yes. let bad : Datagrams bound socket ≡ Connected v l = sym role ∙ ap (λ (x : Entry). x.role) (itself yes) in cc)
-        (λ no. quiet (ap (is_theirs pair w side) (carries (Datagrams bound socket) role)) (another no))
+        (λ no. quiet (ap (is_theirs pair w side) (entry_carries w side mac to is e found (Datagrams bound socket) role)) (another no))
 
   of_emission : (x : Emission) → emission h moment ≡ x → (speaks pair w side ≡ true → resets w side ≡ false) → GoesOut w u side index v next
   of_emission (Replies place) is unreset =

@@ -1,5 +1,12 @@
 pub mod Frames
+pub mod Speaking
 pub mod GoingOut
 pub mod Coming
 pub mod Along
 pub mod Silent
+pub mod Left
+pub mod Drawn
+pub mod Loads
+pub mod Arriving
+pub mod Every
+pub mod Whole

@@ -10,7 +10,7 @@ use Rattle.silence_law.proofs.Silent.{within_turned, most_of, at_first}
 use Rattle.sides.specs.declared.side.Side.{Side}
 use Rattle.sides.specs.declared.side.Side.TheVariants.{A, B}
 use Rattle.sides.specs.Sides.{other_side}
-use Rattle.wire_sim.specs.Runs.{IsReached, goes_on as reached_on}
+use Rattle.wire_sim.specs.Runs.{IsReached, begins, goes_on as reached_on}
 use Rattle.wire_sim.specs.TwoEnds.{AreJoined}
 use Rattle.wire_sim.specs.WorldView.{WorldView, host_of}
 use Rattle.wire_sim.proofs.HostsRun.{frames-stay}
@@ -20,13 +20,13 @@ use Rattle.settling_law.specs.Settling.{Course, turned, still, Happens, here, th
 use Rattle.settling_law.proofs.Along.{Two, Stands, Leaves, nothing_happens, happens_there}
 use Rattle.settling_law.proofs.Frames.{nothing, same_entry, on_way_still}
 
-joined_two : (w : WorldView) (side : Side) (id other : SocketId) (v d : View) → AreJoined w side id other v d → Two w side (other_side side) id other v d
+pub joined_two : (w : WorldView) (side : Side) (id other : SocketId) (v d : View) → AreJoined w side id other v d → Two w side (other_side side) id other v d
 joined_two w side id other v d j = record { listener = j.listener; other_listener = j.other_listener; here = j.here; there = j.there; opened = j.opened; other_opened = j.other_opened }
 
-two_turned : (w : WorldView) (hs ts : Side) (id other : SocketId) (v d : View) → Two w hs ts id other v d → Two w ts hs other id d v
+pub two_turned : (w : WorldView) (hs ts : Side) (id other : SocketId) (v d : View) → Two w hs ts id other v d → Two w ts hs other id d v
 two_turned w hs ts id other v d t = record { listener = t.other_listener; other_listener = t.listener; here = t.there; there = t.here; opened = t.other_opened; other_opened = t.opened }
 
-stands_turned : (limit : ℕ) (hs ts : Side) (id other : SocketId) (pair : Pair) (local peer : Endpoint) (c : Course) (v d : View) (left : ℕ) → Stands limit hs ts id other pair local peer c v d left → Stands limit ts hs other id pair peer local (turned c) d v left
+pub stands_turned : (limit : ℕ) (hs ts : Side) (id other : SocketId) (pair : Pair) (local peer : Endpoint) (c : Course) (v d : View) (left : ℕ) → Stands limit hs ts id other pair local peer c v d left → Stands limit ts hs other id pair peer local (turned c) d v left
 stands_turned limit hs ts id other pair local peer c v d left st = record {
   reached = st.reached;
   two = two_turned c.world hs ts id other v d st.two;
@@ -42,7 +42,7 @@ stands_turned limit hs ts id other pair local peer c v d left st = record {
 }
 
 -- of the two sides each is the other's other one
-back : (side : Side) → side ≡ other_side (other_side side)
+pub back : (side : Side) → side ≡ other_side (other_side side)
 back A = refl
 back B = refl
 
@@ -75,23 +75,33 @@ module _ (limit : ℕ) (some : 0 < limit) (small : limit ≤ 2 ^ 30) (side : Sid
       let fewer = l.fewer in
       omega (arith, then, fewer)
 
-pub fall_silent : (limit : ℕ) → 0 < limit → (w : WorldView) → IsReached limit w → (side : Side) → AreSound w side → (id other : SocketId) (v d : View) → AreJoined w side id other v d → FallsSilent w side id other (pair_of v.local v.peer)
-fall_silent limit some w reached side sound id other v d j =
+-- At first nothing is on its way.
+pub stands_first : (limit : ℕ) → 0 < limit → (w : WorldView) → IsReached limit w → (side : Side) → AreSound w side → (id other : SocketId) (v d : View) → AreJoined w side id other v d
+    → Stands limit side (other_side side) id other (pair_of v.local v.peer) v.local v.peer (still w) v d (most_of v d)
+stands_first limit some w reached side sound id other v d j =
     let t = talked limit w reached side id other v d j in
     let near = sound_under (host_of w.network side) id v j.listener sound.near j.here in
-    let far = sound_under (host_of w.network (other_side side)) other d j.other_listener sound.far j.there in (
-      most_of v d,
-      λ count e run. no_more limit some t.small side id other (pair_of v.local v.peer) v.local v.peer refl count (still w) e run v d (most_of v d) (record {
-        reached = reached;
-        two = joined_two w side id other v d j;
-        local_here = refl;
-        peer_here = refl;
-        local_there = j.ends.local;
-        peer_there = j.ends.peer;
-        to_far = [];
-        to_near = [];
-        out = nothing;
-        back = nothing;
-        within = at_first limit t.p t.talks v d t.own t.other j.opened j.other_opened near far;
-      }),
-    )
+    let far = sound_under (host_of w.network (other_side side)) other d j.other_listener sound.far j.there in record {
+      reached = reached;
+      two = joined_two w side id other v d j;
+      local_here = refl;
+      peer_here = refl;
+      local_there = j.ends.local;
+      peer_there = j.ends.peer;
+      to_far = [];
+      to_near = [];
+      out = nothing;
+      back = nothing;
+      within = at_first limit t.p t.talks v d t.own t.other j.opened j.other_opened near far;
+    }
+
+-- no run writes as much as numbers go round in
+pub limit_small : (limit : ℕ) (w : WorldView) → IsReached limit w → limit ≤ 2 ^ 30
+limit_small limit _ (begins a b sound_a sound_b apart small) = small
+limit_small limit _ (reached_on w v happens answer reached step) = limit_small limit w reached
+
+pub fall_silent : (limit : ℕ) → 0 < limit → (w : WorldView) → IsReached limit w → (side : Side) → AreSound w side → (id other : SocketId) (v d : View) → AreJoined w side id other v d → FallsSilent w side id other (pair_of v.local v.peer)
+fall_silent limit some w reached side sound id other v d j = (
+  most_of v d,
+  λ count e run. no_more limit some (limit_small limit w reached) side id other (pair_of v.local v.peer) v.local v.peer refl count (still w) e run v d (most_of v d) (stands_first limit some w reached side sound id other v d j),
+)

@@ -60,7 +60,7 @@ LeadsBy c other to = next_hop c.routes to ≡ Some other.addr
 -- What goes out.
 
 -- a way to a MAC is one to that of the next hop
-way-known : (i : InterfaceView) (now : Moment) (to : Addr) (mac : Mac) → way i now to ≡ To mac → hop_mac i now to ≡ Some mac
+pub way-known : (i : InterfaceView) (now : Moment) (to : Addr) (mac : Mac) → way i now to ≡ To mac → hop_mac i now to ≡ Some mac
 way-known i now to mac = by_hop (next_hop i.routes to)
   where
     by_ask : (hop : Addr) (b : Bool) → (if b then Ask hop else Waits) ≡ To mac → ⊥
