@@ -13,6 +13,8 @@ pub mod Edge
 pub mod Found
 pub mod First
 pub mod Quiet
+pub mod Repeated
+pub mod Fitting
 pub mod Reader
 pub mod Begun
 pub mod Moves

@@ -6,7 +6,6 @@ use Rattle.clock.specs.declared.moment.Moment.{Moment}
 use Rattle.ether.specs.declared.mac.Mac.{Mac}
 use Rattle.ipv4.specs.declared.addr.Addr.{Addr}
 use Rattle.ipv4.specs.declared.addr.Endpoint.{Endpoint}
-use Rattle.tcp_segment.specs.declared.TheConstants.{MSS}
 use Rattle.tcp_segment.specs.Segment.{Segment}
 use Rattle.frames.specs.Meaning.{heard}
 use Rattle.interface.specs.Strangers.{is_no_host}
@@ -33,10 +32,11 @@ use Rattle.tcp_halves.specs.declared.buffers.Manner.{Manner}
 use Rattle.host.specs.Heard.{shuts_out}
 use Rattle.host.specs.HostView.{HostView}
 use Rattle.round_law.specs.Exchange.{Hosts, IsExchange, after_minute, minute_past}
-use Rattle.round_law.specs.Progress.{Meet, MayMove, HasMoved}
+use Rattle.round_law.specs.Progress.{Meet, Fits, MayMove, HasMoved}
 use Rattle.round_law.proofs.Begun.{minute_rests, minute_leaves, meet_later, view_later, Begins, begins}
 use Rattle.interface.specs.declared.reply.Waiting.{Waiting}
 use Rattle.round_law.proofs.First.{Ends, first_comes}
+use Rattle.round_law.proofs.Fitting.{first_fits}
 use Rattle.round_law.proofs.Reports.{IsReport}
 use Rattle.round_law.proofs.Found.{alone_there, named_there}
 use Rattle.round_law.proofs.Plain.{IsPlain}
@@ -149,8 +149,11 @@ module _ (old new : Hosts) (writer_id reader_id : SocketId) (v d : View) (may : 
   abbrev first_taker : IsTaker g e reader_id g e
   first_taker = takes_first g e reader_id reader.alone
 
+  fits : Fits w.sending e.receiving
+  fits = subst (λ (t : Sending). Fits t e.receiving) (sym writer.streams.0) (subst (λ (r : Receiving). Fits v.sending r) (sym reader.streams.1) may.fits)
+
   -- with the oldest octet first
-  oldest_first : MSS ≤ receive_window d.receiving → (due : Due) → first_due w ≡ Some due → BringsOldest w (segment_of w due) → Read
+  oldest_first : 0 < receive_window d.receiving → (due : Due) → first_due w ≡ Some due → BringsOldest w (segment_of w due) → Read
   oldest_first room due first brings =
       let x = first_comes h w writer_id mac_of_reader writer.leads writer.other past unshut g e reader_id reader.own at_writer local peer state.past state.unshut lets (sym reader.own_mac) at_reader due first frames h g exchange.between.writer exchange.between.reader 0 first_sender first_taker
       (omega (arith, writer.few)) said exchange.bringing.out exchange.bringing.brought (subst (λ n. Ends n exchange.between.writer) (omega arith) exchange.bringing.ends) in
@@ -163,11 +166,12 @@ module _ (old new : Hosts) (writer_id reader_id : SocketId) (v d : View) (may : 
       let taker = takes_on g e reader_id w h.interface.addr reader.own at_writer local peer state.past state.unshut lets x.to e x.octets x.taken x.taker x.brought it in
       let sound = own_sound x.to reader_id e x.brought.0 x.taker.alone in
       let lives = taker.alone.lives in
-      let room_then : MSS ≤ receive_window e.receiving = subst (λ (r : Receiving). MSS ≤ receive_window r) (sym reader.streams.1) room in
+      let sound_writer = own_sound x.from writer_id w x.out.kept x.sender.alone in
+      let room_then : 0 < receive_window e.receiving = subst (λ (r : Receiving). 0 < receive_window r) (sym reader.streams.1) room in
       let still = stands_still e meet.una meet.next e s now sound reader.alone.called state.past plain.ordinary.no_rst plain.no_fin lives (meet.held, refl) in
       let shown : now ≡ g.sockets.kept = kept_later x.to.sockets ∙ x.taker.host.moment in
       let free : holds_back e s now ≡ false = ap (λ m. draws_one e s && is_spent e.guard m) shown ∙ (ap (λ u. draws_one e s && u) reader.rested ∙ and_false (draws_one e s)) in
-      let come = oldest_comes w e s now meet (own_sound x.from writer_id w x.out.kept x.sender.alone) sound reader.alone.called state brings plain.no_fin (own_edge x.to reader_id e x.brought.0 x.taker.alone) room_then free lives in
+      let come = oldest_comes w e s now meet sound_writer sound reader.alone.called state brings plain.no_fin (own_edge x.to reader_id e x.brought.0 x.taker.alone) (first_fits w e meet fits sound_writer writer.alone.lives room_then due first) free lives in
       all_taken g e reader_id w h.interface.addr reader.own at_writer local peer state.past state.unshut lets Q keeps x.rest x.taken (after_event e (Event.Hears s now)) exchange.between.reader x.all taker (still, come) x.more
 
   read : Read

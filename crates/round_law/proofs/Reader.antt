@@ -3,7 +3,6 @@ use Rattle.std.proofs.Common.{◌≡◌, ◌⊎◌, ℕ, zero, suc, ◌+◌, ◌
 use Rattle.std.proofs.lemmas.Bool.{le-ltb, le-leb}
 use Rattle.std.proofs.lemmas.Bool.Decides.{leb_tells}
 use Rattle.clock.specs.declared.moment.Moment.{Moment}
-use Rattle.tcp_segment.specs.declared.TheConstants.{MSS}
 use Rattle.tcp_segment.specs.Segment.{Segment, bit, span_of}
 use Rattle.tcp_segment.specs.Wire.{wire, past}
 use Rattle.tcp_halves.specs.Halves.{Receiving}
@@ -19,9 +18,10 @@ use Rattle.tcp_state.specs.Progress.{IsOrdinary, BringsOldest}
 use Rattle.tcp_state.proofs.Fewer.{fewer_held}
 use Rattle.tcp_state.proofs.Ordinary.{leaves_end, leaves_front}
 use Rattle.tcp_state.proofs.OwedAlone.{none_out}
-use Rattle.tcp_state.proofs.TakenOrAnswered.{more_read, answered_at_once}
+use Rattle.tcp_state.proofs.TakenOrAnswered.{more_read}
 use Rattle.round_law.specs.Progress.{Meet}
 use Rattle.round_law.proofs.HeardOn.{heard_leaves, none_came}
+use Rattle.round_law.proofs.Repeated.{repeats_answered}
 
 -- The states.
 
@@ -99,7 +99,7 @@ few_out w sound =
     omega (arith, sound.flight, one_at_most (takes_flag_number w.state), sound.held, at_most (is_opening w.state || is_write_finished w.state) w.sending.size, sound.terms.send_size)
 
 module _ (w e : View) (s : Segment) (now : Moment) (meet : Meet w e) (sound_far : IsSound w) (sound : IsSound e) (called : e.released ≡ false) (state : Receives e.state) (oldest : BringsOldest w s) (no_fin : s.flags.fin ≡ false)
-    (edge : e.receiving.edge < 2 ^ 32) (room : MSS ≤ receive_window e.receiving) (free : holds_back e s now ≡ false) (lives : is_closed (after_event e (Event.Hears s now)).state ≡ false) where
+    (edge : e.receiving.edge < 2 ^ 32) (room : meet.una ≡ meet.next → length s.octets ≤ receive_window e.receiving) (free : holds_back e s now ≡ false) (lives : is_closed (after_event e (Event.Hears s now)).state ≡ false) where
   abbrev at : Places
   at = record { own = e.sending.una; una = 0; ack = 0; peer = meet.initial; next = meet.next; edge = meet.next + receive_window e.receiving; first = meet.una }
 
@@ -138,12 +138,14 @@ module _ (w e : View) (s : Segment) (now : Moment) (meet : Meet w e) (sound_far 
           let long : length e.receiving.readable ≡ length (x ∷ xs) = ap length some in
           has_come_on e meet.una meet.next e s now sound called state.past oldest.ordinary.no_rst no_fin lives (inl (omega (arith, long)))
       by_readable [] empty =
-          elim (leb_tells (meet.una + length s.octets) meet.next) [
-            | inl old ↦ owed_or_read e meet.una meet.next e s now sound called state.past oldest.ordinary.no_rst no_fin lives refl
-                (answered_at_once at e s now sound stands state.receives oldest.ordinary (omega arith) oldest.some old.1 free) (omega (arith, old.1, oldest.some))
-            | inr new ↦
-                let grows = more_read at e s now sound stands called state.receives oldest.ordinary (omega arith) young meet.behind (omega (arith, short, room)) new.1 in
+          elim (leb_tells meet.next meet.una) [
+            | inl all ↦
+                let first : meet.una ≡ meet.next = omega (arith, all.1, meet.behind) in
+                let fits = room first in
+                let grows = more_read at e s now sound stands called state.receives oldest.ordinary (omega arith) young meet.behind (omega (arith, fits)) (omega (arith, first, oldest.some)) in
                 inl (omega (arith, grows))
+            | inr some ↦ owed_or_read e meet.una meet.next e s now sound called state.past oldest.ordinary.no_rst no_fin lives refl
+                (repeats_answered at e s now sound stands state.receives oldest.ordinary (omega arith) young oldest.some some.1 lives free) some.1
           ]
 
 -- The answer.

@@ -4,8 +4,7 @@ use Rattle.std.specs.List.{AllByRecursion}
 use Rattle.clock.specs.declared.moment.Moment.{Moment}
 use Rattle.ether.specs.declared.mac.Mac.{Mac}
 use Rattle.ipv4.specs.declared.addr.Addr.{Addr}
-use Rattle.tcp_segment.specs.declared.TheConstants.{MSS}
-use Rattle.tcp_segment.specs.Wire.{wire}
+use Rattle.tcp_segment.specs.Wire.{wire, past}
 use Rattle.arp.specs.declared.entry.Neighbour.{Neighbour}
 use Rattle.arp.specs.Cache.{is_pair_of}
 use Rattle.interface.specs.InterfaceView.{InterfaceView}
@@ -13,6 +12,8 @@ use Rattle.interface.specs.Routing.{next_hop}
 use Rattle.interface.specs.Ways.{hop_mac}
 use Rattle.reassembly.specs.declared.expired.Expired.{Expired}
 use Rattle.reassembly.specs.Places.{expired}
+use Rattle.tcp_halves.specs.Halves.{Sending, Receiving}
+use Rattle.tcp_halves.specs.Heard.{settled}
 use Rattle.tcp_halves.specs.Stream.{outstanding, receive_window}
 use Rattle.tcp_state.specs.declared.state.State.TheVariants.{Established, FinWait2, CloseWait}
 use Rattle.tcp_state.specs.View.{View, is_closed}
@@ -64,9 +65,14 @@ pub record Meet (v d : View) : Type 0 where
   pub held : d.sending.held ≡ []
   pub answered : v.receiving.rnext ≡ d.sending.nxt
 
--- What is asked of two hosts and of the connections of two of their sockets, the writer's and the reader's: their hosts are quiet but for them, and they are each other's ends. The one sends, the other receives, and they meet in both streams. The writer's
--- timers expired under 12 times since the last progress, and where one asks a silent peer whether it is there, it did so under 12 times since that last said something. There are octets to be read; or some are held yet, and the window that the reader told takes a segment (a reader that has read all leaves one, by
--- `quiet_readers_have_told_their_room` of `tcp_state`).
+-- What the one half may send fits the window of the other: SND.UNA + SND.WND, and all that went out but for a number that only a probe of a closed window took, lie at RCV.NXT + RCV.WND there or before it.
+pub record Fits (s : Sending) (r : Receiving) : Type 0 where
+  pub window : s.window ≤ past r.rnext s.una + receive_window r
+  pub sent : settled s ≤ past r.rnext s.una + receive_window r
+
+-- What is asked of two hosts and of the connections of two of their sockets, the writer's and the reader's: their hosts are quiet but for them, and they are each other's ends. The one sends, the other receives, they meet in both streams, and what the
+-- one may send fits the other's window. The writer's timers expired under 12 times since the last progress, and where one asks a silent peer whether it is there, it did so under 12 times since that last said something. There are octets to be read; or
+-- some are held yet, and the window that the reader told isn't closed.
 pub record MayMove (p : Hosts) (writer_id reader_id : SocketId) (v d : View) : Type 0 where
   pub writer : IsQuiet p.writer writer_id v p.reader.interface.mac
   pub reader : IsQuiet p.reader reader_id d p.writer.interface.mac
@@ -75,9 +81,10 @@ pub record MayMove (p : Hosts) (writer_id reader_id : SocketId) (v d : View) : T
   pub sends : (v.state ≡ Established) ⊎ (v.state ≡ CloseWait)
   pub receives : (d.state ≡ Established) ⊎ (d.state ≡ FinWait2)
   pub meet : Meet v d
+  pub fits : Fits v.sending d.receiving
   pub few : v.resend.expiries < 12
   pub patient : IsPatient v × IsPatient d
-  pub some : (0 < length d.receiving.readable) ⊎ ((0 < length v.sending.held) × (MSS ≤ receive_window d.receiving))
+  pub some : (0 < length d.receiving.readable) ⊎ ((0 < length v.sending.held) × (0 < receive_window d.receiving))
 
 -- What is promised: both sockets have their connections yet, in the states in which they were, so neither is CLOSED; and there are octets to be read, or fewer are held than before.
 pub record HasMoved (p : Hosts) (writer_id reader_id : SocketId) (v d : View) : Type 0 where

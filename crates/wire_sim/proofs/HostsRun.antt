@@ -1,10 +1,6 @@
 -- Why each host of a world is one that events of its own lead to.
 use Rattle.host.proofs.Ran.{set_up-stays}
-use Rattle.sockets.specs.declared.sizes.Sizes.{Sizes as TableSizes}
-use Rattle.tcp_halves.specs.Halves.{Room}
-use Rattle.tcp_halves.specs.Stream.{size_of}
-use Rattle.tcp_segment.specs.declared.TheConstants.{MSS}
-use Rattle.std.proofs.Common.{◌≡◌, ◌⊎◌, inl, inr, ◌≢◌, ℕ, zero, suc, ◌==◌, ◌<◌, ◌≤◌, ◌^◌, ◌++◌, ◌∷◌, [], List, Contains, length, slice_get, Bool, true, false, Option, Some, None, Result, Ok, Err, is_ok, arith, refl, sym, ◌∙◌, ap, subst, ◌*◌}
+use Rattle.std.proofs.Common.{◌≡◌, ◌⊎◌, inl, inr, ◌≢◌, ℕ, zero, suc, ◌==◌, ◌<◌, ◌≤◌, ◌^◌, ◌++◌, ◌∷◌, [], List, Contains, length, slice_get, Bool, true, false, Option, Some, None, Result, Ok, Err, is_ok, arith, refl, sym, ◌∙◌, ap, subst}
 use Rattle.std.specs.List.{AllByRecursion}
 use Rattle.std.proofs.lemmas.Bool.{eqb-true}
 use Rattle.std.proofs.lemmas.List.Elements.{Contains-append_left, Contains-append_right, Contains-append_cases}
@@ -40,23 +36,20 @@ use Rattle.sockets.specs.Order.{IsAllowed}
 use Rattle.sockets.specs.Ids.{has_id}
 use Rattle.sockets.specs.SocketsView.{SocketsView, room_of}
 use Rattle.sockets.specs.Timing as timing
-use Rattle.sockets.specs.Leaving as leaving
-use Rattle.sockets.specs.Leaving.{EachLeavesAWindow}
 use Rattle.sockets.specs.Timing.{AreNear, IsNearIn}
 use Rattle.sockets.proofs.Followed.{some_same}
-use Rattle.sockets.proofs.Leaving.{room_wide, fresh_leaves, socket_leaves}
 use Rattle.sockets.proofs.Near.{fresh_near, deadline_near, deadline_in_a_day}
 use Rattle.sockets.proofs.Telling.{socket_told, role_tells}
 use Rattle.host.specs.Emission.{after_emission, emission_octets}
 use Rattle.host.specs.HostView.{HostView, new_host, sizes_of}
-use Rattle.host.specs.Runs.{Event as HostEvent, Calls, Ticks, Delivers, Emits, IsCall, IsAsked, IsNumbered, IsUpTo, IsSized, Makes, Runs, Begins, GoesOn}
+use Rattle.host.specs.Runs.{Event as HostEvent, Calls, Ticks, Delivers, Emits, IsCall, IsAsked, IsNumbered, IsUpTo, Makes, Runs, Begins, GoesOn}
 use Rattle.host.specs.Sound.{IsSoundHost}
 use Rattle.host.specs.ConfigView.{ConfigView}
 use Rattle.routes.specs.declared.route.Route.{Route}
 use Rattle.host.specs.Runs as host_runs
 use Rattle.host.proofs.Causes.{all-behind, run-stands}
 use Rattle.host.proofs.Messages.{request-there, cause-there}
-use Rattle.host.proofs.Tables.{event-near, event-leaves, event-tells, event-given, run-reached, run-ordered, run-over, run-timed}
+use Rattle.host.proofs.Tables.{event-near, event-tells, event-given, run-reached, run-ordered, run-over, run-timed}
 use Rattle.sides.specs.declared.side.Side.{Side}
 use Rattle.sides.specs.declared.side.Side.TheVariants.{A, B}
 use Rattle.sides.specs.Sides.{other_side}
@@ -74,12 +67,11 @@ use Rattle.wire_sim.specs.HostRuns.{WasDelivered, AreTraced, HasRun, EveryHostRu
 use Rattle.wire_sim.specs.Runs as world
 use Rattle.wire_sim.specs.Runs.{IsReached, begins, goes_on, IsStep, IsNumberedCall, IsOutcome, RunsTo}
 use Rattle.wire_sim.specs.Steps.{Answers, MeetsSocket, recv_len, MeetsReceived, MeetsReceivedFrom, MeetsCall, HostMeetsCall, with_host, station_after_tick, MeetsFrame, DeliversFrame, EmitsFrame, MeetsEmission, Steps}
-use Rattle.wire_sim.specs.Windows.{QuietReadersLeaveAWindow}
 use Rattle.wire_sim.specs.WorldView.{NetworkView, WorldView, station_of, host_of, table_of, clock_of}
 use Rattle.wire_sim.proofs.fairness.NotesAreTraced.{frames-step, got-still, got-last}
 use Rattle.host.specs.declared.sizes.Sizes.{Sizes}
 use Rattle.host.proofs.Causes.{run-stands}
-use Rattle.host.proofs.Tables.{run-manner, sizes-kept}
+use Rattle.host.proofs.Tables.{run-manner}
 use Rattle.wire_sim.proofs.passage.HostsStay.{run-stays}
 use Rattle.wire_sim.proofs.openings.HoldingsAreNoted.{other-stays, side_of}
 use Rattle.wire_sim.proofs.runs.ClocksGoOn.{clock-goes-on, tick-told}
@@ -354,39 +346,6 @@ tables-near limit _ (goes_on w v happens answer reached step) side =
     by_move : AreNear (clock_of v.network side) (table_of w.network side) → IsMoved w.network (clock_of v.network side) side happens (host_of w.network side) (host_of v.network side) → AreNear (clock_of v.network side) (table_of v.network side)
     by_move before (inl same) = subst (λ (h : HostView). AreNear (clock_of v.network side) h.sockets) (sym same) before
     by_move before (inr (e, numbered, makes, brings, up, own)) = event-near e (host_of w.network side) (host_of v.network side) (clock_of v.network side) (sound-at w v step side) numbered up makes before
-
--- a socket that a call makes has room for three segments where the host's buffers have
-call-sized : (routes : List Route) (h : SocketsView) (e : table.Event) → 3 * MSS ≤ h.sizes.buffer → IsAllowed h e → IsCall routes e → leaving.IsSized e
-call-sized routes h (table.Makes buffers) wide allowed own = subst (λ (r : Room). 3 * MSS ≤ size_of r) (sym allowed.1) (room_wide h.sizes.buffer h.manner wide)
-call-sized routes h (table.Hears now isn source s) wide allowed own = absurd own
-call-sized routes h _ wide allowed own = tt
-
-own-sized : (routes : List Route) (e : HostEvent) (old new : HostView) → 3 * MSS ≤ old.sockets.sizes.buffer → Makes e old new → IsOwnCall routes e → IsSized e
-own-sized routes (Calls e) old new wide makes own = call-sized routes old.sockets e wide makes.0 own
-own-sized routes (Ticks now) old new wide makes own = tt
-own-sized routes (Delivers now isn octets) old new wide makes own = tt
-own-sized routes (Emits now) old new wide makes own = tt
-
--- each connection leaves its peer a window, where its host's buffers have room for three segments
-pub tables-leave : (limit : ℕ) (w : WorldView) → IsReached limit w → (side : Side) → 3 * MSS ≤ (let t = table_of w.network side in t.sizes.buffer) → EachLeavesAWindow (table_of w.network side)
-tables-leave limit w (begins a b a_is b_is apart small) A wide = let h = new_host a in fresh_leaves a.addr a.manner h.sockets.sizes
-tables-leave limit w (begins a b a_is b_is apart small) B wide = let h = new_host b in fresh_leaves b.addr b.manner h.sockets.sizes
-tables-leave limit _ (goes_on w v happens answer reached step) side wide = by_move (λ was. tables-leave limit w reached side was) (moved w v happens answer step side)
-  where
-    old : HostView
-    old = host_of w.network side
-
-    new : HostView
-    new = host_of v.network side
-
-    by_move : (3 * MSS ≤ old.sockets.sizes.buffer → EachLeavesAWindow old.sockets) → IsMoved w.network (clock_of v.network side) side happens old new → EachLeavesAWindow new.sockets
-    by_move before (inl same) = subst (λ (h : HostView). EachLeavesAWindow h.sockets) (sym same) (before (subst (λ (h : HostView). 3 * MSS ≤ h.sockets.sizes.buffer) same wide))
-    by_move before (inr (e, numbered, makes, brings, up, own)) =
-        let was : 3 * MSS ≤ old.sockets.sizes.buffer = subst (λ (s : TableSizes). 3 * MSS ≤ s.buffer) (sizes-kept e old new (sound-at w v step side) numbered makes) wide in
-        event-leaves e old new (sound-at w v step side) was numbered (own-sized _ e old new was makes own) makes (before was)
-
-pub quiet-leave : QuietReadersLeaveAWindow
-quiet-leave limit w reached side id c listener wide is opened none read = socket_leaves (table_of w.network side) id c listener (tables-leave limit w reached side wide) is opened none read
 
 pub tables-kept : EveryTableIsKept
 tables-kept limit w reached side =

@@ -1,9 +1,8 @@
 -- What is asked of a world so that a round moves data, and what is promised then.
-use Rattle.std.specs.Prelude.{◌≡◌, ◌⊎◌, ℕ, ◌+◌, ◌*◌, ◌^◌, ◌<◌, ◌≤◌, true, [], length, find, None, Some}
+use Rattle.std.specs.Prelude.{◌≡◌, ◌⊎◌, ℕ, ◌+◌, ◌^◌, ◌<◌, true, [], length, find, None, Some}
 use Rattle.std.specs.List.{AllByRecursion}
 use Rattle.arp.specs.declared.entry.Neighbour.{Neighbour}
 use Rattle.arp.specs.Cache.{is_pair_of}
-use Rattle.tcp_segment.specs.declared.TheConstants.{MSS}
 use Rattle.tcp_state.specs.declared.state.State.TheVariants.{Established, FinWait2, CloseWait}
 use Rattle.tcp_state.specs.View.{View, is_closed}
 use Rattle.tcp_state.specs.Alive.{IsPatient}
@@ -33,9 +32,8 @@ pub record IsQuiet (n : NetworkView) (side : Side) (id : SocketId) (c : View) : 
   pub early : (let now = clock_of n side in now.0 < 2 ^ 63)
 
 -- What is asked of a world and of the connections of two of its sockets, the writer's and the reader's: both hosts are quiet but for them, and they are each other's
--- ends. The one is in ESTABLISHED or CLOSE-WAIT, the other in ESTABLISHED or FIN-WAIT-2, and holds no octets of its own, and the buffers of its host have room for three segments. The writer's timers expired
--- under 12 times since the last progress, and where one asks a silent peer whether it is there, it did so under 12 times since that last said something. More was sent on the one socket
--- than was read on the other.
+-- ends. The one is in ESTABLISHED or CLOSE-WAIT, the other in ESTABLISHED or FIN-WAIT-2, and holds no octets of its own. The writer's timers expired under 12 times since the last progress, and where one asks a
+-- silent peer whether it is there, it did so under 12 times since that last said something. More was sent on the one socket than was read on the other.
 pub record MayMove (writer : Side) (writer_id reader_id : SocketId) (v d : View) (w : WorldView) : Type 0 where
   pub writes : IsQuiet w.network writer writer_id v
   pub reads : IsQuiet w.network (other_side writer) reader_id d
@@ -44,7 +42,6 @@ pub record MayMove (writer : Side) (writer_id reader_id : SocketId) (v d : View)
   pub sends : (v.state ≡ Established) ⊎ (v.state ≡ CloseWait)
   pub receives : (d.state ≡ Established) ⊎ (d.state ≡ FinWait2)
   pub acknowledged : d.sending.held ≡ []
-  pub roomy : (let t = table_of w.network (other_side writer) in 3 * MSS ≤ t.sizes.buffer)
   pub few : v.resend.expiries < 12
   pub patient : IsPatient v × IsPatient d
   pub unread : length (read_on (other_side writer) reader_id w.trace) < length (sent_on writer writer_id w.trace)

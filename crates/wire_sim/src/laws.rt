@@ -53,7 +53,7 @@ pub fn every_reader_reads()
 {}
 
 /// A round moves data (RFC 9293 sections 3.4, 3.8.1, 3.8.6 and 3.10): from a world in which nothing is due at either host and each has heard the other lately, two sockets are each other's ends and the only live connections, the reader holds no octets of
-/// its own and its host's buffers have room for three segments, the writer's timers expired under twelve times, and less was read than was written, more is read than before, or the writer holds fewer octets; and neither connection ends. So no host is safe by silence.
+/// its own, the writer's timers expired under twelve times, and less was read than was written, more is read than before, or the writer holds fewer octets; and neither connection ends: whatever the size of the buffers. So no host is safe by silence.
 pub fn every_round_moves_data()
     ensures { EveryRoundMovesData }
 {}
@@ -85,8 +85,8 @@ pub fn every_deadline_lies_near()
     ensures { EveryDeadlineLiesNear }
 {}
 
-/// An open connection of which nothing is due, and that has nothing to be read, leaves its peer a window of a segment at least (RFC 9293 sections 3.8.6.2.2 and 3.8.6.3), also before it has spoken, where the buffers of its host have room for three segments: whatever frame comes, what is heard of it has
-/// no more octets than a segment may have.
+/// An open connection of which nothing is due, and that has nothing to be read, leaves its peer a window of all that the buffers of its host hold, or of the 65,535 octets of it that 16 bits can tell, but for a segment (RFC 9293 sections 3.8.6.2.2 and 3.8.6.3), also before it has spoken.
+/// For whatever frame comes, what is heard of it has no more octets than a segment may have.
 pub fn quiet_readers_leave_a_window()
     ensures { QuietReadersLeaveAWindow }
 {}

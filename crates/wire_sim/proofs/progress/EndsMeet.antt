@@ -48,7 +48,7 @@ use Rattle.wire_sim.proofs.tables.TableById.{IsOpened, presence_in, end_with, en
 -- The end of a connection.
 
 -- the entry of a socket's connection
-socket-entry : (xs : List Entry) (id : SocketId) (r : Role) (o : Option Entry) → find (is_socket id) xs ≡ o → option_map (λ (e : Entry). e.role) o ≡ Some r → find (is_socket id) xs ≡ Some (record { id = id; role = r })
+pub socket-entry : (xs : List Entry) (id : SocketId) (r : Role) (o : Option Entry) → find (is_socket id) xs ≡ o → option_map (λ (e : Entry). e.role) o ≡ Some r → find (is_socket id) xs ≡ Some (record { id = id; role = r })
 socket-entry xs id r None at is = cc
 socket-entry xs id r (Some e) at is = let role : e.role ≡ r = cc in found_socket xs id e r at role
 

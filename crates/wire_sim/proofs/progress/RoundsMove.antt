@@ -1,16 +1,18 @@
 -- Why a round moves data: it is an exchange that moves some, and then the reader reads.
-use Rattle.std.proofs.Common.{◌≡◌, ◌⊎◌, inl, inr, ℕ, ◌+◌, ◌<◌, ◌≤◌, ◌||◌, false, List, [], ◌∷◌, length, Option, Some, None, arith, refl, sym, ◌∙◌, ap, subst}
+use Rattle.std.proofs.Common.{◌≡◌, ◌⊎◌, inl, inr, ℕ, ◌+◌, ◌<◌, ◌||◌, false, List, [], ◌∷◌, length, Option, Some, None, arith, refl, sym, ◌∙◌, ap, subst}
+use Rattle.std.specs.List.{find}
 use Rattle.ether.specs.declared.mac.Mac.{Mac}
 use Rattle.ipv4.specs.declared.addr.Endpoint.{Endpoint}
-use Rattle.tcp_segment.specs.declared.TheConstants.{MSS}
 use Rattle.tcp_halves.specs.Stream.{receive_window}
 use Rattle.tcp_state.specs.declared.emission.Due.{Due}
 use Rattle.tcp_state.specs.Due.{first_due}
 use Rattle.tcp_state.specs.View.{View, is_closed, is_opening}
 use Rattle.sockets.specs.declared.entry.SocketId.{SocketId}
 use Rattle.sockets.specs.declared.role.Role.TheVariants.{Connected}
-use Rattle.sockets.specs.Entries.{segment_due}
+use Rattle.sockets.specs.Entries.{segment_due, is_socket}
 use Rattle.sockets.specs.SocketsView.{role_of}
+use Rattle.sockets.specs.Steps.{connected}
+use Rattle.sockets.proofs.ByIds.{socket_found}
 use Rattle.host.specs.HostView.{HostView}
 use Rattle.host.specs.Sound.{IsSoundHost}
 use Rattle.round_law.specs.Exchange.{IsExchange}
@@ -20,21 +22,26 @@ use Rattle.round_law.proofs.Moves as exchange
 use Rattle.sides.specs.declared.side.Side.{Side}
 use Rattle.sides.specs.declared.side.Side.TheVariants.{A, B}
 use Rattle.sides.specs.Sides.{other_side}
+use Rattle.wire_sim.specs.Duties.{Has}
 use Rattle.wire_sim.specs.Exchanges.{hosts_from}
 use Rattle.wire_sim.specs.Passage.{addr_at, mac_at}
 use Rattle.wire_sim.specs.Progress.{MayMove, HasMoved, EveryRoundMovesData}
 use Rattle.wire_sim.specs.Rounds.{IsRound}
 use Rattle.wire_sim.specs.Runs.{IsReached}
+use Rattle.wire_sim.specs.HostRuns.{IsKept}
 use Rattle.wire_sim.specs.Trace.{read_on, sent_on}
-use Rattle.wire_sim.specs.WorldView.{WorldView, host_of}
-use Rattle.wire_sim.proofs.HostsRun.{quiet-leave, sound-at}
+use Rattle.wire_sim.specs.TwoEnds.{KnowsTheOther}
+use Rattle.wire_sim.specs.WorldView.{WorldView, host_of, table_of, clock_of}
+use Rattle.wire_sim.proofs.HostsRun.{sound-at, tables-kept}
 use Rattle.wire_sim.proofs.openings.OpeningIsFound.{other-twice}
-use Rattle.wire_sim.proofs.progress.EndsMeet.{AreMet, are-met, own-end, receiver-open, sender-open}
+use Rattle.wire_sim.proofs.progress.EndsMeet.{AreMet, are-met, own-end, receiver-open, sender-open, socket-entry}
 use Rattle.wire_sim.proofs.progress.QuietHosts.{quiet-host}
 use Rattle.wire_sim.proofs.progress.ReadsTold.{HasLeft, none-exchanged, reads-left, reads-told}
+use Rattle.wire_sim.proofs.progress.QuietWindows.{buffers_hold, quiet-leave}
 use Rattle.wire_sim.proofs.rounds.ReadersRead.{readers-read}
 use Rattle.wire_sim.proofs.rounds.RoundsAreExchanges.{round-exchange}
 use Rattle.wire_sim.proofs.runs.RunsAreLawful.{IsOrderly, orderly, orderly-swapped}
+use Rattle.wire_sim.proofs.two_ends.Joined.{knows}
 
 -- nothing is due of a connection that has nothing to send
 none-due : (to : Endpoint) (o : Option Due) → segment_due to o ≡ [] → o ≡ None
@@ -82,20 +89,57 @@ module _ (limit : ℕ) (writer : Side) (writer_id reader_id : SocketId) (count :
       subst (λ (m : Mac). law.IsQuiet (host_of old.network reader) reader_id d m) (ap (mac_at old.network) (sym (other-twice writer)))
       (quiet-host limit old run reader reader_id d (sound reader) may.reads past lives (at_writer ∙ ap (addr_at old.network) (other-twice writer)))
 
-  -- some octets can be read, or are held while the reader's window takes a segment
-  some_data : (0 < length d.receiving.readable) ⊎ ((0 < length v.sending.held) × (MSS ≤ receive_window d.receiving))
+  open_writer : (is_opening v.state || is_closed v.state) ≡ false
+  open_writer = let own = sender-open v.state may.sends in ap (λ b. b || is_closed v.state) own.1 ∙ own.0
+
+  open_reader : (is_opening d.state || is_closed d.state) ≡ false
+  open_reader = ap (λ b. b || is_closed d.state) past ∙ lives
+
+  -- a socket's connection is that of the entry which has its id
+  has : (side : Side) (id : SocketId) (c : View) → role_of (table_of old.network side) id ≡ Some (Connected c None) → Has old side id None c
+  has side id c named =
+      let t = table_of old.network side in
+      let kept : IsKept (clock_of old.network side) t = tables-kept limit old run side in
+      socket_found id 0 t.last_id t.entries (connected id c None) kept.ordered.ids (socket-entry t.entries id (Connected c None) (find (is_socket id) t.entries) refl named)
+
+  -- so the writer knows no more of the reader's window than is so
+  knows_it : KnowsTheOther v d
+  knows_it = knows limit old run writer writer_id reader_id v d (record {
+    listener = None;
+    other_listener = None;
+    here = has writer writer_id v may.writes.socket;
+    there = has reader reader_id d may.reads.socket;
+    ends = record { local = sym may.peer; peer = sym may.local };
+    opened = open_writer;
+    other_opened = open_reader;
+  })
+
+  -- some octets can be read, or are held while the reader's window is open
+  some_data : (0 < length d.receiving.readable) ⊎ ((0 < length v.sending.held) × (0 < receive_window d.receiving))
   some_data = by_readable d.receiving.readable refl
     where
-      by_readable : (octets : List ℕ) → d.receiving.readable ≡ octets → (0 < length octets) ⊎ ((0 < length v.sending.held) × (MSS ≤ receive_window d.receiving))
+      by_readable : (octets : List ℕ) → d.receiving.readable ≡ octets → (0 < length octets) ⊎ ((0 < length v.sending.held) × (0 < receive_window d.receiving))
       by_readable (x ∷ xs) is = inl (omega arith)
       by_readable [] is =
-          inr (
-            met.held may.unread is,
-            quiet-leave limit old run reader reader_id d None may.roomy may.reads.socket (ap (λ b. b || is_closed d.state) past ∙ lives) (none-due d.peer (first_due d) (nothing_to_send (host_of old.network reader) reader_id (Connected d None) may.reads.nothing may.reads.socket)) is,
-          )
+          let none = none-due d.peer (first_due d) (nothing_to_send (host_of old.network reader) reader_id (Connected d None) may.reads.nothing may.reads.socket) in
+          let left = quiet-leave limit old run reader reader_id d None may.reads.socket open_reader none is in
+          let least = buffers_hold limit old run reader in
+          inr (met.held may.unread is, omega (arith, left, least))
 
   asked : law.MayMove (hosts_from writer old) writer_id reader_id v d
-  asked = record { writer = quiet_writer; reader = quiet_reader; local = may.local; peer = may.peer; sends = may.sends; receives = may.receives; meet = met.meet; few = may.few; patient = may.patient; some = some_data }
+  asked = record {
+    writer = quiet_writer;
+    reader = quiet_reader;
+    local = may.local;
+    peer = may.peer;
+    sends = may.sends;
+    receives = may.receives;
+    meet = met.meet;
+    fits = record { window = knows_it.window; sent = knows_it.sent };
+    few = may.few;
+    patient = may.patient;
+    some = some_data;
+  }
 
   exchanged : IsExchange (hosts_from writer old) (hosts_from writer round.answered)
   exchanged = (round-exchange limit writer reader_id count old new met.some run round).1

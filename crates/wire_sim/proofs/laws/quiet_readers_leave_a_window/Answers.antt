@@ -1,4 +1,4 @@
-use Rattle.wire_sim.proofs.HostsRun.{quiet-leave}
+use Rattle.wire_sim.proofs.progress.QuietWindows.{quiet-leave}
 use Rattle.wire_sim.proofs.laws.quiet_readers_leave_a_window.Goals as goal
 
 pub returns : goal.returns
