@@ -40,7 +40,7 @@ use Rattle.round_law.proofs.Fitting.{first_fits}
 use Rattle.round_law.proofs.Reports.{IsReport}
 use Rattle.round_law.proofs.Found.{alone_there, named_there}
 use Rattle.round_law.proofs.Plain.{IsPlain}
-use Rattle.round_law.proofs.Quiet.{own_time, own_edge, all_come}
+use Rattle.round_law.proofs.Quiet.{own_time, own_edge}
 use Rattle.round_law.proofs.Reader.{Receives, receiver, Sends, sender, HasCome, StandsStill, stands_still, has_come_on, oldest_comes, frees}
 use Rattle.round_law.proofs.Says.{Says, Brings, own_sound, IsSender, sends_first, out_says, plain_due, all_out}
 use Rattle.round_law.proofs.Staying.{kept_later}
@@ -181,7 +181,7 @@ module _ (old new : Hosts) (writer_id reader_id : SocketId) (v d : View) (may : 
         all_taken g e reader_id w h.interface.addr reader.own at_writer local peer state.past state.unshut lets Q keeps frames g e exchange.between.reader said first_taker ((meet.held, refl), inl (omega (arith, readable, some))) exchange.bringing.brought
     | inr held ↦
         let time = own_time old.writer writer_id v may.writer.kept (alone_there old.writer writer_id v mac_of_reader may.writer) in
-        let oldest = oldest_brought v (minute_past old.writer.sockets.kept) (own_sound old.writer writer_id v may.writer.kept (alone_there old.writer writer_id v mac_of_reader may.writer)) time.0 time.1 held.0 (all_come old.writer writer_id v mac_of_reader may.writer) may.few in
+        let oldest = oldest_brought v (minute_past old.writer.sockets.kept) (own_sound old.writer writer_id v may.writer.kept (alone_there old.writer writer_id v mac_of_reader may.writer)) time.0 time.1 held.0 may.writer.come may.few in
         oldest_first held.1 oldest.0 oldest.1 oldest.2
   ]
 

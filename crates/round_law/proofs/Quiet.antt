@@ -20,13 +20,12 @@ use Rattle.tcp_halves.proofs.Choices.{either, clash}
 use Rattle.tcp_state.specs.View.{View, is_closed}
 use Rattle.tcp_state.specs.Congestion.{KeepsCongestion}
 use Rattle.tcp_state.specs.Timing.{KeepsTime, after_tick as after_tick_of}
-use Rattle.tcp_state.specs.Progress.{AllCome}
 use Rattle.sockets.specs.declared.entry.Entry.{Entry}
 use Rattle.sockets.specs.declared.entry.SocketId.{SocketId}
 use Rattle.sockets.specs.Order.{LiesAt}
 use Rattle.sockets.specs.SocketsView.{SocketsView, later_moment}
 use Rattle.sockets.specs.Steps.{connected}
-use Rattle.sockets.specs.Timing.{KeepsTimeIn, IsNearIn}
+use Rattle.sockets.specs.Timing.{KeepsTimeIn}
 use Rattle.sockets.proofs.Ends.{same_addr-same}
 use Rattle.sockets.proofs.Led.{reached_ordered}
 use Rattle.host.specs.HostView.{HostView}
@@ -71,12 +70,6 @@ minute_later t early =
     let later = minute_past t.kept in
     let after : nat_lt t.kept.0 later.0 ≡ true = lt-ltb t.kept.0 later.0 (omega (arith, minute_is t.kept early)) in
     either Moment (λ m. m ≡ later) (nat_lt t.kept.0 later.0) later t.kept (λ before. refl) (λ not_before. clash (nat_lt t.kept.0 later.0) after not_before)
-
--- so every timer has come that runs
-pub all_come : (h : HostView) (id : SocketId) (c : View) (mac : Mac) → IsQuiet h id c mac → AllCome c.timers (minute_past h.sockets.kept)
-all_come h id c mac quiet kind deadline runs =
-    let near = own h id c (λ (e : Entry). IsNearIn h.sockets.kept e.role) (alone_there h id c mac quiet) quiet.kept.near.each in
-    omega (arith, near.timers kind deadline runs, minute_is h.sockets.kept quiet.early)
 
 -- The way.
 

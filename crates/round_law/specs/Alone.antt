@@ -10,17 +10,15 @@ use Rattle.sockets.specs.declared.entry.SocketId.{SocketId}
 use Rattle.sockets.specs.Entries.{in_connection, dues_of, is_socket}
 use Rattle.sockets.specs.Offered.{IsReached}
 use Rattle.sockets.specs.Steps.{connected}
-use Rattle.sockets.specs.Timing.{EachKeepsTime, AreNear}
+use Rattle.sockets.specs.Timing.{EachKeepsTime}
 use Rattle.host.specs.HostView.{HostView}
 use Rattle.host.specs.Sound.{IsSoundHost}
 
--- What every host keeps of itself, as long as no event names a moment but that which it keeps by then: it is sound, its table is one that events lead to, its connections keep their time, and none of their timers runs until later than a
--- minute past the kept moment.
+-- What every host keeps of itself: it is sound, its table is one that events lead to, and its connections keep their time.
 pub record IsKept (h : HostView) : Type 0 where
   pub sound : IsSoundHost h
   pub reached : IsReached h.sockets
   pub time : EachKeepsTime h.sockets
-  pub near : AreNear h.sockets.kept h.sockets
 
 -- an entry that has nothing to send, and no connection but a CLOSED one
 pub record IsSilent (e : Entry) : Type 0 where

@@ -18,6 +18,7 @@ use Rattle.tcp_halves.specs.Stream.{outstanding, receive_window}
 use Rattle.tcp_state.specs.declared.state.State.TheVariants.{Established, FinWait2, CloseWait}
 use Rattle.tcp_state.specs.View.{View, is_closed}
 use Rattle.tcp_state.specs.Alive.{IsPatient}
+use Rattle.tcp_state.specs.Progress.{AllCome}
 use Rattle.sockets.specs.declared.entry.SocketId.{SocketId}
 use Rattle.sockets.specs.declared.entry.Entry.{Entry}
 use Rattle.sockets.specs.declared.role.Role.TheVariants.{Connected}
@@ -29,14 +30,15 @@ use Rattle.host.specs.Places.{places}
 use Rattle.round_law.specs.Alone.{IsKept}
 use Rattle.round_law.specs.Exchange.{Hosts, minute_past}
 
--- The socket of this id has this connection, which is not CLOSED, and every other one of the host is; and nothing is due. A minute later the host still knows this MAC as that of the way to the peer, what reassemblies end then
--- came from there, its guards, where it has them, let the peer's address in, no segment that isn't used drew an acknowledgement past the kept moment, and the clock is far from its end.
+-- The socket of this id has this connection, which is not CLOSED, and every other one of the host is; and nothing is due. A minute later all its timers have come that run, the host still knows this MAC as that of the way to the peer, and what
+-- reassemblies end then came from there. Its guards, where it has them, let the peer's address in, no segment that isn't used drew an acknowledgement past the kept moment, and the clock is far from its end.
 pub record IsQuiet (h : HostView) (id : SocketId) (c : View) (mac : Mac) : Type 0 where
   pub kept : IsKept h
   pub socket : role_of h.sockets id ≡ Some (Connected c None)
   pub lives : is_closed c.state ≡ false
   pub others : AllByRecursion (λ (e : Entry). (e.id ≡ id) ⊎ (in_connection true (λ d. is_closed d.state) e.role ≡ true)) h.sockets.entries
   pub nothing : places h ≡ []
+  pub come : AllCome c.timers (minute_past h.sockets.kept)
   pub way : hop_mac h.interface (minute_past h.sockets.kept) c.peer.addr ≡ Some mac
   pub reports : AllByRecursion (λ (x : Expired). x.key.source ≡ c.peer.addr) (expired (minute_past h.sockets.kept) h.pool)
   pub lets : shuts_out h c.peer.addr ≡ false

@@ -24,6 +24,8 @@ ghost use Rattle.host.specs.Heard.{heard_by};
 ghost use Rattle.host.specs.Carried.{carried};
 ghost use Rattle.host.specs.Emission.{emission_len, after_emission};
 ghost use Rattle.host.specs.Ticks.{after_tick};
+ghost use Rattle.host.specs.Runs.{HasRun};
+ghost use Rattle.host.specs.Sound.{IsSoundHost};
 ghost use Rattle.round_law.specs.Alone.{IsKept, IsAlone, IsFor};
 ghost use Rattle.round_law.specs.Exchange.{Hosts, IsExchange, minute_past};
 ghost use Rattle.round_law.specs.Progress.{IsQuiet, IsHeardLately, MayMove, HasMoved};
@@ -33,6 +35,11 @@ ghost use Rattle.round_law.specs.Progress.{IsQuiet, IsHeardLately, MayMove, HasM
 /// acknowledged at once; and that goes out first and frees it.
 pub fn an_exchange_moves_data()
     ensures { (old new : Hosts) (writer_id reader_id : SocketId) (v d : View) → MayMove old writer_id reader_id v d → IsExchange old new → HasMoved new writer_id reader_id v d }
+{}
+
+/// Every sound host that its own events led to keeps of itself what is asked of both hosts at every moment. (That every `Host` is one `Host::sound` says.)
+pub fn hosts_keep_themselves()
+    ensures { (h : HostView) → IsSoundHost h → HasRun h → IsKept h }
 {}
 
 /// At a quiet host the connection of the socket is alone; and one that is alone is that of its socket.

@@ -17,7 +17,7 @@ use Rattle.wire_sim.specs.WorldView.{WorldView, host_of, table_of, clock_of}
 abbrev pub EveryClockIsKept : Type 0
 EveryClockIsKept = (limit : ℕ) (w : WorldView) → IsReached limit w → (side : Side) → clock_of w.network side ≡ (let h = table_of w.network side in h.kept)
 
--- So each host keeps what a host keeps that is told of no moment but that; it is sound, as `IsStep` says of those that an event finds.
+-- Each host keeps of itself what every host does; it is sound, as `IsStep` says of those that an event finds.
 abbrev pub EveryHostIsKept : Type 0
 EveryHostIsKept = (limit : ℕ) (w : WorldView) → IsReached limit w → (side : Side) → IsSoundHost (host_of w.network side) → IsKept (host_of w.network side)
 

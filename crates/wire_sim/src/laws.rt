@@ -72,8 +72,8 @@ pub fn every_table_is_kept()
     ensures { EveryTableIsKept }
 {}
 
-/// What the clock of a side shows is the moment that its host keeps: none but a tick moves either, and that moves both to the later of the two. So each host that is sound, as all are that an event finds, keeps what the law of a round
-/// asks of a host (`round_law`).
+/// What the clock of a side shows is the moment that its host keeps: none but a tick moves either, and that moves both to the later of the two. And each host that is sound, as all are that an event finds, keeps of itself
+/// what the law of a round asks of every host (`round_law`).
 pub fn every_clock_is_kept()
     ensures clocks { EveryClockIsKept }
     ensures hosts { EveryHostIsKept }

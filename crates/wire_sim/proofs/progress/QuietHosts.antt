@@ -1,11 +1,12 @@
 -- A host of a world that is quiet is one as the law of a round asks: it knows the way to the other host a minute later, and what it tells of fragments is for that host.
-use Rattle.std.proofs.Common.{◌≡◌, ◌||◌, ℕ, ◌<◌, ◌≤◌, ◌^◌, ◌+◌, false, List, Option, Some, None, option_map, refl, sym, ◌∙◌, ap, subst}
+use Rattle.std.proofs.Common.{◌≡◌, ◌||◌, ℕ, ◌<◌, ◌^◌, ◌+◌, false, List, Option, Some, None, option_map, arith, refl, sym, ◌∙◌, ap, subst}
 use Rattle.std.specs.List.{find, AllByRecursion}
 use Rattle.clock.specs.declared.moment.Moment.{Moment}
 use Rattle.ipv4.specs.declared.addr.Addr.{Addr}
 use Rattle.arp.specs.Cache.{is_pair_of}
 use Rattle.reassembly.specs.declared.expired.Expired.{Expired}
 use Rattle.reassembly.specs.Places.{expired}
+use Rattle.tcp_state.specs.Progress.{AllCome}
 use Rattle.tcp_state.specs.View.{View, is_closed, is_opening}
 use Rattle.sockets.specs.declared.entry.Entry.{Entry}
 use Rattle.sockets.specs.declared.entry.SocketId.{SocketId}
@@ -47,10 +48,11 @@ quiet-host limit w run side id c sound quiet past lives peer = record {
   lives = lives;
   others = quiet.others;
   nothing = quiet.nothing;
+  come = all_come;
   way = known_later h.interface h.sockets.kept c.peer.addr (mac_at w.network other) heard early;
   reports = subst (λ (a : Addr). AllByRecursion (λ (x : Expired). x.key.source ≡ a) (expired (minute_past h.sockets.kept) h.pool)) (sym peer) (reports-from limit w run side (minute_past h.sockets.kept));
   lets = ap (shuts_out h) (peer ∙ sym known.0) ∙ neighbours-let-in limit w run side (is_pair_of (addr_at w.network other)) quiet.other quiet.heard;
-  drawn = drawn_by_now;
+  drawn = near_by_now.drawn;
   early = early;
 }
   where
@@ -69,13 +71,16 @@ quiet-host limit w run side id c sound quiet past lives peer = record {
     near : AreNear (clock_of w.network side) h.sockets
     near = tables-near limit w run side
 
-    drawn_by_now : c.guard.latest.0 ≤ h.sockets.kept.0
-    drawn_by_now =
-        let at : IsNear (clock_of w.network side) c = of-socket (IsNearIn (clock_of w.network side)) id (Connected c None) h.sockets.entries (find (is_socket id) h.sockets.entries) near.each refl quiet.socket in
-        subst (λ (m : Moment). c.guard.latest.0 ≤ m.0) shown at.drawn
+    near_by_now : IsNear h.sockets.kept c
+    near_by_now =
+        subst (λ (m : Moment). IsNear m c) shown
+        (of-socket (IsNearIn (clock_of w.network side)) id (Connected c None) h.sockets.entries (find (is_socket id) h.sockets.entries) near.each refl quiet.socket)
 
     early : h.sockets.kept.0 < 2 ^ 63
     early = subst (λ (m : Moment). m.0 < 2 ^ 63) shown quiet.early
+
+    all_come : AllCome c.timers (minute_past h.sockets.kept)
+    all_come kind deadline runs = let by_then = near_by_now.timers kind deadline runs in omega (arith, by_then, early)
 
     leads : LeadsToTheOther w.network side (Connected c None)
     leads = of-socket (LeadsToTheOther w.network side) id (Connected c None) h.sockets.entries (find (is_socket id) h.sockets.entries) (connections-lead limit w run side) refl quiet.socket

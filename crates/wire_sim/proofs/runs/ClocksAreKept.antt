@@ -137,9 +137,4 @@ clocks-kept limit w run side =
 pub hosts-kept : EveryHostIsKept
 hosts-kept limit w run side sound =
     let kept : IsKept (clock_of w.network side) (table_of w.network side) = tables-kept limit w run side in
-    record {
-      sound = sound;
-      reached = kept.reached;
-      time = kept.time;
-      near = subst (λ (m : Moment). AreNear m (table_of w.network side)) (clocks-kept limit w run side) kept.near;
-    }
+    record { sound = sound; reached = kept.reached; time = kept.time }
