@@ -13,6 +13,7 @@ use Rattle.host_law.proofs.Anchors.{IsAnchored, unanchored, keeps_anchored}
 use Rattle.host_law.proofs.Apart.{all_kept_out}
 use Rattle.host_law.proofs.Befalls.{IsOfConnection}
 use Rattle.host_law.proofs.DatagramsGiven.{datagrams_given}
+use Rattle.host_law.proofs.DatagramsOut.{datagrams_sent}
 use Rattle.host_law.proofs.Ends.{keeps_ends}
 use Rattle.host_law.proofs.Led.{of_connection, of_one, parted, sound_of}
 use Rattle.host_law.proofs.Reading.{KeepsRead, unread, keeps_read}
@@ -72,6 +73,7 @@ lawful c events h run sound asked octets =
       lets_go = λ id. let k = so.keeps id in lets_go c id h (history run) k.sent (λ v there. sound_of h id v sound there);
       apart = all_kept_out c events h run;
       datagrams = datagrams_given c events h run asked;
+      datagrams_out = datagrams_sent c events h run asked;
     }
 
 pub lawful_host : (h : HostView) → IsSoundHost h → (was : HasRunOnOctets h) → HostLaw was.run.config h (history was.run.runs)

@@ -26,4 +26,9 @@ mod DatagramsGathered
 mod DatagramsGiven
 mod DatagramsInboxes
 mod DatagramsQueued
+mod DatagramsOutboxes
+mod DatagramsTaken
+mod DatagramsParts
+mod DatagramsFrames
+mod DatagramsOut
 mod Law

@@ -10,6 +10,7 @@ use Rattle.host_law.specs.Apart.{KeepsOthersOut}
 use Rattle.host_law.specs.Callers.{ended_at, read_on, sent_on}
 use Rattle.host_law.specs.Coming.{HearsSyn, Brings, BringsEnd, Acknowledges}
 use Rattle.host_law.specs.Datagrams.{GivesWhatCame}
+use Rattle.host_law.specs.DatagramsOut.{SendsWhatSendtoTook}
 use Rattle.host_law.specs.Going.{SendsWhatWasTaken, Takes}
 use Rattle.host_law.specs.History.{Step, Once, Always, connection_of}
 use Rattle.host_law.specs.Positions.{rcv_nxt, snd_una}
@@ -49,3 +50,4 @@ pub record HostLaw (c : ConfigView) (h : HostView) (steps : List Step) : Type 0 
   pub lets_go : (id : SocketId) → LetsGoWhatCame c id h steps
   pub apart : Always (KeepsOthersOut c) steps
   pub datagrams : (id : SocketId) → GivesWhatCame c id steps
+  pub datagrams_out : SendsWhatSendtoTook c steps

@@ -6,4 +6,5 @@ pub mod Coming
 pub mod Going
 pub mod Apart
 pub mod Datagrams
+pub mod DatagramsOut
 pub mod HostLaw
