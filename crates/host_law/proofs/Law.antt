@@ -19,6 +19,7 @@ use Rattle.host_law.proofs.Led.{of_connection, of_one, parted, sound_of}
 use Rattle.host_law.proofs.Reading.{KeepsRead, unread, keeps_read}
 use Rattle.host_law.proofs.Sending.{KeepsSent, sent_nothing, keeps_sent, lets_go}
 use Rattle.host_law.proofs.SendingOut.{of_stream}
+use Rattle.host_law.proofs.Sums.{all-right}
 use Rattle.host_law.proofs.WentOut.{none_out, keeps_out}
 use Rattle.host_law.proofs.Windows.{KeepsWindow, untold, keeps_window}
 
@@ -74,6 +75,7 @@ lawful c events h run sound asked octets =
       apart = all_kept_out c events h run;
       datagrams = datagrams_given c events h run asked;
       datagrams_out = datagrams_sent c events h run asked;
+      sums = all-right c events h run octets;
     }
 
 pub lawful_host : (h : HostView) → IsSoundHost h → (was : HasRunOnOctets h) → HostLaw was.run.config h (history was.run.runs)

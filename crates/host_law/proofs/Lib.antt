@@ -31,4 +31,5 @@ mod DatagramsTaken
 mod DatagramsParts
 mod DatagramsFrames
 mod DatagramsOut
+mod Sums
 mod Law

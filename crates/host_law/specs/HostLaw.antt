@@ -14,6 +14,7 @@ use Rattle.host_law.specs.DatagramsOut.{SendsWhatSendtoTook}
 use Rattle.host_law.specs.Going.{SendsWhatWasTaken, Takes}
 use Rattle.host_law.specs.History.{Step, Once, Always, connection_of}
 use Rattle.host_law.specs.Positions.{rcv_nxt, snd_una}
+use Rattle.host_law.specs.Sums.{ComesWithRightSums}
 
 -- What is read was sent to it: each octet that `recv` gave, from position 1 on, is one that a frame brought at its position; and where it answered the end, a frame brought the FIN at the position behind all that was read.
 pub record ReadsWhatCame (c : ConfigView) (id : SocketId) (steps : List Step) : Type 0 where
@@ -51,3 +52,4 @@ pub record HostLaw (c : ConfigView) (h : HostView) (steps : List Step) : Type 0 
   pub apart : Always (KeepsOthersOut c) steps
   pub datagrams : (id : SocketId) → GivesWhatCame c id steps
   pub datagrams_out : SendsWhatSendtoTook c steps
+  pub sums : Always (ComesWithRightSums c) steps

@@ -7,4 +7,5 @@ pub mod Going
 pub mod Apart
 pub mod Datagrams
 pub mod DatagramsOut
+pub mod Sums
 pub mod HostLaw
