@@ -3,3 +3,4 @@ pub mod OneFrame
 pub mod Answering
 pub mod Reading
 pub mod Words
+pub mod Fields

@@ -1,6 +1,7 @@
 //! Laws of the definitions that the contracts of this crate cite: each is the contract of a function that does nothing.
 
-ghost use Rattle.std.specs.Prelude.{◌≡◌, ◌↔◌, List, ℕ, ◌+◌, ◌<◌, ◌^◌, length, max, replicate, All, Some, None, Result, Ok, Err};
+ghost use Rattle.std.specs.Prelude.{◌≡◌, ◌↔◌, List, ℕ, ◌+◌, ◌<◌, ◌^◌, length, take, drop, max, replicate, All, Some, None, Result, Ok, Err};
+ghost use Rattle.byteorder.specs.Endian.{big_bytes};
 ghost use Rattle.ether.specs.declared.head.Head.{Head};
 ghost use Rattle.ether.specs.declared.head.TheConstants.{ETHERTYPE_ARP, ETHERTYPE_IPV4, FRAME_MAX, HEADER_LEN, LEAST_PAYLOAD, MOST_PAYLOAD};
 ghost use Rattle.ether.specs.declared.mac.TheConstants.Mac.{BROADCAST};
@@ -12,6 +13,15 @@ ghost use Rattle.ether.specs.Reading.{frame_in};
 /// Octets spell at most one frame (RFC 894).
 pub fn one_frame()
     ensures { (first second : Frame) (octets : List ℕ) → Spells first octets → Spells second octets → first ≡ second }
+{}
+
+/// Each field of a frame stands in its place: the first six octets are the destination, the next six the source, then come the two of the type, the
+/// higher one first, and from octet 14 on stands the payload (RFC 894).
+pub fn fields_stand_in_their_places()
+    ensures destination { (f : Frame) (octets : List ℕ) → Spells f octets → take 6 octets ≡ f.destination.0 }
+    ensures source { (f : Frame) (octets : List ℕ) → Spells f octets → take 6 (drop 6 octets) ≡ f.source.0 }
+    ensures kind { (f : Frame) (octets : List ℕ) → Spells f octets → take 2 (drop 12 octets) ≡ big_bytes 2 f.kind }
+    ensures payload { (f : Frame) (octets : List ℕ) → Spells f octets → drop 14 octets ≡ f.payload }
 {}
 
 /// For all octets there is one answer that `EtherView::parse` may give, and it is `Short` exactly for fewer than 14, the
