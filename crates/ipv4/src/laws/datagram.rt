@@ -1,9 +1,10 @@
 //! Laws of datagrams and of the octets that spell them.
 
-ghost use Rattle.std.specs.Prelude.{◌≡◌, ℕ, ◌+◌, ◌<◌, ◌≤◌, List, ◌++◌, All, length, take, Result, Ok, Err};
+ghost use Rattle.std.specs.Prelude.{◌≡◌, ℕ, ◌+◌, ◌/◌, ◌<◌, ◌≤◌, List, [], ◌∷◌, ◌++◌, All, length, take, drop, if◌then◌else◌, Result, Ok, Err};
+ghost use Rattle.byteorder.specs.Endian.{big_bytes};
 ghost use Rattle.ipv4.specs.declared.fault.Ipv4Fault.{Ipv4Fault};
 ghost use Rattle.ipv4.specs.declared.head.Head.{Head};
-ghost use Rattle.ipv4.specs.Datagram.{Datagram, IsDatagram, IsParsed, Spells, spelling, total_len};
+ghost use Rattle.ipv4.specs.Datagram.{Datagram, IsDatagram, IsParsed, Spells, header_octets, header_len, spelling, total_len};
 ghost use Rattle.ipv4.specs.Reading.{datagram_in};
 ghost use Rattle.ipv4.specs.Sent.{sent};
 ghost use Rattle.inet_sum.specs.Sum.{sum_of};
@@ -24,6 +25,21 @@ pub fn read_plainly()
 /// What is read as a datagram has a right checksum: its header, the first 20 octets and the options behind them, has the one's complement sum 0xFFFF (RFC 791 section 3.1, RFC 1071).
 pub fn sums_are_tested()
     ensures { (octets : List ℕ) (d : Datagram) → IsParsed octets (Ok d) → sum_of (take (20 + length d.options) octets) ≡ 65535 }
+{}
+
+/// Each field of a header stands in its place: version 4 with the header's length in words, type of service, total length, identification, the flags and the offset, of which "don't
+/// fragment" counts 0x4000 and "more fragments" 0x2000, time to live, protocol, checksum, source, destination, options. The payload stands behind them (RFC 791 section 3.1).
+pub fn fields_stand_in_their_places()
+    ensures lengths { (d : Datagram) → take 4 (header_octets d) ≡ (64 + header_len d / 4) ∷ d.service ∷ big_bytes 2 (total_len d) }
+    ensures identification { (d : Datagram) → take 2 (drop 4 (header_octets d)) ≡ big_bytes 2 d.identification }
+    ensures flags { (d : Datagram) → take 2 (drop 6 (header_octets d))
+        ≡ big_bytes 2 ((if d.reserved then 0x8000 else 0) + (if d.dont_fragment then 0x4000 else 0) + (if d.more_fragments then 0x2000 else 0) + d.offset) }
+    ensures carried { (d : Datagram) → take 2 (drop 8 (header_octets d)) ≡ d.ttl ∷ d.protocol ∷ [] }
+    ensures checksum { (d : Datagram) → take 2 (drop 10 (header_octets d)) ≡ big_bytes 2 d.checksum }
+    ensures source { (d : Datagram) → IsDatagram d → take 4 (drop 12 (header_octets d)) ≡ d.source.0 }
+    ensures destination { (d : Datagram) → IsDatagram d → take 4 (drop 16 (header_octets d)) ≡ d.destination.0 }
+    ensures options { (d : Datagram) → IsDatagram d → drop 20 (header_octets d) ≡ d.options }
+    ensures payload { (d : Datagram) → spelling d ≡ header_octets d ++ d.payload }
 {}
 
 /// A datagram has one spelling, up to the padding behind it.

@@ -1,5 +1,4 @@
 use Rattle.std.proofs.Common.{arith}
-use Rattle.std.proofs.lemmas.Bool.Decides.{nat_tests}
 use Rattle.ipv4.proofs.laws.addresses_of_one_host.Goals as goal
 
 pub returns-clause-class_a : goal.returns-clause-class_a
