@@ -72,7 +72,7 @@ hearing_keeps_one most sender is_for_us pairs each = known (list_any (is_pair_of
 none : Neighbour
 none = record { addr = record { 0 = [] }; mac = record { 0 = [] }; heard = record { 0 = 0 } }
 
-some_first : (pairs : List Neighbour) (count : ℕ) → 0 < length pairs → count ≤ length pairs → (place : ℕ) × IsFirstUnheard pairs count place
+pub some_first : (pairs : List Neighbour) (count : ℕ) → 0 < length pairs → count ≤ length pairs → (place : ℕ) × IsFirstUnheard pairs count place
 some_first pairs zero some within = (0, record { within = some; passed = omega arith; least = λ k d below. absurd (omega arith); first = λ k d below. absurd (omega arith) })
 some_first pairs (suc count) some within =
     let so_far = some_first pairs count some (omega arith) in

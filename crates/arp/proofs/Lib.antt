@@ -11,3 +11,4 @@ pub mod Spelling
 pub mod Unheard
 pub mod PlainReading
 pub mod WaitsOver
+pub mod GivesWay

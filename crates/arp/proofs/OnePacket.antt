@@ -9,19 +9,19 @@ use Rattle.arp.specs.declared.packet.Operation.TheVariants.{Request, Reply}
 use Rattle.arp.specs.Packet.{operation_number, spelling, HasWidths, Spells, IsParsed}
 
 -- what stands in the octets of a packet's fields
-record Fields (p : ArpPacket) (octets : List ℕ) : Type 0 where
-  operation : get_or octets 7 0 ≡ operation_number p.operation % 256
-  sender_mac : take 6 (drop 8 octets) ≡ p.sender_mac.0
-  sender_addr : take 4 (drop 14 octets) ≡ p.sender_addr.0
-  target_mac : take 6 (drop 18 octets) ≡ p.target_mac.0
-  target_addr : take 4 (drop 24 octets) ≡ p.target_addr.0
+pub record Fields (p : ArpPacket) (octets : List ℕ) : Type 0 where
+  pub operation : get_or octets 7 0 ≡ operation_number p.operation % 256
+  pub sender_mac : take 6 (drop 8 octets) ≡ p.sender_mac.0
+  pub sender_addr : take 4 (drop 14 octets) ≡ p.sender_addr.0
+  pub target_mac : take 6 (drop 18 octets) ≡ p.target_mac.0
+  pub target_addr : take 4 (drop 24 octets) ≡ p.target_addr.0
 
 -- the part of a list that stands behind a front and before a rest
 part : (xs front own rest : List ℕ) (at count : ℕ) → xs ≡ front ++ (own ++ rest) → length front ≡ at → length own ≡ count → take count (drop at xs) ≡ own
 part xs front own rest at count is len_front len_own =
     ap (λ l. take count (drop at l)) is ∙ (ap (take count) (drop_at front (own ++ rest) at len_front) ∙ take_at own rest count len_own)
 
-fields : (p : ArpPacket) (octets : List ℕ) → Spells p octets → Fields p octets
+pub fields : (p : ArpPacket) (octets : List ℕ) → Spells p octets → Fields p octets
 fields p octets s =
     let kinds : List ℕ = 0 ∷ 1 ∷ 8 ∷ 0 ∷ 6 ∷ 4 ∷ operation_number p.operation / 256 % 256 ∷ operation_number p.operation % 256 ∷ [] in
     let m = p.sender_mac.0 in

@@ -1,16 +1,19 @@
 //! Laws of the definitions that the contracts of this crate cite: each is the contract of a function
 //! that does nothing.
 
-ghost use Rattle.std.specs.Prelude.{◌≡◌, ◌≢◌, ℕ, List, [], ◌∷◌, ◌++◌, ◌+◌, ◌<◌, ◌≤◌, length, take, drop, filter, fold, All, false, IsTrue, Option, Some, None, Result, Ok, Err};
+ghost use Rattle.std.specs.Prelude.{◌≡◌, ◌≢◌, ◌↔◌, ℕ, List, [], ◌∷◌, ◌++◌, ◌+◌, ◌<◌, ◌≤◌, length, take, drop, filter, fold, All, true, false, IsTrue, Option, Some, None, Result, Ok, Err};
+ghost use Rattle.std.specs.List.{list_any};
 ghost use Rattle.ether.specs.declared.mac.Mac.{Mac};
 ghost use Rattle.ipv4.specs.declared.addr.Addr.{Addr};
 ghost use Rattle.arp.specs.declared.packet.ArpFault.{ArpFault};
 ghost use Rattle.arp.specs.declared.packet.ArpFault.TheVariants.{UpperHeader};
 ghost use Rattle.arp.specs.declared.packet.ArpPacket.{ArpPacket};
+ghost use Rattle.arp.specs.declared.packet.Operation.TheVariants.{Request};
 ghost use Rattle.arp.specs.declared.packet.TheConstants.{LEN};
 ghost use Rattle.arp.specs.declared.entry.Asked.{Asked};
+ghost use Rattle.arp.specs.declared.entry.Neighbour.{Neighbour};
 ghost use Rattle.clock.specs.declared.moment.Moment.{Moment};
-ghost use Rattle.arp.specs.Cache.{Cache, is_live, is_pair_of, after_hear, look, after_age, may_ask, asked_after, after_ask, requests_left, IsNextAsk};
+ghost use Rattle.arp.specs.Cache.{Cache, is_live, is_pair_of, is_request_for, after_hear, look, after_age, may_ask, asked_after, after_ask, requests_left, IsNextAsk};
 ghost use Rattle.ipv4.specs.Addresses.{same_addr};
 ghost use Rattle.arp.specs.Events.{Event, moment_of, after_event, cache_after, IsLastFrom};
 ghost use Rattle.arp.specs.Packet.{spelling, request_of, reply_to, HasWidths, Spells, IsParsed};
@@ -23,6 +26,27 @@ pub fn requests_name_whom_they_seek()
     ensures sender { (mac : Mac) (own sought : Addr) → ((request_of mac own sought).sender_addr ≡ own) × ((request_of mac own sought).sender_mac ≡ mac) }
     ensures request { (mac : Mac) (own sought : Addr) → take 2 (drop 6 (spelling (request_of mac own sought))) ≡ 0 ∷ 1 ∷ [] }
     ensures reply { (p : ArpPacket) (mac : Mac) → take 2 (drop 6 (spelling (reply_to p mac))) ≡ 0 ∷ 2 ∷ [] }
+{}
+
+/// Each field of a packet stands in its place: Ethernet's number 1, IPv4's 0x0800 and the lengths 6 and 4, the operation, and then MAC and address of the sender, and those of the target (RFC
+/// 826).
+pub fn fields_stand_in_their_places()
+    ensures kinds { (p : ArpPacket) (octets : List ℕ) → Spells p octets → take 6 octets ≡ 0 ∷ 1 ∷ 8 ∷ 0 ∷ 6 ∷ 4 ∷ [] }
+    ensures sender_mac { (p : ArpPacket) (octets : List ℕ) → Spells p octets → take 6 (drop 8 octets) ≡ p.sender_mac.0 }
+    ensures sender_addr { (p : ArpPacket) (octets : List ℕ) → Spells p octets → take 4 (drop 14 octets) ≡ p.sender_addr.0 }
+    ensures target_mac { (p : ArpPacket) (octets : List ℕ) → Spells p octets → take 6 (drop 18 octets) ≡ p.target_mac.0 }
+    ensures target_addr { (p : ArpPacket) (octets : List ℕ) → Spells p octets → take 4 (drop 24 octets) ≡ p.target_addr.0 }
+{}
+
+/// A reply tells whoever asked the MAC of the address that was asked for (RFC 826).
+pub fn replies_tell_what_was_asked()
+    ensures told { (p : ArpPacket) (mac : Mac) → let reply = reply_to p mac in (reply.sender_addr ≡ p.target_addr) × (reply.sender_mac ≡ mac) }
+    ensures whom { (p : ArpPacket) (mac : Mac) → let reply = reply_to p mac in (reply.target_addr ≡ p.sender_addr) × (reply.target_mac ≡ p.sender_mac) }
+{}
+
+/// A packet is to be answered exactly where it is a request for our address: for nobody else a host replies (RFC 826).
+pub fn only_requests_for_us_are_answered()
+    ensures { (ours : Addr) (p : ArpPacket) → (is_request_for ours p ≡ true) ↔ ((p.operation ≡ Request) × (p.target_addr ≡ ours)) }
 {}
 
 /// Octets spell at most one packet.
@@ -66,6 +90,16 @@ pub fn few_are_kept()
     ensures most { (most : ℕ) (events : List Event) → (cache_after most events).most ≡ most }
     ensures pairs { (most : ℕ) (events : List Event) → 0 < most → length (cache_after most events).pairs ≤ most }
     ensures notes { (most : ℕ) (events : List Event) → length (cache_after most events).asked ≤ 64 }
+{}
+
+/// Where a packet for us comes from an address of which no pair is kept, and as many are kept as may be, one pair gives way: none was heard before it. The others stay, in order, and the
+/// sender's stands behind them. That few are kept, and which of them gives way, is this stack's own.
+pub fn the_longest_unheard_gives_way()
+    ensures { (cache : Cache) (now : Moment) (packet : ArpPacket) (ours : Addr) → same_addr packet.target_addr ours ≡ true
+        → list_any (is_pair_of packet.sender_addr) cache.pairs ≡ false → 0 < cache.most → length cache.pairs ≡ cache.most
+        → let sender : Neighbour = record { addr = packet.sender_addr; mac = packet.sender_mac; heard = now } in
+        (before : List Neighbour) × (gone : Neighbour) × (after : List Neighbour) × (cache.pairs ≡ before ++ gone ∷ after)
+        × All (λ pair. gone.heard.0 ≤ pair.heard.0) cache.pairs × ((after_hear now packet ours cache).pairs ≡ (before ++ after) ++ sender ∷ []) }
 {}
 
 /// The sender of a packet for us is found as long as it is live, however full the table was.
