@@ -1,9 +1,12 @@
 //! Laws of the definitions that the contracts of this crate cite: each is the contract of a function that does nothing.
 
-ghost use Rattle.std.specs.Prelude.{◌≡◌, ◌↔◌, ℕ, ◌<◌, ◌≤◌, ◌^◌, List, length, All, Bool, Some, Result, Ok, Err};
+ghost use Rattle.std.specs.Prelude.{◌≡◌, ◌≢◌, ◌↔◌, ◌⊎◌, ℕ, ◌<◌, ◌≤◌, ◌^◌, List, [], ◌∷◌, length, take, drop, slice_index, All, Bool, false, Some, Result, Ok, Err};
+ghost use Rattle.byteorder.specs.Endian.{big_bytes};
 ghost use Rattle.inet_sum.specs.Sum.{sum_of};
 ghost use Rattle.ipv4.specs.Datagram.{Datagram, IsDatagram, header_octets};
+ghost use Rattle.ipv4.specs.Addresses.{IsUnicast};
 ghost use Rattle.icmp.specs.declared.error.Reason.{Reason};
+ghost use Rattle.icmp.specs.declared.error.Reason.TheVariants.{NetUnreachable, HostUnreachable, ProtocolUnreachable, PortUnreachable, FragmentationNeeded, SourceRouteFailed, TransitTimeExceeded, ReassemblyTimeExceeded};
 ghost use Rattle.icmp.specs.declared.error.TheConstants.{QUOTED_LEN};
 ghost use Rattle.icmp.specs.declared.fault.IcmpFault.{IcmpFault};
 ghost use Rattle.icmp.specs.declared.fault.IcmpFault.TheVariants.{UpperHeader};
@@ -62,6 +65,39 @@ pub fn cause_is_quoted()
     ensures read { (quote : Quote) (octets : List ℕ) → All (λ octet. octet < 256) octets → (Quotes quote octets ↔ (quote_in octets ≡ Some quote)) }
     ensures cause { (reason : Reason) (d : Datagram) → IsDatagram d → All (λ octet. octet < 256) d.payload → 8 ≤ length d.payload
         → Quotes (quote_of d) (error_for reason (header_octets d) d.payload).payload }
+{}
+
+/// Each field of a message stands in its place: type, code, checksum, the identifier and the number of an echo, and the data from octet 8 on (RFC 792).
+pub fn fields_stand_in_their_places()
+    ensures numbers { (m : Message) → take 2 (spelling m) ≡ m.kind ∷ m.code ∷ [] }
+    ensures checksum { (m : Message) → take 2 (drop 2 (spelling m)) ≡ big_bytes 2 m.checksum }
+    ensures identifier { (m : Message) → take 2 (drop 4 (spelling m)) ≡ big_bytes 2 m.identifier }
+    ensures number { (m : Message) → take 2 (drop 6 (spelling m)) ≡ big_bytes 2 m.number }
+    ensures payload { (m : Message) → drop 8 (spelling m) ≡ m.payload }
+{}
+
+/// An error tells its reason by type and code: a network, a host, a protocol and a port that can't be reached, fragmentation that is needed and forbidden, and a source route that
+/// failed are type 3 with the codes 0 to 5; a time to live and a time for reassembly that ran out are type 11 with the codes 0 and 1 (RFC 792).
+pub fn errors_tell_their_reasons()
+    ensures net { (header payload : List ℕ) → take 2 (spelling (error_for NetUnreachable header payload)) ≡ 3 ∷ 0 ∷ [] }
+    ensures host { (header payload : List ℕ) → take 2 (spelling (error_for HostUnreachable header payload)) ≡ 3 ∷ 1 ∷ [] }
+    ensures protocol { (header payload : List ℕ) → take 2 (spelling (error_for ProtocolUnreachable header payload)) ≡ 3 ∷ 2 ∷ [] }
+    ensures port { (header payload : List ℕ) → take 2 (spelling (error_for PortUnreachable header payload)) ≡ 3 ∷ 3 ∷ [] }
+    ensures fragmentation { (header payload : List ℕ) → take 2 (spelling (error_for FragmentationNeeded header payload)) ≡ 3 ∷ 4 ∷ [] }
+    ensures route { (header payload : List ℕ) → take 2 (spelling (error_for SourceRouteFailed header payload)) ≡ 3 ∷ 5 ∷ [] }
+    ensures transit { (header payload : List ℕ) → take 2 (spelling (error_for TransitTimeExceeded header payload)) ≡ 11 ∷ 0 ∷ [] }
+    ensures reassembly { (header payload : List ℕ) → take 2 (spelling (error_for ReassemblyTimeExceeded header payload)) ≡ 11 ∷ 1 ∷ [] }
+{}
+
+/// No error may answer an error, whoever sent it: a message of type 3 (destination unreachable), 4 (source quench), 5 (redirect), 11 (time exceeded) or 12 (parameter problem). None may
+/// answer what was for all hosts of a link or for a group, a fragment but the first, or what names no single host as its source (RFC 1122 section 3.2.2).
+pub fn what_is_never_answered()
+    ensures error { (d : Datagram) (link_broadcast : Bool) (kind : ℕ) (rest : List ℕ) → d.protocol ≡ 1 → d.payload ≡ kind ∷ rest
+        → (kind ≡ 3) ⊎ (kind ≡ 4) ⊎ (kind ≡ 5) ⊎ (kind ≡ 11) ⊎ (kind ≡ 12) → MayAnswer d link_broadcast → ⊥ }
+    ensures broadcast { (d : Datagram) (link_broadcast : Bool) → MayAnswer d link_broadcast → (link_broadcast ≡ false) × (d.destination.0 ≢ 255 ∷ 255 ∷ 255 ∷ 255 ∷ []) }
+    ensures group { (d : Datagram) (link_broadcast : Bool) → MayAnswer d link_broadcast → 224 ≤ slice_index d.destination.0 0 → slice_index d.destination.0 0 ≤ 239 → ⊥ }
+    ensures fragment { (d : Datagram) (link_broadcast : Bool) → MayAnswer d link_broadcast → d.offset ≡ 0 }
+    ensures source { (d : Datagram) (link_broadcast : Bool) → MayAnswer d link_broadcast → IsUnicast d.source }
 {}
 
 /// No datagram that carries an error of this stack may be answered by another error.
