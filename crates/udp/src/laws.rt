@@ -41,6 +41,18 @@ pub fn sums_are_tested()
         → sum_of ((src.0 ++ dst.0 ++ 0 ∷ 17 ∷ [] ++ big_bytes 2 (8 + length d.payload)) ++ spelling d) ≡ 65535 }
 {}
 
+/// Each field of a UDP datagram stands in its place: the ports of source and destination, the length, the checksum, each of two octets, and the payload from octet 8 on. What is
+/// sent has the ports of its head, and the payload that is given (RFC 768).
+pub fn fields_stand_in_their_places()
+    ensures source { (d : UserDatagram) → take 2 (spelling d) ≡ big_bytes 2 d.source }
+    ensures destination { (d : UserDatagram) → take 2 (drop 2 (spelling d)) ≡ big_bytes 2 d.destination }
+    ensures len { (d : UserDatagram) → take 2 (drop 4 (spelling d)) ≡ big_bytes 2 (8 + length d.payload) }
+    ensures checksum { (d : UserDatagram) → take 2 (drop 6 (spelling d)) ≡ big_bytes 2 d.checksum }
+    ensures payload { (d : UserDatagram) → drop 8 (spelling d) ≡ d.payload }
+    ensures ports { (src dst : Addr) (head : Head) (payload : List ℕ) → let d = sent src dst head payload in
+        (d.source ≡ head.source) × (d.destination ≡ head.destination) × (d.payload ≡ payload) }
+{}
+
 /// A UDP datagram has one spelling, up to the padding behind it (RFC 768).
 pub fn one_spelling()
     ensures { (src dst : Addr) (d : UserDatagram) (octets : List ℕ) → Spells src dst d octets → take (datagram_len d) octets ≡ spelling d }

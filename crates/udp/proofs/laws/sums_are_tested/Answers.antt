@@ -1,5 +1,5 @@
 -- What is read plainly is what the octets spell.
-use Rattle.std.proofs.Common.{◌≡◌, ◌+◌, ◌++◌, [], ◌∷◌, inl, inr, length, Ok, sym, ◌∙◌, ap, subst, arith}
+use Rattle.std.proofs.Common.{◌≡◌, ◌+◌, ◌++◌, [], ◌∷◌, inl, inr, length, sym, ◌∙◌, ap, subst, arith}
 use Rattle.byteorder.specs.Endian.{big_bytes}
 use Rattle.inet_sum.specs.Sum.{sum_of}
 use Rattle.ipv4.proofs.Octets.{each_octet}
