@@ -1,15 +1,16 @@
 //! Laws of the definitions that the contracts of this crate cite: each is the contract of a function
 //! that does nothing.
 
-ghost use Rattle.std.specs.Prelude.{◌≡◌, ℕ, ◌+◌, ◌-◌, ◌*◌, ◌<◌, ◌≤◌, ◌%◌, ◌^◌, ◌↔◌, true, false, ◌&&◌, if◌then◌else◌, pos, ◌-ℤ◌, List, [], ◌∷◌, ◌++◌, All, length, get_or, Option, Some, None, Result, Ok, Err};
+ghost use Rattle.std.specs.Prelude.{◌≡◌, ℕ, ◌+◌, ◌-◌, ◌*◌, ◌<◌, ◌≤◌, ◌%◌, ◌^◌, ◌↔◌, true, false, ◌&&◌, if◌then◌else◌, pos, ◌-ℤ◌, List, [], ◌∷◌, ◌++◌, All, length, take, drop, get_or, Option, Some, None, Result, Ok, Err};
+ghost use Rattle.byteorder.specs.Endian.{big_bytes};
 ghost use Rattle.ipv4.specs.declared.addr.Addr.{Addr};
-ghost use Rattle.tcp_segment.specs.declared.TheConstants.{FIXED_LEN, MOST_BLOCKS, MSS, SHIFT, MAX_SHIFT};
+ghost use Rattle.tcp_segment.specs.declared.TheConstants.{FIXED_LEN, MOST_BLOCKS, MSS, DEFAULT_MSS, LEAST_MSS, SHIFT, MAX_SHIFT};
 ghost use Rattle.tcp_segment.specs.declared.blocks.Block.{Block};
 ghost use Rattle.tcp_segment.specs.declared.fault.SegmentFault.{SegmentFault};
 ghost use Rattle.tcp_segment.specs.declared.head.Head.{Head};
 ghost use Rattle.tcp_segment.specs.Blocks.{BlockFits};
-ghost use Rattle.tcp_segment.specs.Options.{HeaderOption, MaximumSegmentSize, WindowScale, sack, TellsNoSize, TellsNoScale, ReportsNothing, last_mss, last_scale, last_blocks};
-ghost use Rattle.tcp_segment.specs.Segment.{Segment, HasForm, IsParsed, SumIsRight, Spells, mss_option_of, scale_option_of, sack_permitted_of, blocks_of};
+ghost use Rattle.tcp_segment.specs.Options.{HeaderOption, EndOfOptions, NoOperation, MaximumSegmentSize, WindowScale, option_octets, sack_permitted, sack, TellsNoSize, TellsNoScale, ReportsNothing, last_mss, last_scale, last_blocks};
+ghost use Rattle.tcp_segment.specs.Segment.{Segment, HasForm, IsParsed, SumIsRight, Spells, mss_option_of, scale_option_of, sack_permitted_of, blocks_of, smss_of, shift_of, span_of};
 ghost use Rattle.tcp_segment.specs.Reading.{segment_in, segment_or_fault};
 ghost use Rattle.tcp_segment.specs.Sent.{CanBeSent, sent_blocks, report, sent_segment, sent_offset, sent_octets};
 ghost use Rattle.tcp_segment.specs.Wire.{wire, past, difference, IsBefore, IsAtMost};
@@ -51,6 +52,34 @@ pub fn faults_read_plainly()
     ensures alike { (src dst : Addr) (octets : List ℕ) (segment : Segment) → (segment_or_fault src dst octets ≡ Ok segment) ↔ (segment_in src dst octets ≡ Some segment) }
 {}
 
+/// Each field of a header stands in its place: the two ports, the sequence number and the acknowledgement number of four octets each, the data offset and the control bits, the
+/// window, the checksum and the urgent pointer. Of the control bits FIN counts 1, SYN 2, RST 4, PSH 8, ACK 16 and URG 32 (RFC 9293 section 3.1). What is sent says what its head does.
+pub fn fields_stand_in_their_places()
+    ensures ports { (segment : Segment) (octets : List ℕ) → HasForm segment octets → take 4 octets ≡ big_bytes 2 segment.source ++ big_bytes 2 segment.destination }
+    ensures numbers { (segment : Segment) (octets : List ℕ) → HasForm segment octets
+        → take 8 (drop 4 octets) ≡ big_bytes 4 segment.number ++ big_bytes 4 segment.acknowledgement }
+    ensures control { (segment : Segment) (octets : List ℕ) (form : HasForm segment octets) → let flags = segment.flags in
+        take 2 (drop 12 octets) ≡ big_bytes 2 (4096 * form.offset + 64 * form.reserved
+        + ((if flags.fin then 1 else 0) + (if flags.syn then 2 else 0) + (if flags.rst then 4 else 0) + (if flags.psh then 8 else 0) + (if flags.ack then 16 else 0) + (if flags.urg then 32 else 0))) }
+    ensures window { (segment : Segment) (octets : List ℕ) → HasForm segment octets → take 2 (drop 14 octets) ≡ big_bytes 2 segment.window }
+    ensures checksum { (segment : Segment) (octets : List ℕ) (form : HasForm segment octets) → take 2 (drop 16 octets) ≡ big_bytes 2 form.checksum }
+    ensures urgent { (segment : Segment) (octets : List ℕ) → HasForm segment octets → take 2 (drop 18 octets) ≡ big_bytes 2 segment.urgent }
+    ensures sent { (head : Head) (octets : List ℕ) → let segment = sent_segment head octets in
+        (segment.source ≡ head.source) × (segment.destination ≡ head.destination) × (segment.number ≡ head.number.0) × (segment.acknowledgement ≡ head.acknowledgement.0)
+        × (segment.flags ≡ head.flags) × (segment.window ≡ head.window) × (segment.octets ≡ octets) }
+{}
+
+/// The options by their octets: the end of the list is kind 0 and no operation kind 1, of one octet each; the maximum segment size is kind 2 with four octets (RFC 9293 section 3.2),
+/// the window's shift kind 3 with three (RFC 7323 section 2.2), the permission of selective acknowledgements kind 4 with two, and a report of them kind 5, with the first number of each
+/// block before the one behind its last (RFC 2018 sections 2 and 3).
+pub fn options_have_their_kinds()
+    ensures single { (option_octets EndOfOptions ≡ 0 ∷ []) × (option_octets NoOperation ≡ 1 ∷ []) }
+    ensures size { (size : ℕ) → option_octets (MaximumSegmentSize size) ≡ 2 ∷ 4 ∷ big_bytes 2 size }
+    ensures scale { (shift : ℕ) → option_octets (WindowScale shift) ≡ 3 ∷ 3 ∷ shift ∷ [] }
+    ensures permission { option_octets sack_permitted ≡ 4 ∷ 2 ∷ [] }
+    ensures report { (block : Block) → option_octets (sack (block ∷ [])) ≡ 5 ∷ 10 ∷ big_bytes 4 block.left.0 ++ big_bytes 4 block.right.0 }
+{}
+
 /// Of several MSS options the last one stands, whatever stands before it, and without one there is no such size (RFC 9293
 /// section 3.7.1).
 pub fn last_size_stands()
@@ -71,6 +100,20 @@ pub fn last_report_stands()
     ensures last { (before after : List HeaderOption) (blocks : List Block) → 0 < length blocks → length blocks ≤ MOST_BLOCKS → All BlockFits blocks → All ReportsNothing after
         → last_blocks [] (before ++ sack blocks ∷ after) ≡ blocks }
     ensures none { (options : List HeaderOption) → All ReportsNothing options → last_blocks [] options ≡ [] }
+{}
+
+/// What a SYN tells of its sender is believed: segments go to it with as many octets as its MSS option says, but 1,460 at most, which a frame has room for, 64 at least, which is this stack's own limit,
+/// and 536 where it has no such option (RFC 9293 section 3.7.1); and its windows are shifted as it says, by 14 at most, and not at all where it doesn't (RFC 7323 section 2.3). A segment has a number for
+/// each of its octets, and one each for SYN and FIN (RFC 9293 section 3.4).
+pub fn what_a_syn_tells_is_believed()
+    ensures size { (segment : Segment) (size : ℕ) → mss_option_of segment ≡ Some size → 64 ≤ size → size ≤ 1460 → smss_of segment ≡ size }
+    ensures most { (segment : Segment) (size : ℕ) → mss_option_of segment ≡ Some size → 1460 ≤ size → smss_of segment ≡ 1460 }
+    ensures least { (segment : Segment) (size : ℕ) → mss_option_of segment ≡ Some size → size ≤ 64 → smss_of segment ≡ 64 }
+    ensures usual { (segment : Segment) → mss_option_of segment ≡ None → smss_of segment ≡ 536 }
+    ensures shift { (segment : Segment) (shift : ℕ) → scale_option_of segment ≡ Some shift → shift ≤ 14 → shift_of segment ≡ shift }
+    ensures most_shift { (segment : Segment) (shift : ℕ) → scale_option_of segment ≡ Some shift → 14 ≤ shift → shift_of segment ≡ 14 }
+    ensures no_shift { (segment : Segment) → scale_option_of segment ≡ None → shift_of segment ≡ 0 }
+    ensures span { (segment : Segment) → span_of segment ≡ length segment.octets + (if segment.flags.syn then 1 else 0) + (if segment.flags.fin then 1 else 0) }
 {}
 
 /// Without SYN the blocks that the head reports go out, and no option where it reports none. With SYN the size of this stack always does,
@@ -109,7 +152,11 @@ pub fn headers_are_short()
     ensures { (head : Head) → (FIXED_LEN ≤ 4 * sent_offset head) × (4 * sent_offset head ≤ 56) }
 {}
 
-/// What the shifts are (RFC 7323 sections 2.2 and 2.3).
+/// What the shifts are (RFC 7323 sections 2.2 and 2.3), and the segment sizes: our own, which a frame of Ethernet has room for (RFC 894), that of a peer that tells none (RFC 9293
+/// section 3.7.1), and the least that is believed, which is this stack's own. A header has 20 octets without options (RFC 9293 section 3.1), and a report four blocks at most (RFC 2018 section 3).
 pub fn constants()
     ensures shifts { (SHIFT ≡ 5) × (MAX_SHIFT ≡ 14) }
+    ensures sizes { (MSS ≡ 1460) × (DEFAULT_MSS ≡ 536) × (LEAST_MSS ≡ 64) }
+    ensures header { FIXED_LEN ≡ 20 }
+    ensures blocks { MOST_BLOCKS ≡ 4 }
 {}
