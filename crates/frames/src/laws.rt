@@ -16,6 +16,8 @@ ghost use Rattle.udp.specs.Reading.{datagram_or_fault};
 ghost use Rattle.tcp_segment.specs.declared.head.Head.{Head};
 ghost use Rattle.tcp_segment.specs.Sent.{CanBeSent, sent_segment, sent_octets, sent_offset};
 ghost use Rattle.frames.specs.declared.drop.DropCause.{DropCause};
+ghost use Rattle.frames.specs.declared.drop.DropCause.TheVariants.{Short, OtherMac, OtherType, IpHeader, IpSum, OtherAddress, UpperHeader, UpperSum, NoRoom, Fragment};
+ghost use Rattle.frames.specs.Drops.{number_of};
 ghost use Rattle.frames.specs.declared.emission.FrameHead.{FrameHead};
 ghost use Rattle.frames.specs.declared.meaning.Control.{Control};
 ghost use Rattle.frames.specs.declared.meaning.Meaning.{Meaning};
@@ -25,7 +27,7 @@ ghost use Rattle.frames.specs.declared.meaning.Meaning.TheVariants.{Arp, Tcp, Ic
 ghost use Rattle.frames.specs.Heard.{IsHeard, IsWhole, MaySend};
 ghost use Rattle.frames.specs.Meaning.{heard, may_send};
 ghost use Rattle.frames.specs.Pairs.{CarryPair, pair_in, pair_between};
-ghost use Rattle.frames.specs.Sent.{IsPart, segment_frame, message_frame, packet_frame, part_datagram, part_frame};
+ghost use Rattle.frames.specs.Sent.{IsPart, datagram_of, segment_frame, message_frame, packet_frame, part_datagram, part_frame};
 
 /// What octets are to a host is what they spell, layer by layer (RFC 894, RFC 826, RFC 791 section 3.1, RFC 9293 section 3.1, RFC 792,
 /// RFC 768): the answer is determined for all octets, and is no other than the one whose records they spell.
@@ -81,6 +83,22 @@ pub fn emitted_parts_are_heard()
     ensures told { (h : FrameHead) (part : Part) (octets : List ℕ) → let d = part_datagram h part octets in
         (d.source ≡ h.from) × (d.destination ≡ h.to) × (d.protocol ≡ 17) × (d.identification ≡ part.identification) × (d.dont_fragment ≡ false)
         × (d.more_fragments ≡ part.fragment.more_fragments) × (d.offset ≡ part.fragment.offset) × (d.payload ≡ octets) }
+{}
+
+/// A segment or an ICMP message goes out in a datagram from the one address for the other that no router may cut: it is the whole, and since no part of it can be mixed with one of another, its
+/// identification is 0 (RFC 791 section 3.1, RFC 6864 section 4.1).
+pub fn wholes_are_not_cut()
+    ensures told { (h : FrameHead) (protocol : ℕ) (payload : List ℕ) → let d = datagram_of h protocol payload in
+        (d.source ≡ h.from) × (d.destination ≡ h.to) × (d.protocol ≡ protocol) × (d.identification ≡ 0) × (d.dont_fragment ≡ true)
+        × (d.more_fragments ≡ false) × (d.offset ≡ 0) × (d.payload ≡ payload) }
+{}
+
+/// The causes to drop a frame have the numbers 1 to 10, from the lowest layer up; a want of room and a fragment come last.
+pub fn causes_have_their_numbers()
+    ensures link { (number_of Short ≡ 1) × (number_of OtherMac ≡ 2) × (number_of OtherType ≡ 3) }
+    ensures datagram { (number_of IpHeader ≡ 4) × (number_of IpSum ≡ 5) × (number_of OtherAddress ≡ 6) }
+    ensures upper { (number_of UpperHeader ≡ 7) × (number_of UpperSum ≡ 8) }
+    ensures none { (number_of NoRoom ≡ 9) × (number_of Fragment ≡ 10) }
 {}
 
 /// A frame that `emit_arp` writes is heard as its packet, where its sender may send: a request by every interface, a reply by
