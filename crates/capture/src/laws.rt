@@ -1,11 +1,13 @@
 //! Laws of the definitions that the contracts of this crate cite: each is the contract of a function that does nothing.
 
-ghost use Rattle.std.specs.Prelude.{◌≡◌, ◌≢◌, ℕ, ◌+◌, ◌-◌, ◌<◌, ◌≤◌, ◌^◌, List, [], ◌∷◌, ◌++◌, length, take, map, All, Option, Some, None, Result, Ok, Err};
+ghost use Rattle.std.specs.Prelude.{◌≡◌, ◌≢◌, ℕ, ◌+◌, ◌-◌, ◌*◌, ◌/◌, ◌%◌, ◌<◌, ◌≤◌, ◌^◌, List, [], ◌∷◌, ◌++◌, length, take, drop, map, All, Option, Some, None, Result, Ok, Err};
 ghost use Rattle.std.specs.List.{flat_map};
 ghost use Rattle.capture.specs.declared.fault.HeaderFault.TheVariants.{LinkType, NotACapture, Short, Version};
 ghost use Rattle.capture.specs.declared.fault.RecordFault.{RecordFault};
 ghost use Rattle.capture.specs.declared.format.Format.{Format};
-ghost use Rattle.capture.specs.declared.format.Order.TheVariants.{Little};
+ghost use Rattle.byteorder.specs.Endian.{little_bytes};
+ghost use Rattle.capture.specs.declared.format.Fraction.TheVariants.{Microseconds, Nanoseconds};
+ghost use Rattle.capture.specs.declared.format.Order.TheVariants.{Little, Big};
 ghost use Rattle.capture.specs.declared.header.Header.{Header};
 ghost use Rattle.capture.specs.declared.header.TheConstants.{HEADER_LEN};
 ghost use Rattle.capture.specs.declared.record.TheConstants.{MOST_OCTETS, RECORD_HEAD_LEN};
@@ -18,6 +20,19 @@ pub fn written_in_turn()
     ensures none { capture_of [] ≡ our_header_octets }
     ensures more { (frames : List Frame) (frame : Frame)
         → capture_of (frames ++ frame ∷ []) ≡ capture_of frames ++ (entry_head Little (entry_of frame) ++ frame.octets) }
+{}
+
+/// What a capture begins with, octet by octet, as other programs read it: the magic number of microseconds, the lowest octet first, version 2.4, no correction of the time and no accuracy, 262,144
+/// octets of a frame at most, and link type 1, Ethernet. The record of a frame has the second and the microseconds of its moment, and twice the frame's length. The magic numbers of the four formats
+/// are those of libpcap.
+pub fn other_programs_read_it()
+    ensures header { our_header_octets ≡ 0xd4 ∷ 0xc3 ∷ 0xb2 ∷ 0xa1 ∷ 2 ∷ 0 ∷ 4 ∷ 0 ∷ 0 ∷ 0 ∷ 0 ∷ 0 ∷ 0 ∷ 0 ∷ 0 ∷ 0 ∷ 0 ∷ 0 ∷ 4 ∷ 0 ∷ 1 ∷ 0 ∷ 0 ∷ 0 ∷ [] }
+    ensures record_head { (frame : Frame) → entry_head Little (entry_of frame)
+        ≡ little_bytes 4 (frame.moment.0 / 1000 % 2 ^ 32) ++ little_bytes 4 (frame.moment.0 % 1000 * 1000) ++ little_bytes 4 (length frame.octets) ++ little_bytes 4 (length frame.octets) }
+    ensures microseconds { (magic_octets (record { order = Little; fraction = Microseconds }) ≡ 0xd4 ∷ 0xc3 ∷ 0xb2 ∷ 0xa1 ∷ [])
+        × (magic_octets (record { order = Big; fraction = Microseconds }) ≡ 0xa1 ∷ 0xb2 ∷ 0xc3 ∷ 0xd4 ∷ []) }
+    ensures nanoseconds { (magic_octets (record { order = Little; fraction = Nanoseconds }) ≡ 0x4d ∷ 0x3c ∷ 0xb2 ∷ 0xa1 ∷ [])
+        × (magic_octets (record { order = Big; fraction = Nanoseconds }) ≡ 0xa1 ∷ 0xb2 ∷ 0x3c ∷ 0x4d ∷ []) }
 {}
 
 /// A capture that was written is read as its frames, in order, and then the end: each with its moment and all of its octets, where
