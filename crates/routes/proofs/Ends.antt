@@ -1,5 +1,5 @@
 -- The ends of a network, bit by bit.
-use Rattle.std.proofs.Common.{◌≡◌, ℕ, ◌+◌, ◌-◌, ◌*◌, ◌/◌, ◌%◌, ◌^◌, ◌<◌, ◌≤◌, ◌==◌, ◌⊎◌, ⊎_elim, inl, inr, ◌&&◌, ◌||◌, nat_lt, nat_eq, All, length, pow_pos, arith, refl, sym, ◌∙◌, ap}
+use Rattle.std.proofs.Common.{◌≡◌, ℕ, ◌+◌, ◌-◌, ◌*◌, ◌/◌, ◌%◌, ◌^◌, ◌<◌, ◌≤◌, ◌⊎◌, ⊎_elim, inl, inr, ◌||◌, nat_lt, nat_eq, All, length, pow_pos, arith, sym, ◌∙◌, ap}
 use native.Mathlib.Nat.{div-add-mod'}
 use Rattle.std.specs.Bool.{Decides}
 use Rattle.std.specs.Int.{bit_at}
@@ -9,7 +9,7 @@ use Rattle.std.proofs.lemmas.Nat.{mod_below}
 use Rattle.std.proofs.lemmas.Nat.Bits.{bit_at-zero, bit_at_above, bit_at_cat_low, bit_at_cat_high, bit_at_ones, same_from_bits, same_from_bits_below}
 use Rattle.ipv4.specs.declared.addr.Addr.{Addr}
 use Rattle.ipv4.specs.declared.prefix.Prefix.{Prefix}
-use Rattle.ipv4.specs.Prefixes.{IsPrefix, number, bit, StartAlike}
+use Rattle.ipv4.specs.Prefixes.{number, bit, StartAlike}
 use Rattle.ipv4.proofs.OnePrefix.{number-lt}
 use Rattle.ipv4.proofs.Prefixes.{same_bits}
 use Rattle.routes.specs.Ends.{last_number, is_end_of, AllPast, IsEndOf}
