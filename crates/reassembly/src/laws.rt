@@ -1,6 +1,6 @@
 //! Laws of the definitions that the contracts of this crate cite: each is the contract of a function that does nothing.
 
-ghost use Rattle.std.specs.Prelude.{◌≡◌, ◌≢◌, ◌<◌, ◌≤◌, ◌↔◌, ◌⊎◌, ◌++◌, ◌∷◌, ◌||◌, [], ℕ, List, All, if◌then◌else◌, length, nat_lt, true, false, Some, None, IfSome, IsTrue, is_some, option_map, slice_index_or};
+ghost use Rattle.std.specs.Prelude.{◌≡◌, ◌≢◌, ◌+◌, ◌*◌, ◌^◌, ◌-◌, ◌<◌, ◌≤◌, ◌↔◌, ◌⊎◌, ◌++◌, ◌∷◌, ◌||◌, [], ℕ, List, All, if◌then◌else◌, length, nat_lt, true, false, Some, None, IfSome, IsTrue, is_some, option_map, slice_index, slice_index_or};
 ghost use Rattle.std.specs.List.{Any};
 ghost use Rattle.ipv4.specs.Datagram.{Datagram, IsDatagram};
 ghost use Rattle.clock.specs.declared.moment.Moment.{Moment};
@@ -19,7 +19,7 @@ ghost use Rattle.reassembly.specs.Keys.{same_key};
 ghost use Rattle.reassembly.specs.Lately.{noted, was_whole, with_room};
 ghost use Rattle.reassembly.specs.Octets.{whole_of};
 ghost use Rattle.reassembly.specs.Parts.{ArePartsOf, CoverAll};
-ghost use Rattle.reassembly.specs.Places.{AnswersTake, LosesOldest, after_age, after_take, expired, fits, next_deadline, place_for, without_oldest};
+ghost use Rattle.reassembly.specs.Places.{AnswersTake, LosesOldest, after_age, after_take, after_time, expired, fits, next_deadline, place_for, without_oldest};
 ghost use Rattle.reassembly.specs.Reassembly.{PoolView, Reassembly, begun, after_fragments, conflicts, deadline_of, outcome_within};
 ghost use Rattle.reassembly.specs.Reassembly.Outcome.{Waits, Completes, GivesUp};
 
@@ -28,6 +28,14 @@ ghost use Rattle.reassembly.specs.Reassembly.Outcome.{Waits, Completes, GivesUp}
 pub fn latest_octets()
     ensures { (now : Moment) (first : Datagram) (fragments : List Datagram) (i : ℕ)
         → slice_index_or (after_fragments (begun now first) fragments).octets i None ≡ latest fragments i }
+{}
+
+/// Where fragments overlap, the one that arrives last counts: each place that it covers has its octet then, and every other is as it was (RFC 791 section 3.2).
+pub fn the_last_to_arrive_counts()
+    ensures covered { (fragments : List Datagram) (d : Datagram) (i : ℕ) → 8 * d.offset ≤ i → i < 8 * d.offset + length d.payload
+        → latest (fragments ++ d ∷ []) i ≡ Some (slice_index d.payload (i - 8 * d.offset)) }
+    ensures before { (fragments : List Datagram) (d : Datagram) (i : ℕ) → i < 8 * d.offset → latest (fragments ++ d ∷ []) i ≡ latest fragments i }
+    ensures behind { (fragments : List Datagram) (d : Datagram) (i : ℕ) → 8 * d.offset + length d.payload ≤ i → latest (fragments ++ d ∷ []) i ≡ latest fragments i }
 {}
 
 /// The end of a payload is known once a last fragment is among them, and it is the one that this tells (RFC 791 section
@@ -136,6 +144,15 @@ pub fn right_or_not_at_all()
 pub fn first_fragment_stays()
     ensures since { (now : Moment) (first : Datagram) (fragments : List Datagram) → (after_fragments (begun now first) fragments).since ≡ now }
     ensures key { (now : Moment) (first : Datagram) (fragments : List Datagram) → (after_fragments (begun now first) fragments).key ≡ key_of first }
+{}
+
+/// A datagram is put together for sixty seconds from the arrival of its first fragment on: as long as they are not over it stays as it is, and then it is gone. At the last moment of the clock
+/// all are over (RFC 1122 section 3.3.2).
+pub fn a_minute_is_given()
+    ensures stays { (r : Reassembly) (now : Moment) → now.0 < 2 ^ 64 - 1 → now.0 < r.since.0 + 60000 → after_time now (Some r) ≡ Some r }
+    ensures over { (r : Reassembly) (now : Moment) → r.since.0 + 60000 ≤ now.0 → after_time now (Some r) ≡ None }
+    ensures last { (r : Reassembly) (now : Moment) → 2 ^ 64 - 1 ≤ now.0 → after_time now (Some r) ≡ None }
+    ensures none { (now : Moment) → after_time now None ≡ None }
 {}
 
 /// The next deadline is the least: the time of some datagram runs out then, and that of none earlier; there is none exactly where no
