@@ -10,7 +10,7 @@ ghost use Rattle.retransmit.specs.declared.timers.TimerKind.TheVariants.{Retrans
 ghost use Rattle.retransmit.specs.Deadlines.{deadline_of, with_deadline, is_due, next_of};
 ghost use Rattle.retransmit.specs.Timeout.{least_of};
 ghost use Rattle.retransmit.specs.Events.{Event, AreBetween, after_event, timeout_after};
-ghost use Rattle.retransmit.specs.Events.Event.{Sample, Expiry};
+ghost use Rattle.retransmit.specs.Events.Event.{Sample, Expiry, EstablishedAfterLostSyn};
 
 /// What a call makes of the timeout is what one more event makes of it (RFC 6298 sections 2, 3 and 5).
 pub fn one_more_event()
@@ -24,6 +24,13 @@ pub fn timeout_in_range()
     ensures least { (least : ℕ) (events : List Event) → least_of least ≤ (timeout_after least events).rto }
     ensures most { (least : ℕ) (events : List Event) → (timeout_after least events).rto ≤ 60000 }
     ensures usual { (events : List Event) → 1000 ≤ (timeout_after 1000 events).rto }
+{}
+
+/// Until a round-trip time is measured the timeout is a second, whatever least one the set-up asks for (RFC 6298 section 2.1); and three seconds where the connection becomes established
+/// after the timer of its SYN had expired (section 5.7).
+pub fn the_timeout_before_a_sample()
+    ensures first { (least : ℕ) → (timeout_after least []).rto ≡ 1000 }
+    ensures lost_syn { (least : ℕ) (events : List Event) → (timeout_after least (events ++ EstablishedAfterLostSyn ∷ [])).rto ≡ 3000 }
 {}
 
 /// The timeout follows the round-trip times that were measured (RFC 6298 sections 2.2 and 2.3). The first one, R, leads to SRTT + 4 * RTTVAR = R + 4 * R / 2, three times as much. Of any that lie between two bounds
