@@ -75,6 +75,29 @@ pub fn the_set_up_says_where_it_begins()
     ensures stays { (w : Window) (e : Event) → (after_event w e).control ≡ w.control }
 {}
 
+/// An expiry begins again with a window of one segment, and halves the threshold: it is half of what is in flight, two segments at least. A segment that is lost again leaves it as it is, until
+/// an ACK acknowledges new octets (RFC 5681 section 3.1, equation 4).
+pub fn an_expiry_begins_with_a_segment()
+    ensures window { (w : Window) (flight : ℕ) → (after_event w (Expiry flight)).cwnd ≡ w.smss }
+    ensures threshold { (w : Window) (flight : ℕ) → w.expired ≡ false → (after_event w (Expiry flight)).ssthresh ≡ max (flight / 2) (2 * w.smss) }
+    ensures again { (w : Window) (flight : ℕ) → w.expired ≡ true → (after_event w (Expiry flight)).ssthresh ≡ w.ssthresh }
+    ensures noted { (w : Window) (flight : ℕ) → (after_event w (Expiry flight)).expired ≡ true }
+    ensures over { (w : Window) (octets flight : ℕ) → (after_event w (NewAck octets flight)).expired ≡ false }
+{}
+
+/// The third duplicate ACK is a loss, and neither the first nor the second is, which leave window and threshold as they are. The threshold is half of what is in flight then, two segments at least,
+/// and the window three segments more, which have left the network (RFC 5681 section 3.2, steps 2 and 3). Each further one adds a segment (step 4).
+pub fn the_third_duplicate_is_a_loss()
+    ensures first { (w : Window) (flight : ℕ) → w.duplicates < 2 → let after = after_event w (Duplicate flight) in
+        (after.cwnd ≡ w.cwnd) × (after.ssthresh ≡ w.ssthresh) × (after.duplicates ≡ w.duplicates + 1) × (is_recovering after ≡ false) }
+    ensures third { (w : Window) (flight : ℕ) → w.duplicates ≡ 2 → repairs w.control ≡ false → let after = after_event w (Duplicate flight) in
+        (after.ssthresh ≡ max (flight / 2) (2 * w.smss)) × (after.cwnd ≡ min (2 ^ 30) (max (flight / 2) (2 * w.smss) + 3 * w.smss)) × (is_recovering after ≡ true) }
+    ensures repaired { (w : Window) (flight : ℕ) → w.duplicates ≡ 2 → repairs w.control ≡ true → let after = after_event w (Duplicate flight) in
+        (after.ssthresh ≡ max (min flight w.cwnd / 2) (2 * w.smss)) × (after.cwnd ≡ min (2 ^ 30) (max (min flight w.cwnd / 2) (2 * w.smss) + 3 * w.smss)) × (is_recovering after ≡ true) }
+    ensures further { (w : Window) (flight : ℕ) → 3 ≤ w.duplicates → let after = after_event w (Duplicate flight) in
+        (after.cwnd ≡ min (2 ^ 30) (w.cwnd + w.smss)) × (after.ssthresh ≡ w.ssthresh) × (is_recovering after ≡ true) }
+{}
+
 /// A recovery ends with an ACK that is not partial, or with an expiry, and with nothing else (RFC 6582 section 3.2, steps 3 and 4); it begins with a third duplicate ACK or with a loss that reports tell
 /// (RFC 6675 section 5), and with nothing else.
 pub fn a_recovery_ends()
