@@ -1,12 +1,12 @@
 -- Which addresses are no host's.
-use Rattle.std.proofs.Common.{◌≡◌, ◌↔◌, ℕ, zero, suc, ◌<◌, ◌&&◌, ◌||◌, Bool, true, false, List, [], ◌∷◌, length, All, Contains, IsTrue, refl, sym, ◌∙◌, ap, subst, arith}
+use Rattle.std.proofs.Common.{◌≡◌, ◌↔◌, zero, suc, ◌<◌, ◌&&◌, ◌||◌, Bool, true, false, List, [], ◌∷◌, length, All, Contains, refl, ◌∙◌, ap, arith}
 use Rattle.std.specs.List.{list_any}
 use Rattle.std.proofs.lemmas.Bool.{and_parts, and_from}
 use Rattle.ipv4.specs.declared.addr.Addr.{Addr}
 use Rattle.routes.specs.declared.route.Hop.{Hop}
 use Rattle.routes.specs.declared.route.Hop.TheVariants.{Direct, Gateway}
 use Rattle.routes.specs.declared.route.Route.{Route}
-use Rattle.routes.specs.Ends.{IsEndOf, is_direct, is_end_of}
+use Rattle.routes.specs.Ends.{is_direct, is_end_of}
 use Rattle.routes.proofs.Ends.{end_decides}
 use Rattle.interface.specs.InterfaceView.{InterfaceView}
 use Rattle.interface.specs.Strangers.{IsLinkEnd, is_no_host}

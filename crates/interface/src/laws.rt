@@ -1,6 +1,6 @@
 //! Laws of the definitions that the contracts of this crate cite: each is the contract of a function that does nothing.
 
-ghost use Rattle.std.specs.Prelude.{◌≡◌, ◌≢◌, ◌↔◌, ℕ, ◌+◌, ◌*◌, ◌^◌, ◌<◌, ◌≤◌, ◌++◌, [], ◌∷◌, List, length, position, fold, All, Contains, IsTrue, IfSome, true, false, Option, Some, None, Ok};
+ghost use Rattle.std.specs.Prelude.{◌≡◌, ◌≢◌, ◌↔◌, ◌⊎◌, ℕ, ◌+◌, ◌*◌, ◌%◌, ◌^◌, ◌<◌, ◌≤◌, ◌++◌, [], ◌∷◌, List, length, position, fold, slice_index, All, Contains, IsTrue, IfSome, true, false, Option, Some, None, Ok};
 ghost use Rattle.ether.specs.declared.mac.Mac.{Mac};
 ghost use Rattle.ipv4.specs.declared.limits.TheConstants.{PAYLOAD_IN_FRAME};
 ghost use Rattle.ipv4.specs.declared.addr.Addr.{Addr};
@@ -36,7 +36,7 @@ ghost use Rattle.interface.specs.Routing.{pick, next_hop};
 ghost use Rattle.interface.specs.Ways.{hop_mac, knows_hop, way};
 ghost use Rattle.interface.specs.Replies.{is_due};
 ghost use Rattle.interface.specs.Emission.{asked, head_to, way_at, len_at, frame_at, after_emission, segment_frame_to, part_frame_to, request_frame, reply_frame, frames_left};
-ghost use Rattle.interface.specs.Strangers.{IsLinkEnd, is_no_host};
+ghost use Rattle.interface.specs.Strangers.{IsLinkEnd, is_no_host, is_no_neighbours};
 ghost use Rattle.interface.specs.Timing.{end_of, after_tick, asked_until, deadline_of, least_deadline};
 
 /// The hop that a table of routes picks for an address is the one that `Routes::pick` answers (RFC 4632 section 5.1).
@@ -55,6 +55,12 @@ pub fn gateways_lead_on()
 /// An address is no host's exactly where a network on the link has it as its own, or as that of all its hosts: each bit past the network's prefix is 0, or each is 1, and the prefix has 30 bits at most (RFC 1122 section 3.2.1.3, RFC 3021).
 pub fn only_link_ends_are_no_hosts()
     ensures { (h : InterfaceView) (addr : Addr) → length addr.0 ≡ 4 → All (λ octet. octet < 256) addr.0 → (is_no_host h addr ≡ true) ↔ IsLinkEnd h addr }
+{}
+
+/// An ARP packet is no neighbour's exactly where it comes from the MAC of a group, of which the lowest bit of the first octet is set (IEEE 802), from our own MAC, or from an address that is no host's.
+pub fn only_strangers_are_no_neighbours()
+    ensures { (h : InterfaceView) (packet : ArpPacket) → (is_no_neighbours h packet ≡ true)
+        ↔ ((slice_index packet.sender_mac.0 0 % 2 ≡ 1) ⊎ (packet.sender_mac ≡ h.mac) ⊎ (is_no_host h packet.sender_addr ≡ true)) }
 {}
 
 /// The MAC of a next hop that is known is a whole one, as `Interface::sound` says of each that is kept.
