@@ -1,5 +1,6 @@
 //! Tables of steps, and the harnesses that play them.
 
+mod amounts;
 mod calls;
 mod closing;
 mod copies;

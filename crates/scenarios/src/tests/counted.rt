@@ -85,13 +85,13 @@ impl Station {
     }
 }
 
-/// A fragment of the datagram with this identification, below 7, whose checksum is as it should be.
+/// A fragment of the datagram with this identification, 100 at most, whose checksum is as it should be.
 pub(super) fn fragment(identification: u8) -> [u8; 60] {
     let mut frame = [0; 60];
     for (octet, old) in frame.iter_mut().zip(FRAGMENT_A.iter()) {
         *octet = *old;
     }
-    let number = identification.min(7);
+    let number = identification.min(100);
     frame[19] = number;
     frame[25] = 0xc7_u8.wrapping_sub(number);
     frame

@@ -11,14 +11,14 @@ use wire_sim::{Answer, Event, World, config};
 
 /// What becomes of the frames of a dialogue: the one with this index arrives so many times, and all others once.
 #[derive(Clone, Copy)]
-struct Network {
-    index: usize,
-    times: usize,
+pub(super) struct Network {
+    pub(super) index: usize,
+    pub(super) times: usize,
 }
 
 /// What two callers say to their hosts, over such a network, and the world that it has led to. What opens a connection begins with this number.
 #[derive(Drop)]
-struct Dialogue {
+pub(super) struct Dialogue {
     alloc: Global,
     world: World,
     network: Network,
@@ -112,7 +112,7 @@ const SOCKETS_BACK: Course = Course {
 
 impl Dialogue {
     /// Two hosts that heard nothing.
-    fn new(alloc: Global, isn: u32, network: Network) -> Result<Dialogue, Fail> {
+    pub(super) fn new(alloc: Global, isn: u32, network: Network) -> Result<Dialogue, Fail> {
         Ok(Dialogue {
             alloc,
             world: World::new(alloc, config(A), config(B))?,
@@ -123,7 +123,7 @@ impl Dialogue {
     }
 
     /// A caller says a line of a script. Answers what that prints.
-    fn ask(&mut self, line: &str) -> Result<String, AllocError> {
+    pub(super) fn ask(&mut self, line: &str) -> Result<String, AllocError> {
         let mut printed = String::new(self.alloc);
         let item = Item::parse(self.alloc, line.as_bytes())?;
         if let Some(Item::Do(Command::At(side, action))) = item {
@@ -161,7 +161,7 @@ impl Dialogue {
     }
 
     /// Each side emits what it has due, and then each takes what the network gives it, as long as there are frames; and then a second goes by.
-    fn turn(&mut self) -> Result<(), AllocError> {
+    pub(super) fn turn(&mut self) -> Result<(), AllocError> {
         for _ in 0..CROSSINGS {
             let (from_a, from_b) = (self.emissions(A)?, self.emissions(B)?);
             if from_a.is_empty() && from_b.is_empty() {
@@ -189,7 +189,7 @@ impl Dialogue {
     }
 
     /// The callers say these lines one after another, and each is answered as is said beside it.
-    fn goes(
+    pub(super) fn goes(
         &mut self,
         rt: &impl Abort,
         rows: &[(&str, &str)],
@@ -207,7 +207,7 @@ impl Dialogue {
     }
 
     /// a asks for a connection.
-    fn opens(&mut self, rt: &impl Abort) -> Result<(), AllocError> {
+    pub(super) fn opens(&mut self, rt: &impl Abort) -> Result<(), AllocError> {
         let Seq(isn) = self.isn;
         let connect = format!(in self.alloc; "a connect 1 80 {isn}")?;
         self.goes(rt, &LISTENING, 0)?;

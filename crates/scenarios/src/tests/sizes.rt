@@ -11,7 +11,7 @@ use std::process::Abort;
 use tcp_segment::Seq;
 
 /// The least sizes of all.
-const LEAST: Sizes = Sizes {
+pub(super) const LEAST: Sizes = Sizes {
     entries: 1,
     buffer: 2_048,
     reassemblies: 0,
@@ -21,7 +21,7 @@ const LEAST: Sizes = Sizes {
 };
 
 /// The largest.
-const LARGEST: Sizes = Sizes {
+pub(super) const LARGEST: Sizes = Sizes {
     entries: 16_384,
     buffer: 1_048_576,
     reassemblies: 16,
@@ -79,7 +79,7 @@ const REFUSED: &[Sizes] = &[
 ];
 
 /// The host B of these sizes.
-fn station(rt: &impl Abort, alloc: Global, sizes: Sizes) -> Host {
+pub(super) fn station(rt: &impl Abort, alloc: Global, sizes: Sizes) -> Host {
     let config = config(rt, B)
         .with_sizes(sizes)
         .expect(rt, "sizes in their ranges");
@@ -93,7 +93,7 @@ fn lacks(host: &mut Host, octets: &[u8], lack: Lack) -> bool {
 }
 
 /// It takes them so many times, and then no more.
-fn takes(host: &mut Host, octets: &[u8], times: usize, lack: Lack) -> bool {
+pub(super) fn takes(host: &mut Host, octets: &[u8], times: usize, lack: Lack) -> bool {
     for _ in 0..times {
         if host.deliver(Moment(0), Seq(7), octets) != Ok(()) {
             return false;
@@ -103,7 +103,7 @@ fn takes(host: &mut Host, octets: &[u8], times: usize, lack: Lack) -> bool {
 }
 
 /// It makes so many sockets, and then no more.
-fn makes(host: &mut Host, times: usize) -> bool {
+pub(super) fn makes(host: &mut Host, times: usize) -> bool {
     for _ in 0..times {
         if host.socket(Kind::Tcp).is_err() {
             return false;

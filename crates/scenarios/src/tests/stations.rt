@@ -565,7 +565,7 @@ fn set_up(
 }
 
 /// Does the steps in turn, up to the first that isn't answered as it should be: which that is.
-fn first_unanswered(a: &mut Station, b: &mut Station, steps: &[Step]) -> Option<usize> {
+pub(super) fn first_unanswered(a: &mut Station, b: &mut Station, steps: &[Step]) -> Option<usize> {
     for (step, (side, act)) in steps.iter().enumerate() {
         let is_answered = match side {
             Side::A => is_answered(a, b, *act),
